@@ -1,0 +1,188 @@
+// The exported functions, on numbers and byte slices: four little-endian bytes to a number of a list or a refutation,
+// eight to a value of a model. Each answers one number.
+use lines::Refusal;
+use lines::Validity;
+use lines::limits::LINE_SIZE;
+use lines::limits::MAX_LINES;
+use lines::limits::MAX_REFUTATION;
+use lines::limits::MAX_VARIABLES;
+use lines::list_validity;
+use little_endian::decode_i32;
+use little_endian::decode_i64;
+use little_endian::decode_u32;
+use model::ModelAnswer;
+use model::check_model;
+use refutation::RefutationAnswer;
+use refutation::check_refutation;
+ghost use mathlib.Core.Path.{_≡_};
+ghost use Prim.Native.Nat.{_*_, _<_, _≤_};
+ghost use lib.ListN.{length};
+ghost use Rattle.lines.specs.Limits.{lineSize, maxVariables, maxLines};
+ghost use Rattle.lines.specs.Refusal.{numberOf, placeOf};
+ghost use Rattle.model.specs.Places as model;
+ghost use Rattle.refutation.specs.Places as refutation;
+ghost use Rattle.c_interface.specs.Codes.{refusalUnit, refusalCode, modelCode, refutationCode};
+ghost use Rattle.c_interface.specs.Calls.{modelOfValues, refutationOfNumbers, checkModel, checkRefutation};
+ghost use Rattle.c_interface.specs.Laws.{Decoded};
+
+// The answer no is this and, of a model, the number of the line that fails.
+const NO: usize = 1_000_000;
+// A refusal's number counts this much, and then its place.
+const REFUSAL_UNIT: usize = 100_000;
+// The bytes of a number of a list or a refutation, of a value of a model, and of a line.
+const NUMBER_BYTES: usize = 4;
+
+const VALUE_BYTES: usize = 8;
+
+const LINE_BYTES: usize = NUMBER_BYTES * LINE_SIZE;
+// The numbers of the longest list.
+const MOST_NUMBERS: usize = LINE_SIZE * MAX_LINES;
+
+// Document 01's number of a refusal.
+fn number_of(r: Refusal) -> usize
+    ensures { λ k. ⌜ k ≡ numberOf r ⌝ }
+{
+    match r {
+        Refusal::TooManyVariables => 1,
+        Refusal::BrokenLength => 2,
+        Refusal::TooManyLines => 3,
+        Refusal::BadCoefficient(_) => 4,
+        Refusal::BadVariable(_) => 5,
+        Refusal::BadConstant(_) => 6,
+        Refusal::ShortOutput(_) => 7,
+        Refusal::ShortWorkArea => 8,
+        Refusal::WrongModelLength => 9,
+        Refusal::BadValue(_) => 10,
+        Refusal::LongRefutation => 11,
+    }
+}
+
+// Document 01's place of a refusal.
+fn place_of(r: Refusal) -> usize
+    ensures { λ k. ⌜ k ≡ placeOf r ⌝ }
+{
+    match r {
+        Refusal::TooManyVariables => 0,
+        Refusal::BrokenLength => 0,
+        Refusal::TooManyLines => 0,
+        Refusal::BadCoefficient(k) => k,
+        Refusal::BadVariable(k) => k,
+        Refusal::BadConstant(k) => k,
+        Refusal::ShortOutput(k) => k,
+        Refusal::ShortWorkArea => 0,
+        Refusal::WrongModelLength => 0,
+        Refusal::BadValue(k) => k,
+        Refusal::LongRefutation => 0,
+    }
+}
+
+// The number that a refusal is returned as.
+fn refusal_code(r: Refusal) -> i64
+    requires { ⌜ placeOf r < refusalUnit ⌝ }
+    ensures { λ k. ⌜ k ≡ refusalCode r ⌝ }
+{
+    let code = number_of(r) * REFUSAL_UNIT + place_of(r);
+    -(code as i64)
+}
+
+// The number that an answer on a model is returned as.
+fn model_code(a: ModelAnswer) -> i64
+    requires { ⌜ model.Below refusalUnit a ⌝ }
+    ensures { λ k. ⌜ k ≡ modelCode a ⌝ }
+{
+    match a {
+        ModelAnswer::Yes => 0,
+        ModelAnswer::No(k) => (NO + k) as i64,
+        ModelAnswer::Refused(r) => refusal_code(r),
+    }
+}
+
+// The number that an answer on a refutation is returned as.
+fn refutation_code(a: RefutationAnswer) -> i64
+    requires { ⌜ refutation.Below refusalUnit a ⌝ }
+    ensures { λ k. ⌜ k ≡ refutationCode a ⌝ }
+{
+    match a {
+        RefutationAnswer::Yes => 0,
+        RefutationAnswer::No => NO as i64,
+        RefutationAnswer::Refused(r) => refusal_code(r),
+    }
+}
+
+// Refusals 1 to 6 of a list in bytes. Where none applies, its numbers are written.
+fn decode_list(n: usize, list: &[u8], numbers: &mut [i32]) -> Validity
+    requires { ⌜ lineSize * maxLines ≤ length (now numbers) ⌝ }
+    ensures { λ r. ⌜ Decoded n (now (list .entry)) (now (numbers .exit)) r ⌝ }
+{
+    if MAX_VARIABLES < n {
+        return Validity::Refused(Refusal::TooManyVariables);
+    }
+    if list.len() % LINE_BYTES != 0 {
+        return Validity::Refused(Refusal::BrokenLength);
+    }
+    if MAX_LINES < list.len() / LINE_BYTES {
+        return Validity::Refused(Refusal::TooManyLines);
+    }
+    decode_i32(list, numbers);
+    let count = list.len() / NUMBER_BYTES;
+    list_validity(n, &numbers[0..count])
+}
+
+// The answer on a model in bytes.
+fn model_of_values(n: usize, list: &[i32], model: &[u8]) -> ModelAnswer
+    requires { ⌜ n ≤ maxVariables ⌝ }
+    ensures { λ r. ⌜ r ≡ modelOfValues n (now (list .entry)) (now (model .entry)) ⌝ }
+{
+    if model.len() != VALUE_BYTES * n {
+        return ModelAnswer::Refused(Refusal::WrongModelLength);
+    }
+    let mut values = [0i64; MAX_VARIABLES];
+    decode_i64(model, &mut values);
+    check_model(n, list, &values[0..n])
+}
+
+// The answer on a refutation in bytes.
+fn refutation_of_numbers(n: usize, list: &[i32], refutation: &[u8]) -> RefutationAnswer
+    ensures { λ r. ⌜ r ≡ refutationOfNumbers n (now (list .entry)) (now (refutation .entry)) ⌝ }
+{
+    if NUMBER_BYTES * MAX_REFUTATION < refutation.len() {
+        return RefutationAnswer::Refused(Refusal::LongRefutation);
+    }
+    if refutation.len() % NUMBER_BYTES != 0 {
+        return RefutationAnswer::No;
+    }
+    let count = refutation.len() / NUMBER_BYTES;
+    let mut numbers = [0u32; MAX_REFUTATION];
+    decode_u32(refutation, &mut numbers);
+    check_refutation(n, list, &numbers[0..count])
+}
+
+// Does this model meet every line of this list of n variables?
+#[no_mangle]
+pub extern "C" fn utvpi_check_model(n: u64, list: &[u8], model: &[u8]) -> i64
+    ensures { λ r. ⌜ r ≡ checkModel n (now (list .entry)) (now (model .entry)) ⌝ }
+{
+    let variables = n as usize;
+    let mut numbers = [0i32; MOST_NUMBERS];
+    let found = decode_list(variables, list, &mut numbers);
+    if let Validity::Refused(r) = found {
+        return refusal_code(r);
+    }
+    let count = list.len() / NUMBER_BYTES;
+    model_code(model_of_values(variables, &numbers[0..count], model))
+}
+
+// Does this refutation show that no whole numbers meet this list of n variables?
+#[no_mangle]
+pub extern "C" fn utvpi_check_refutation(n: u64, list: &[u8], refutation: &[u8]) -> i64
+    ensures { λ r. ⌜ r ≡ checkRefutation n (now (list .entry)) (now (refutation .entry)) ⌝ }
+{
+    let variables = n as usize;
+    let mut numbers = [0i32; MOST_NUMBERS];
+    let found = decode_list(variables, list, &mut numbers);
+    if let Validity::Refused(r) = found {
+        return refusal_code(r);
+    }
+    let count = list.len() / NUMBER_BYTES;
+    refutation_code(refutation_of_numbers(variables, &numbers[0..count], refutation))
+}

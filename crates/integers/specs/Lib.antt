@@ -1,0 +1,7 @@
+pub mod Integer
+pub mod Linear
+pub mod Laws
+pub mod Products
+pub mod Bits
+pub mod Table
+pub mod Sequence

@@ -1,0 +1,7 @@
+pub mod Limits
+pub mod Line
+pub mod Refusal
+pub mod Laws
+pub mod Valid
+pub mod Solutions
+pub mod Places

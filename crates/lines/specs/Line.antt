@@ -1,0 +1,62 @@
+-- A list of numbers read as lines, and what it means that whole numbers solve it.
+use mathlib.Core.List.{List, [], _∷_}
+use mathlib.Core.Bool.{Bool, _&&_}
+use Prim.Native.Nat.{ℕ, _+_, _*_, _/_}
+use lib.IntN.{ℤ, pos, natAbs, _+ℤ_, _*ℤ_}
+use lib.ListN.{length, getD}
+use lib.Signed.{leZ, ltZ}
+use Rattle.integers.specs.Integer.{_⩽_, eqZ}
+use Rattle.integers.specs.Sequence.{tabulate}
+use Rattle.lines.specs.declared.Line.{Line}
+use Rattle.lines.specs.Limits.{lineSize}
+
+abbrev pub number : List ℤ → ℕ → ℤ
+number L i = getD L i (pos 0)
+
+-- line number k: its numbers as they stand in the list
+unfoldable pub lineAt : List ℤ → ℕ → Line
+lineAt L k =
+    record {
+      a = number L (lineSize * k);
+      x = number L (lineSize * k + 1);
+      b = number L (lineSize * k + 2);
+      y = number L (lineSize * k + 3);
+      d = number L (lineSize * k + 4);
+    }
+
+abbrev pub lineCount : List ℤ → ℕ
+lineCount L = length L / lineSize
+
+abbrev pub linesOf : List ℤ → List Line
+linesOf L = tabulate (lineCount L) (lineAt L)
+
+-- an assignment gives each variable a mathematical integer
+abbrev pub Assignment : Type 0
+Assignment = ℕ → ℤ
+
+-- a·x + b·y. A variable number of a valid line is not negative, so that natAbs only makes it a ℕ
+unfoldable pub leftSide : Assignment → Line → ℤ
+leftSide s l = l .a *ℤ s (natAbs (l .x)) +ℤ l .b *ℤ s (natAbs (l .y))
+
+abbrev pub Meets : Assignment → Line → Type 0
+Meets s l = leftSide s l ⩽ l .d
+
+abbrev pub meets : Assignment → Line → Bool
+meets s l = leZ (leftSide s l) (l .d)
+
+-- every line is met
+abbrev pub Solves : List Line → Assignment → Type 0
+Solves [] s = Unit {0}
+Solves (l ∷ ls) s = Meets s l × Solves ls s
+
+pub record Solvable (ls : List Line) : Type 0 where
+  pub assignment : Assignment
+  pub solves : Solves ls assignment
+
+-- a zero, zero line: both coefficients are 0
+abbrev pub isZero : Line → Bool
+isZero l = eqZ (l .a) (pos 0) && eqZ (l .b) (pos 0)
+
+-- a false line: a zero, zero line with d below 0
+unfoldable pub isFalse : Line → Bool
+isFalse l = isZero l && ltZ (l .d) (pos 0)

@@ -1,0 +1,106 @@
+-- Document 01's refusals of a list, 1 to 6: the first that applies.
+use mathlib.Core.Path.{_≡_}
+use mathlib.Core.Bool.{Bool, true, false, not, cond, _&&_}
+use mathlib.Core.List.{List, [], _∷_}
+use Prim.Native.Nat.{ℕ, _+_, _%_, _≤_}
+use lib.Dec.{ltb, eqb}
+use lib.IntN.{ℤ, pos}
+use lib.ListN.{length}
+use lib.Signed.{leZ, ltZ}
+use Rattle.integers.specs.Integer.{eqZ, isWithin}
+use Rattle.lines.specs.declared.Line.{Line}
+use Rattle.lines.specs.declared.Refusal.{Refusal}
+use Rattle.lines.specs.declared.Refusal.the-variants.{TooManyVariables, BrokenLength, TooManyLines, BadCoefficient, BadVariable, BadConstant, ShortOutput, ShortWorkArea, WrongModelLength, BadValue, LongRefutation}
+use Rattle.lines.specs.declared.Validity.{Validity}
+use Rattle.lines.specs.declared.Validity.the-variants.{Valid, Refused}
+use Rattle.lines.specs.Limits.{lineSize, maxVariables, maxLines, maxConstant}
+use Rattle.lines.specs.Line.{lineCount, linesOf}
+
+-- document 01's number of a refusal
+abbrev pub numberOf : Refusal → ℕ
+numberOf TooManyVariables = 1
+numberOf BrokenLength = 2
+numberOf TooManyLines = 3
+numberOf (BadCoefficient k) = 4
+numberOf (BadVariable k) = 5
+numberOf (BadConstant k) = 6
+numberOf (ShortOutput k) = 7
+numberOf ShortWorkArea = 8
+numberOf WrongModelLength = 9
+numberOf (BadValue k) = 10
+numberOf LongRefutation = 11
+
+-- document 01's place of a refusal
+abbrev pub placeOf : Refusal → ℕ
+placeOf TooManyVariables = 0
+placeOf BrokenLength = 0
+placeOf TooManyLines = 0
+placeOf (BadCoefficient k) = k
+placeOf (BadVariable k) = k
+placeOf (BadConstant k) = k
+placeOf (ShortOutput k) = k
+placeOf ShortWorkArea = 0
+placeOf WrongModelLength = 0
+placeOf (BadValue k) = k
+placeOf LongRefutation = 0
+
+-- the first that applies
+infixr 20 _orElse_
+abbrev pub _orElse_ : Validity → Validity → Validity
+Valid orElse v = v
+Refused r orElse v = Refused r
+
+abbrev pub refuseIf : Bool → Refusal → Validity
+refuseIf true r = Refused r
+refuseIf false r = Valid
+
+-- ---- the rules of a line
+-- 4: both coefficients are -1, 0 or 1
+unfoldable pub coefficientsOk : Line → Bool
+coefficientsOk l = isWithin 1 (l .a) && isWithin 1 (l .b)
+
+-- with a coefficient not 0 the variable number is from 0 to n - 1, else it is 0
+unfoldable pub variableOk : ℕ → ℤ → ℤ → Bool
+variableOk n a x = cond (eqZ a (pos 0)) (eqZ x (pos 0)) (leZ (pos 0) x && ltZ x (pos n))
+
+-- 5: both variable numbers are right
+unfoldable pub variablesOk : ℕ → Line → Bool
+variablesOk n l = variableOk n (l .a) (l .x) && variableOk n (l .b) (l .y)
+
+-- 6: d lies within its limit
+unfoldable pub constantOk : Line → Bool
+constantOk l = isWithin maxConstant (l .d)
+
+-- a rule of a line among n variables, and the refusal of line number k that breaks it
+pub record Rule : Type 0 where
+  pub ok : ℕ → Line → Bool
+  pub refusal : ℕ → Refusal
+
+-- within a line 4, 5, 6
+abbrev pub lineRules : List Rule
+lineRules =
+    record { ok = λ n l. coefficientsOk l; refusal = BadCoefficient }
+    ∷ record { ok = variablesOk; refusal = BadVariable }
+    ∷ record { ok = λ n l. constantOk l; refusal = BadConstant }
+    ∷ []
+
+-- the first rule that line number k breaks
+abbrev pub firstBroken : List Rule → ℕ → ℕ → Line → Validity
+firstBroken [] n k l = Valid
+firstBroken (r ∷ rs) n k l = refuseIf (not (r .ok n l)) (r .refusal k) orElse firstBroken rs n k l
+
+abbrev pub lineValidity : ℕ → ℕ → Line → Validity
+lineValidity n k l = firstBroken lineRules n k l
+
+-- lines from the first, which has number k
+unfoldable pub linesValidity : ℕ → ℕ → List Line → Validity
+linesValidity n k [] = Valid
+linesValidity n k (l ∷ ls) = lineValidity n k l orElse linesValidity n (k + 1) ls
+
+-- 1, 2, 3; then lines from the first
+unfoldable pub validityOf : ℕ → List ℤ → Validity
+validityOf n L =
+    refuseIf (ltb maxVariables n) TooManyVariables
+    orElse refuseIf (not (eqb (length L % lineSize) 0)) BrokenLength
+    orElse refuseIf (ltb maxLines (lineCount L)) TooManyLines
+    orElse linesValidity n 0 (linesOf L)

@@ -1,0 +1,117 @@
+-- What a valid list grants: its limits, and of each line what the rules say.
+use mathlib.Core.Path.{_≡_, refl, sym, ap, _∙_}
+use mathlib.Core.Bool.{Bool, true, false, not, cond, _&&_}
+use mathlib.Core.List.{List}
+use Prim.Native.Nat.{ℕ, zero, suc, _+_, _%_, _<_, _≤_}
+use native.Mathlib.Numerals.{add-one}
+use native.Mathlib.Omega.{arith}
+use borrow.Author.Tests.{ltb-false, eqb-true, not-false}
+use lib.IntN.{ℤ, pos, natAbs}
+use lib.ListN.{length, drop}
+use lib.Signed.{leZ, ltZ}
+use Rattle.integers.specs.Integer.{_⩽_, _⋖_, eqZ, isWithin, Within}
+use Rattle.integers.specs.Linear.{ints, given, given₂}
+use Rattle.integers.specs.Laws.{never, and-true, is-within, ne-eqZ}
+use Rattle.lines.specs.declared.Line.{Line}
+use Rattle.lines.specs.declared.Refusal.{Refusal}
+use Rattle.lines.specs.declared.Validity.{Validity}
+use Rattle.lines.specs.declared.Validity.the-variants.{Valid, Refused}
+use Rattle.lines.specs.Limits.{lineSize, maxVariables, maxLines, maxConstant}
+use Rattle.lines.specs.Line.{lineAt, lineCount, linesOf}
+use Rattle.lines.specs.Refusal.{_orElse_, refuseIf, coefficientsOk, variableOk, variablesOk, constantOk, lineValidity, linesValidity, validityOf}
+use Rattle.lines.specs.Laws.{validity-from}
+
+pub record VariableOk (n : ℕ) (x : ℤ) : Type 0 where
+  pub low : pos 0 ⩽ x
+  pub high : x ⋖ pos n
+
+pub variable-lt : (n : ℕ) (x : ℤ) → VariableOk n x → natAbs x < n
+variable-lt n x h = given₂ (h .low) (h .high) (simp ints (omega arith))
+
+pub record LineOk (n : ℕ) (l : Line) : Type 0 where
+  pub coefficient-a : Within 1 (l .a)
+  pub coefficient-b : Within 1 (l .b)
+  pub variable-x : (l .a ≡ pos 0 → ⊥) → VariableOk n (l .x)
+  pub variable-y : (l .b ≡ pos 0 → ⊥) → VariableOk n (l .y)
+  pub constant : Within maxConstant (l .d)
+
+-- every line obeys the rules
+abbrev pub LinesOk : ℕ → List ℤ → Type 0
+LinesOk n L = (k : ℕ) → k < lineCount L → LineOk n (lineAt L k)
+
+pub record ListOk (n : ℕ) (L : List ℤ) : Type 0 where
+  pub variables : n ≤ maxVariables
+  pub whole : length L % lineSize ≡ 0
+  pub count : lineCount L ≤ maxLines
+  pub lines : LinesOk n L
+
+pub or-valid : (u v : Validity) → (u orElse v) ≡ Valid → (u ≡ Valid) × (v ≡ Valid)
+or-valid Valid v e = (refl, e)
+or-valid (Refused r) v e = never (cc)
+
+pub not-refused : (t : Bool) (r : Refusal) → refuseIf t r ≡ Valid → t ≡ false
+not-refused true r e = never (cc)
+not-refused false r e = refl
+
+variable-ok : (n : ℕ) (a x : ℤ) → variableOk n a x ≡ true → (a ≡ pos 0 → ⊥) → VariableOk n x
+unfolding variableOk
+variable-ok n a x e h =
+    let t = and-true (leZ (pos 0) x) (ltZ x (pos n)) (ap (λ (b : Bool). cond b (eqZ x (pos 0)) (leZ (pos 0) x && ltZ x (pos n))) (sym (ne-eqZ a (pos 0) h)) ∙ e) in
+    record { low = given (t .0) (simp ints (omega arith)); high = given (t .1) (simp ints (omega arith)) }
+
+line-ok : (n k : ℕ) (l : Line) → lineValidity n k l ≡ Valid → LineOk n l
+unfolding coefficientsOk variablesOk constantOk
+line-ok n k l e =
+    let p = or-valid _ _ e in
+    let q = or-valid _ _ (p .1) in
+    let r = or-valid _ _ (q .1) in
+    let c = and-true (isWithin 1 (l .a)) (isWithin 1 (l .b)) (not-false _ (not-refused _ _ (p .0))) in
+    let v = and-true (variableOk n (l .a) (l .x)) (variableOk n (l .b) (l .y)) (not-false _ (not-refused _ _ (q .0))) in
+    record {
+      coefficient-a = is-within 1 (l .a) (c .0);
+      coefficient-b = is-within 1 (l .b) (c .1);
+      variable-x = variable-ok n (l .a) (l .x) (v .0);
+      variable-y = variable-ok n (l .b) (l .y) (v .1);
+      constant = is-within maxConstant (l .d) (not-false _ (not-refused _ _ (r .0)));
+    }
+
+module _ (n : ℕ) (L : List ℤ) (e : linesValidity n 0 (linesOf L) ≡ Valid) where
+  -- none is refused from line k on, so neither line k nor what comes after it is
+  parts : (k : ℕ) → k < lineCount L → linesValidity n k (drop k (linesOf L)) ≡ Valid
+      → (lineValidity n k (lineAt L k) ≡ Valid) × (linesValidity n (k + 1) (drop (k + 1) (linesOf L)) ≡ Valid)
+  parts k h v = or-valid (lineValidity n k (lineAt L k)) _ (sym (validity-from L n k h) ∙ v)
+
+  from : (k : ℕ) → k ≤ lineCount L → linesValidity n k (drop k (linesOf L)) ≡ Valid
+  from zero h = e
+  from (suc k) h = rw (← add-one k) (parts k h (from k (omega arith)) .1)
+
+  each-line : LinesOk n L
+  each-line k h = line-ok n k (lineAt L k) (parts k h (from k (omega arith)) .0)
+
+pub valid-list : (n : ℕ) (L : List ℤ) → validityOf n L ≡ Valid → ListOk n L
+unfolding validityOf
+valid-list n L e =
+    let p = or-valid _ _ e in
+    let q = or-valid _ _ (p .1) in
+    let r = or-valid _ _ (q .1) in
+    record {
+      variables = ltb-false _ _ (not-refused _ _ (p .0));
+      whole = eqb-true _ _ (not-false _ (not-refused _ _ (q .0)));
+      count = ltb-false _ _ (not-refused _ _ (r .0));
+      lines = each-line n L (r .1);
+    }
+
+-- what is right among n variables is right among more
+variable-more : (n m : ℕ) (x : ℤ) → n ≤ m → VariableOk n x → VariableOk m x
+variable-more n m x h v = record { low = v .low; high = given (v .high) (simp ints (omega arith)) }
+
+pub lines-more : (n m : ℕ) (L : List ℤ) → n ≤ m → LinesOk n L → LinesOk m L
+lines-more n m L h ok k l =
+    let o = ok k l in
+    record {
+      coefficient-a = o .coefficient-a;
+      coefficient-b = o .coefficient-b;
+      variable-x = λ z. variable-more n m _ h (o .variable-x z);
+      variable-y = λ z. variable-more n m _ h (o .variable-y z);
+      constant = o .constant;
+    }

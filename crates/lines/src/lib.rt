@@ -1,0 +1,162 @@
+// A list of lines as document 01 gives it: its lines, and the first refusal that applies to it.
+pub mod limits;
+
+use integers::between;
+use limits::LINE_SIZE;
+use limits::MAX_CONSTANT;
+use limits::MAX_LINES;
+use limits::MAX_VARIABLES;
+ghost use mathlib.Core.Path.{_≡_};
+ghost use Prim.Native.Nat.{_<_, _≤_};
+ghost use Rattle.lines.specs.Limits.{maxVariables};
+ghost use Rattle.lines.specs.Line.{lineAt, lineCount, linesOf, isFalse};
+ghost use Rattle.lines.specs.Refusal.{coefficientsOk, variableOk, variablesOk, constantOk, lineValidity, linesValidity, validityOf};
+ghost use Rattle.integers.specs.Integer.{isBetween};
+
+// One line: a·x + b·y <= d. x and y are the numbers of variables (the field's term: a UTVPI constraint).
+pub struct Line {
+    pub a: i32,
+    pub x: i32,
+    pub b: i32,
+    pub y: i32,
+    pub d: i32,
+}
+
+// Document 01's refusals, in the order of their numbers, each with its place where it has one.
+pub enum Refusal {
+    TooManyVariables,
+    BrokenLength,
+    TooManyLines,
+    BadCoefficient(usize),
+    BadVariable(usize),
+    BadConstant(usize),
+    ShortOutput(usize),
+    ShortWorkArea,
+    WrongModelLength,
+    BadValue(usize),
+    LongRefutation,
+}
+
+// Whether something is refused, and by what.
+pub enum Validity {
+    Valid,
+    Refused(Refusal),
+}
+
+// Line number k.
+pub fn line_at(list: &[i32], k: usize) -> Line
+    requires { ⌜ k < lineCount (now list) ⌝ }
+    ensures { λ r. ⌜ r ≡ lineAt (now (list .entry)) k ⌝ }
+{
+    let at = LINE_SIZE * k;
+    Line {
+        a: list[at],
+        x: list[at + 1],
+        b: list[at + 2],
+        y: list[at + 3],
+        d: list[at + 4],
+    }
+}
+
+// Whether low <= z <= high.
+fn in_range(low: i64, high: i64, z: i32) -> bool
+    ensures { λ r. ⌜ r ≡ isBetween low high z ⌝ }
+{
+    between(low, high, z as i64)
+}
+
+// Rule 4: both coefficients are -1, 0 or 1.
+fn coefficients_ok(line: Line) -> bool
+    ensures { λ r. ⌜ r ≡ coefficientsOk line ⌝ }
+{
+    in_range(-1, 1, line.a) && in_range(-1, 1, line.b)
+}
+
+// A variable number is compared as the signed number that it is.
+fn variable_ok(n: usize, a: i32, x: i32) -> bool
+    requires { ⌜ n ≤ maxVariables ⌝ }
+    ensures { λ r. ⌜ r ≡ variableOk n a x ⌝ }
+{
+    if a == 0 {
+        return x == 0;
+    }
+    0 <= x && x < n as i32
+}
+
+// Rule 5: both variable numbers are right.
+fn variables_ok(n: usize, line: Line) -> bool
+    requires { ⌜ n ≤ maxVariables ⌝ }
+    ensures { λ r. ⌜ r ≡ variablesOk n line ⌝ }
+{
+    variable_ok(n, line.a, line.x) && variable_ok(n, line.b, line.y)
+}
+
+// Rule 6: d lies within its limit.
+fn constant_ok(line: Line) -> bool
+    ensures { λ r. ⌜ r ≡ constantOk line ⌝ }
+{
+    in_range(-MAX_CONSTANT, MAX_CONSTANT, line.d)
+}
+
+// The first rule that line number k breaks.
+fn line_validity(n: usize, k: usize, line: Line) -> Validity
+    requires { ⌜ n ≤ maxVariables ⌝ }
+    ensures { λ r. ⌜ r ≡ lineValidity n k line ⌝ }
+{
+    if !coefficients_ok(line) {
+        return Validity::Refused(Refusal::BadCoefficient(k));
+    }
+    if !variables_ok(n, line) {
+        return Validity::Refused(Refusal::BadVariable(k));
+    }
+    if !constant_ok(line) {
+        return Validity::Refused(Refusal::BadConstant(k));
+    }
+    Validity::Valid
+}
+
+// The first refusal among the lines.
+fn lines_validity(n: usize, list: &[i32]) -> Validity
+    requires { ⌜ n ≤ maxVariables ⌝ }
+    ensures { λ r. ⌜ r ≡ linesValidity n 0 (linesOf (now (list .entry))) ⌝ }
+{
+    let count = list.len() / LINE_SIZE;
+    let mut k = 0;
+    while k < count {
+        let found = line_validity(n, k, line_at(list, k));
+        if let Validity::Refused(r) = found {
+            return Validity::Refused(r);
+        }
+        k += 1;
+    }
+    Validity::Valid
+}
+
+// The first of document 01's refusals 1 to 6 that applies to a list for n variables.
+pub fn list_validity(n: usize, list: &[i32]) -> Validity
+    ensures { λ r. ⌜ r ≡ validityOf n (now (list .entry)) ⌝ }
+{
+    if MAX_VARIABLES < n {
+        return Validity::Refused(Refusal::TooManyVariables);
+    }
+    if list.len() % LINE_SIZE != 0 {
+        return Validity::Refused(Refusal::BrokenLength);
+    }
+    if MAX_LINES < list.len() / LINE_SIZE {
+        return Validity::Refused(Refusal::TooManyLines);
+    }
+    lines_validity(n, list)
+}
+
+// Whether a line is false: both coefficients are 0, and d is below 0.
+pub fn is_false(line: Line) -> bool
+    ensures { λ r. ⌜ r ≡ isFalse line ⌝ }
+{
+    if line.a != 0 {
+        return false;
+    }
+    if line.b != 0 {
+        return false;
+    }
+    line.d < 0
+}

@@ -1,0 +1,14 @@
+// The limits of document 01, each in this one place; specs/Limits.antt has the same for the definitions.
+
+// The numbers of one line: a, x, b, y, d.
+pub const LINE_SIZE: usize = 5;
+// The most variables.
+pub const MAX_VARIABLES: usize = 64;
+// The most lines.
+pub const MAX_LINES: usize = 512;
+// A line's d lies within plus and minus this.
+pub const MAX_CONSTANT: i64 = 1_000_000;
+// A proposed model's values lie within plus and minus this.
+pub const MAX_VALUE: i64 = 1_000_000_000_000;
+// The most numbers of a proposed refutation.
+pub const MAX_REFUTATION: usize = 65_536;

@@ -1,0 +1,2 @@
+-- The definitions and laws of this crate.
+pub mod Bytes

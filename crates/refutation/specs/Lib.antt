@@ -1,0 +1,4 @@
+pub mod Progress
+pub mod Small
+pub mod Answer
+pub mod Places

@@ -1,0 +1,5 @@
+pub mod Refutes
+pub mod Run
+pub mod Good
+pub mod Meaning
+pub mod Sound

@@ -1,0 +1,115 @@
+-- `steps::line_step` meets its contract.
+use mathlib.Core.Path.{_≡_, sym, ap, ap₂, _∙_}
+use Prim.Native.Nat.{ℕ, _+_, _*_}
+use borrow.Author.Needs.{needs}
+use lib.IntN.{ℤ, pos, _*ℤ_}
+use mir.Syntax.{w32, w64}
+use mir.Val.{toZ, ofZ}
+use Rattle.integers.specs.Bits.{kept}
+use Rattle.lines.specs.declared.Line.{Line}
+use Rattle.lines.specs.Limits.{maxVariables}
+use Rattle.lines.specs.Valid.{LineOk}
+use Rattle.steps.specs.declared.Step.{Step}
+use Rattle.steps.specs.declared.NamedStep.the-variants.{Found}
+use Rattle.steps.specs.Table.{entry, cell, digit, CellRule}
+use Rattle.steps.specs.Step.{endPoint, stepWith}
+use Rattle.steps.specs.Laws.{step-none, step-found, line-rule, end-ok}
+use Rattle.steps.proofs.line_step.Statement.{statement}
+use Rattle.steps.proofs.line_step.Tie as tie
+
+-- where the table is read
+module _ (c : tie.After-digit-of2) where
+  abbrev start : tie.Start
+  start = c .before .before .before .before
+
+  abbrev l : Line
+  l = start .args .line
+
+  abbrev at : ℕ
+  at = cell (l .a) (l .b) (start .args .side)
+
+  at-is : 6 * (3 * c .before .before .digit-of .result + c .digit-of2 .result) + 3 * start .args .side ≡ at
+  at-is =
+      ap₂ (λ (a b : ℕ). 6 * (3 * a + b) + 3 * start .args .side)
+      (c .before .before .digit-of .ensures .0 ∙ ap digit (kept w32 (l .a) (c .before .before .before .struct-told .given .0 .1)))
+      (c .digit-of2 .ensures .0 ∙ ap digit (kept w32 (l .b) (c .before .struct-told2 .given .1 .1 .0 .1)))
+
+factor-is : (c : tie.After-entry-at) → c .entry-at .result ≡ entry (at (c .before) + 2)
+factor-is c = c .entry-at .ensures ∙ ap (λ (i : ℕ). entry (i + 2)) (at-is (c .before))
+
+-- there is a step, so that the rule says what its ends are
+module _ (c : tie.Else1) where
+  abbrev d : tie.After-digit-of2
+  d = c .before .before
+
+  some-factor : entry (at d + 2) ≡ 0 → ⊥
+  some-factor e = c .if1 .left (factor-is (c .before) ∙ e)
+
+  ok : LineOk maxVariables (l d)
+  ok = start d .pre .0
+
+  rule : CellRule (digit (l d .a)) (digit (l d .b)) (at d)
+  rule = line-rule (l d) (start d .args .side) (start d .pre .1)
+
+returns : tie.Need-returns
+returns c = step-none (l (c .before .before)) _ (sym (factor-is (c .before)) ∙ c .if1 .taken)
+
+from-is : (c : tie.After-entry-at2) → c .entry-at2 .result ≡ entry (at (d (c .before)))
+from-is c = c .entry-at2 .ensures ∙ ap entry (at-is (d (c .before)))
+
+end-point-requires : tie.Need-end-point-requires
+end-point-requires c κs =
+    let e = c .before in
+    rw (from-is c) (end-ok maxVariables (l (d e)) (ok e) (entry (at (d e))) (rule e .start (some-factor e)))
+
+to-is : (c : tie.After-entry-at3) → c .entry-at3 .result ≡ entry (at (d (c .before .before .before)) + 1)
+to-is c = c .entry-at3 .ensures ∙ ap (λ (i : ℕ). entry (i + 1)) (at-is (d (c .before .before .before)))
+
+end-point-requires-2 : tie.Need-end-point-requires-2
+end-point-requires-2 c κs =
+    let e = c .before .before .before in
+    rw (to-is c) (end-ok maxVariables (l (d e)) (ok e) (entry (at (d e) + 1)) (rule e .end (some-factor e)))
+
+module _ (c : tie.After-struct-told3) where
+  abbrev e : tie.Else1
+  e = c .before .before .before .before .before
+
+  d-is : toZ w32 (ofZ w32 (l (d e) .d)) ≡ l (d e) .d
+  d-is = kept w32 (l (d e) .d) (c .struct-told3 .given .1 .1 .1 .1 .0 .1)
+
+weight-of-requires : tie.Need-weight-of-requires
+weight-of-requires c κs =
+    let f = factor-is (e c .before) in
+    (e c .if1 .left, rw f (rule (e c) .factor), rw (d-is c) (ok (e c) .constant))
+
+returns-2 : tie.Need-returns-2
+returns-2 c =
+    let g = c .before in
+    let x = l (d (e g)) in
+    let f : c .before .before .before .before .end-point .result ≡ endPoint x (entry (at (d (e g)))) = g .before .before .before .end-point .ensures ∙ ap (endPoint x) (from-is (g .before .before .before .before)) in
+    let t : c .before .before .end-point2 .result ≡ endPoint x (entry (at (d (e g)) + 1)) = g .before .end-point2 .ensures ∙ ap (endPoint x) (to-is (g .before .before)) in
+    let w : toZ w64 (ofZ w64 (c .weight-of .result)) ≡ pos (entry (at (d (e g)) + 2)) *ℤ x .d =
+    kept w64 (c .weight-of .result) (c .weight-of .ok) ∙ c .weight-of .ensures ∙ ap₂ (λ (k : ℕ) (z : ℤ). pos k *ℤ z) (factor-is (e g .before)) (d-is g) in
+    ap Found (λ i. record { from = f i; to = t i; weight = w i }) ∙ step-found x _ (some-factor (e g))
+
+pub line-step-spec : {M : Type 1} → statement M
+line-step-spec =
+    tie.close
+    (tie.spec
+    (search needs)
+    (search needs)
+    (search needs)
+    (search needs)
+    (search needs)
+    (search needs)
+    (search needs)
+    (search needs)
+    (search needs)
+    returns
+    (search needs)
+    end-point-requires
+    (search needs)
+    (search needs)
+    end-point-requires-2
+    weight-of-requires
+    returns-2)

@@ -1,0 +1,90 @@
+-- What the code and its callers use of a line's step: when there is one, that its ends are right, and that its weight is small.
+use mathlib.Core.Path.{_≡_, refl, sym, ap, subst, _∙_}
+use mathlib.Core.Bool.{Bool, true, false, not, cond, _&&_}
+use mathlib.Core.List.{List, _++_}
+use Prim.Native.Nat.{ℕ, zero, suc, _+_, _*_, _/_, _%_, _<_, _≤_}
+use native.Mathlib.Omega.{arith}
+use borrow.Author.Tests.{lt-ltb, ltb-true, eqb-false, eq-eqb, ne-eqb}
+use lib.Dec.{T, eqb, ltb}
+use lib.IntN.{ℤ, pos, _*ℤ_}
+use lib.ListN.{length}
+use Rattle.integers.specs.Integer.{Within}
+use Rattle.integers.specs.Linear.{ints, zs}
+use Rattle.integers.specs.Laws.{never, and-true}
+use Rattle.lines.specs.declared.Line.{Line}
+use Rattle.lines.specs.Limits.{lineSize, maxConstant}
+use Rattle.lines.specs.Line.{lineAt, lineCount}
+use Rattle.lines.specs.Valid.{VariableOk, LineOk, LinesOk}
+use Rattle.lines.specs.Solutions.{count-append, line-left}
+use Rattle.steps.specs.declared.Step.{Step}
+use Rattle.steps.specs.declared.NamedStep.{NamedStep}
+use Rattle.steps.specs.declared.NamedStep.the-variants.{Found, Nothing}
+use Rattle.steps.specs.Table.{entry, cell, digit, isEnd, CellRule, rule-at, digit-lt}
+use Rattle.steps.specs.Step.{maxWeight, variableAt, endPoint, stepWith, stepOf, stepNumbered}
+
+module _ (l : Line) (side : ℕ) where
+  abbrev c : ℕ
+  c = cell (l .a) (l .b) side
+
+  pub step-none : entry (c + 2) ≡ 0 → Nothing ≡ stepOf l side
+  unfolding stepOf
+  step-none e = rw (eq-eqb (entry (c + 2)) 0 e)
+
+  pub step-found : (entry (c + 2) ≡ 0 → ⊥) → Found (stepWith l c) ≡ stepOf l side
+  unfolding stepOf
+  step-found n = rw (ne-eqb (entry (c + 2)) 0 n)
+
+  -- the rule of the table, at this line and side
+  pub line-rule : side < 2 → CellRule (digit (l .a)) (digit (l .b)) c
+  line-rule h = rule-at (digit (l .a)) (digit (l .b)) side (digit-lt (l .a)) (digit-lt (l .b)) h
+
+-- ---- an end of a step is a variable that the rules allow
+not-zero : (z : ℤ) → not (eqb (digit z) 1) ≡ true → z ≡ pos 0 → ⊥
+unfolding digit
+not-zero z t e = subst T (sym (subst (λ (y : ℤ). not (eqb (digit y) 1) ≡ true) e t)) tt
+
+pub end-ok : (n : ℕ) (l : Line) → LineOk n l → (e : ℕ) → isEnd (digit (l .a)) (digit (l .b)) e ≡ true → VariableOk n (variableAt l e)
+end-ok n l ok e t = go (ltb e 2) (and-true (ltb e 4) _ t .1)
+  where
+    go : (b : Bool) → not (eqb (cond b (digit (l .a)) (digit (l .b))) 1) ≡ true → VariableOk n (cond b (l .x) (l .y))
+    go true u = ok .variable-x (not-zero (l .a) u)
+    go false u = ok .variable-y (not-zero (l .b) u)
+
+-- ---- a step's weight is within its limit
+weight-within : (k : ℕ) (d : ℤ) → k < 3 → Within maxConstant d → Within maxWeight (pos k *ℤ d)
+weight-within zero d h w = record { low = simp ints (omega zs); high = simp ints (omega zs) }
+weight-within (suc zero) d h w = record { low = simp ints (omega zs); high = simp ints (omega zs) }
+weight-within (suc (suc zero)) d h w = record { low = simp ints (omega zs); high = simp ints (omega zs) }
+weight-within (suc (suc (suc k))) d h w = absurd (omega arith)
+
+found-is : {t u : Step} → Found t ≡ Found u → t ≡ u
+found-is e = cc
+
+pub line-weight : (n : ℕ) (l : Line) (side : ℕ) (t : Step) → LineOk n l → side < 2 → stepOf l side ≡ Found t → Within maxWeight (t .weight)
+unfolding stepOf
+line-weight n l side t ok h e = go (eqb (entry (c l side + 2)) 0) e
+  where
+    go : (b : Bool) → cond b Nothing (Found (stepWith l (c l side))) ≡ Found t → Within maxWeight (t .weight)
+    go true q = never (cc)
+    go false q = subst (λ (u : Step). Within maxWeight (u .weight)) (found-is q) (weight-within (entry (c l side + 2)) (l .d) (line-rule l side h .factor) (ok .constant))
+
+pub numbered-weight : (n : ℕ) (L : List ℤ) (k : ℕ) (t : Step) → LinesOk n L → stepNumbered L k ≡ Found t → Within maxWeight (t .weight)
+unfolding stepNumbered
+numbered-weight n L k t ok e = go (ltb (k / 2) (lineCount L)) refl e
+  where
+    go : (b : Bool) → ltb (k / 2) (lineCount L) ≡ b → cond b (stepOf (lineAt L (k / 2)) (k % 2)) Nothing ≡ Found t → Within maxWeight (t .weight)
+    go true i q = line-weight n (lineAt L (k / 2)) (k % 2) t (ok (k / 2) (ltb-true _ _ i)) (omega arith) q
+    go false i q = never (cc)
+
+-- ---- a longer list names the same steps by the same numbers
+pub numbered-longer : (L M : List ℤ) (k : ℕ) (t : Step) → length L % lineSize ≡ 0 → stepNumbered L k ≡ Found t → stepNumbered (L ++ M) k ≡ Found t
+unfolding stepNumbered
+numbered-longer L M k t whole e = go (ltb (k / 2) (lineCount L)) refl e
+  where
+    go : (b : Bool) → ltb (k / 2) (lineCount L) ≡ b → cond b (stepOf (lineAt L (k / 2)) (k % 2)) Nothing ≡ Found t
+        → cond (ltb (k / 2) (lineCount (L ++ M))) (stepOf (lineAt (L ++ M) (k / 2)) (k % 2)) Nothing ≡ Found t
+    go true i q =
+        let h : k / 2 < lineCount L = ltb-true _ _ i in
+        let h′ : k / 2 < lineCount (L ++ M) = omega (arith, count-append L M whole) in
+        rw (lt-ltb _ _ h′, line-left L M whole (k / 2) h) q
+    go false i q = never (cc)

@@ -1,0 +1,6 @@
+pub mod Point
+pub mod Table
+pub mod Step
+pub mod Laws
+pub mod Meaning
+pub mod Walk

@@ -1,0 +1,173 @@
+/* An example of the C interface: checks a merge of two recordings, a wrong
+ * one, a proof that another merge is impossible, and a damaged list.
+ *
+ * Two recorders ran side by side and each wrote down when it noticed an event,
+ * in whole ticks. The first counts up from 0. The second counts down from 100,
+ * so that what it reads as y happened at tick 100 - y. What is known about the
+ * events is a list of lines, each of the form  a*x + b*y <= d.  A merge gives
+ * each event a reading; it is right if it meets every line.
+ */
+#include "utvpi.h"
+
+#include <inttypes.h>
+#include <stdio.h>
+
+/* The most lines that the lists in this example have. */
+#define MOST 5
+
+/* Writes a number's lowest `bytes` bytes, the lowest first. */
+static void pack(uint8_t *to, uint64_t number, size_t bytes)
+{
+    for (size_t at = 0; at < bytes; at++) {
+        to[at] = (uint8_t)(number >> (8 * at) & 255);
+    }
+}
+
+/* Writes a list's lines and returns how many bytes they take. */
+static size_t pack_list(uint8_t *to, const int32_t lines[][5], size_t count)
+{
+    for (size_t at = 0; at < 5 * count; at++) {
+        pack(to + 4 * at, (uint64_t)lines[at / 5][at % 5], 4);
+    }
+    return 20 * count;
+}
+
+/* The first list. Variables: 0 the door opens and 1 the lamp goes on, as read by
+ * the recorder that counts up; 2 the bell rings, as read by the one that counts
+ * down. */
+#define DOOR 0
+#define LAMP 1
+#define BELL 2
+
+static const int32_t merge[5][5] = {
+    /* door - lamp <= -5: the door opens 5 ticks before the lamp, or more. */
+    {1, DOOR, -1, LAMP, -5},
+    /* lamp <= 40: the lamp goes on at tick 40 or earlier. */
+    {1, LAMP, 0, 0, 40},
+    /* -door <= -10: the door opens at tick 10 or later. */
+    {-1, DOOR, 0, 0, -10},
+    /* lamp + bell <= 100, as lamp <= 100 - bell: the lamp is not after the bell. */
+    {1, LAMP, 1, BELL, 100},
+    /* -lamp - bell <= -98, as 100 - bell <= lamp + 2: the bell follows within 2
+     * ticks. */
+    {-1, LAMP, -1, BELL, -98},
+};
+
+/* The second list: both recorders saw one flash, the second while it counted
+ * down from 101. Variables: 0 the reading that counts up, 1 the one down. */
+#define UP 0
+#define DOWN 1
+
+static const int32_t flash[4][5] = {
+    /* up + down <= 101, and -up - down <= -101: together they make 101. */
+    {1, UP, 1, DOWN, 101},
+    {-1, UP, -1, DOWN, -101},
+    /* up - down <= 0, and -up + down <= 0: both recorders read the same. */
+    {1, UP, -1, DOWN, 0},
+    {-1, UP, 1, DOWN, 0},
+};
+
+/* A refutation of the second list: kind 2, walks of 2 and 2 steps. Steps 0 and
+ * 5 (of lines 0 and 2) lead from up to -up and say 2*up <= 101; steps 2 and 7
+ * (of lines 1 and 3) lead back and say -2*up <= -101. */
+static const uint32_t refutation[7] = {2, 2, 2, 0, 5, 2, 7};
+
+/* What a refusal means and what to do about it. */
+static const char *advice(int number)
+{
+    switch (number) {
+    case UTVPI_TOO_MANY_VARIABLES:
+        return "There are more than 64 variables: use fewer.";
+    case UTVPI_BROKEN_LIST_LENGTH:
+        return "The list's bytes are not whole lines: look for a cut.";
+    case UTVPI_TOO_MANY_LINES:
+        return "There are more than 512 lines: leave some out.";
+    case UTVPI_BAD_COEFFICIENT:
+        return "This line has a coefficient other than -1, 0 and 1: correct it.";
+    case UTVPI_BAD_VARIABLE:
+        return "This line names a variable that is not there: correct its number.";
+    case UTVPI_BAD_BOUND:
+        return "This line's bound is beyond 1,000,000: choose a coarser unit.";
+    case UTVPI_BAD_MODEL_LENGTH:
+        return "The model has not one value for each variable: complete it.";
+    case UTVPI_BAD_MODEL_VALUE:
+        return "This value of the model is too large: choose a nearer one.";
+    case UTVPI_LONG_REFUTATION:
+        return "The refutation is too long: look for a shorter one.";
+    default:
+        return "This number is not known.";
+    }
+}
+
+/* Whether each answer so far was the one expected. */
+static int all_as_expected = 1;
+
+/* Says in words what a result is and, where it is the expected one, why. */
+static void tell(const char *asked, int64_t result, int64_t expected, const char *why)
+{
+    printf("%s\n", asked);
+    if (UTVPI_IS_YES(result)) {
+        printf("  Yes.\n");
+    } else if (UTVPI_IS_NO(result)) {
+        printf("  No. The first line that fails is line %d.\n", UTVPI_NO_LINE(result));
+    } else {
+        int number = UTVPI_REFUSAL_NUMBER(result);
+        printf("  Refused, with number %d at place %d.\n", number, UTVPI_REFUSAL_PLACE(result));
+        printf("  %s\n", advice(number));
+    }
+    if (result == expected) {
+        printf("%s", why);
+    } else {
+        printf("  NOT AS EXPECTED: %" PRId64 " in place of %" PRId64 ".\n", result, expected);
+        all_as_expected = 0;
+    }
+}
+
+static int64_t check_model(const uint8_t *list, size_t length, int64_t door, int64_t lamp,
+                           int64_t bell)
+{
+    uint8_t model[24];
+    pack(model, (uint64_t)door, 8);
+    pack(model + 8, (uint64_t)lamp, 8);
+    pack(model + 16, (uint64_t)bell, 8);
+    return utvpi_check_model(3, list, length, model, sizeof model);
+}
+
+int main(void)
+{
+    uint8_t list[20 * MOST];
+    uint8_t proposed[sizeof refutation];
+    size_t length = pack_list(list, merge, 5);
+
+    tell("Do door 30, lamp 35 and bell 64 meet every line of the merge?",
+         check_model(list, length, 30, 35, 64), 0,
+         "  The bell's reading 64 is tick 36, one tick after the lamp.\n");
+
+    tell("Do door 30, lamp 35 and bell 66 meet every line of the merge?",
+         check_model(list, length, 30, 35, 66), 1000000 + 3,
+         "  Line 3 says that the lamp is not after the bell, but the bell's reading 66 is\n"
+         "  tick 34.\n");
+
+    length = pack_list(list, flash, 4);
+    for (size_t at = 0; at < 7; at++) {
+        pack(proposed + 4 * at, refutation[at], 4);
+    }
+    tell("Does the refutation show that the readings of the flash cannot be right?",
+         utvpi_check_refutation(2, list, length, proposed, sizeof proposed), 0,
+         "  No whole numbers can meet these lines. By lines 0 and 2 twice the reading is\n"
+         "  at most 101, so the reading is at most 50. By lines 1 and 3 twice the reading\n"
+         "  is at least 101, so the reading is at least 51.\n");
+
+    /* Damage: the last byte is missing. */
+    length = pack_list(list, merge, 5);
+    tell("Do door 30, lamp 35 and bell 64 meet the merge without its last byte?",
+         check_model(list, length - 1, 30, 35, 64), -(UTVPI_BROKEN_LIST_LENGTH * 100000), "");
+
+    /* Damage: the second variable of line 4, at byte 12 of the line, becomes 7. */
+    list[20 * 4 + 12] = 7;
+    tell("Do door 30, lamp 35 and bell 64 meet the merge if its line 4 names a variable 7?",
+         check_model(list, length, 30, 35, 64), -(UTVPI_BAD_VARIABLE * 100000 + 4), "");
+
+    printf(all_as_expected ? "All answers are as expected.\n" : "Some answers are WRONG.\n");
+    return all_as_expected ? 0 : 1;
+}

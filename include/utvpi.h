@@ -1,0 +1,151 @@
+/* The C interface: two functions that check a proposed model of a list, and a
+ * proposed refutation of a list, given as bytes.
+ *
+ * A LIST has n variables, numbered 0 to n-1, each standing for a whole number,
+ * and lines of the form  a*x + b*y <= d.  A line is five signed 32-bit numbers,
+ * each as four bytes, the lowest byte first:
+ *
+ *     a   the first coefficient: -1, 0 or 1
+ *     x   the number of its variable; 0 where a is 0
+ *     b   the second coefficient: -1, 0 or 1
+ *     y   the number of its variable; 0 where b is 0
+ *     d   the bound, from -1,000,000 to 1,000,000
+ *
+ * So a line takes 20 bytes, and a list of k lines 20*k bytes. x and y may be
+ * the same variable. A line on one variable may use either place. With both
+ * coefficients 0 the line says 0 <= d. At most 64 variables and 512 lines.
+ *
+ * A MODEL is one value for each variable, in order, each a signed 64-bit number
+ * as eight bytes, the lowest byte first. It is a yes if it meets every line.
+ *
+ * A REFUTATION shows that no whole numbers meet all lines. It is a row of
+ * unsigned 32-bit numbers, each as four bytes, the lowest byte first: the kind,
+ * a first count p, a second count q, then p + q step numbers and nothing more.
+ * Bytes that are no multiple of four are not a refutation: a no.
+ * Each variable x has two points: x+ stands for x and x- for -x. A step leads
+ * from one point to another and has a weight. Its number is twice the number
+ * of its line, plus its side:
+ *
+ *     line             side 0      side 1      weight
+ *      x + y <= d      x+ to y-    y+ to x-    d
+ *      x - y <= d      x+ to y+    y- to x-    d
+ *     -x + y <= d      x- to y-    y+ to x+    d
+ *     -x - y <= d      x- to y+    y- to x+    d
+ *      x     <= d      x+ to x-    none        2*d    (x in either place)
+ *     -x     <= d      x- to x+    none        2*d    (x in either place)
+ *      0     <= d      none        none
+ *
+ * In a walk each step begins at the point where the one before it ends. A
+ * refutation is a yes if it is one of these:
+ *
+ *     kind 1   q is 0, p is at least 1: a walk that ends where it began and
+ *              whose weights sum to less than 0.
+ *     kind 2   p and q are at least 1: a walk of p steps from a point to its
+ *              opposite, with sum S, and one of q steps back, with sum T. S
+ *              halved plus T halved is less than 0, each half rounded down: -7
+ *              halved is -4.
+ *     kind 3   p is 1, q is 0: the one step number is twice the number of a
+ *              line 0 <= d with d below 0.
+ */
+#ifndef UTVPI_H
+#define UTVPI_H
+
+#include <stddef.h>
+#include <stdint.h>
+
+#ifdef __cplusplus
+extern "C" {
+#endif
+
+/* Both functions return one number:
+ *
+ *     0                              yes
+ *     1,000,000 + k                  no. For a model, k is the first line that
+ *                                    it does not meet, counted from 0. For a
+ *                                    refutation, k is always 0.
+ *     -(refusal * 100,000 + place)   a refusal: there is no answer. The refusal
+ *                                    is one of the numbers below; the place is
+ *                                    a line or an index where the table says
+ *                                    so, counted from 0, and else 0.
+ *
+ * Lengths are in bytes. Each pointer must point to at least as many readable
+ * bytes as its length says, at any alignment. It may be NULL only where the
+ * length is 0, and even there NULL is best avoided: pass a pointer to anything.
+ * The bytes must not change during the call. The functions only read: they
+ * write to nothing, keep nothing from one call to the next, and may be called
+ * from several threads at once, on the same bytes too.
+ */
+
+/* Does this model meet every line of this list of n variables? */
+int64_t utvpi_check_model(uint64_t n, const uint8_t *list, size_t list_len,
+                          const uint8_t *model, size_t model_len);
+
+/* Does this refutation show that this list of n variables cannot be met? */
+int64_t utvpi_check_refutation(uint64_t n, const uint8_t *list, size_t list_len,
+                               const uint8_t *refutation, size_t refutation_len);
+
+/* What a result says, and its parts. Each takes a result as its argument. */
+#define UTVPI_IS_YES(result) ((result) == 0)
+#define UTVPI_IS_NO(result) ((result) >= 1000000)
+#define UTVPI_IS_REFUSAL(result) ((result) < 0)
+
+/* Of a no: the first line that a model does not meet; 0 for a refutation. */
+#define UTVPI_NO_LINE(result) ((int)((result) - 1000000))
+
+/* Of a refusal: its number, and its place. */
+#define UTVPI_REFUSAL_NUMBER(result) ((int)(-(result) / 100000))
+#define UTVPI_REFUSAL_PLACE(result) ((int)(-(result) % 100000))
+
+/* The refusals. Where several apply, the one given is the first of: 1, 2, 3;
+ * then line by line from the first, in each line 4, 5, 6; then 9 and 10 for a
+ * model, 11 for a refutation.
+ */
+enum utvpi_refusal {
+    /* n is above 64: use fewer variables. */
+    UTVPI_TOO_MANY_VARIABLES = 1,
+
+    /* The list's bytes are no multiple of 20: look for a cut or added part, or
+     * for numbers that are not four bytes each. */
+    UTVPI_BROKEN_LIST_LENGTH = 2,
+
+    /* The list has more than 512 lines: leave out lines that add nothing. */
+    UTVPI_TOO_MANY_LINES = 3,
+
+    /* A coefficient of the line at this place is not -1, 0 or 1: correct it, or
+     * write the line in another way. */
+    UTVPI_BAD_COEFFICIENT = 4,
+
+    /* The line at this place names a variable below 0 or not below n, or has a
+     * variable number other than 0 beside the coefficient 0: correct it. */
+    UTVPI_BAD_VARIABLE = 5,
+
+    /* The bound d of the line at this place is below -1,000,000 or above
+     * 1,000,000: choose a coarser unit, or an origin nearer to the values. */
+    UTVPI_BAD_BOUND = 6,
+
+    /* A buffer for output is too short: lend a longer one. The functions
+     * declared here have no output buffers and never give this. */
+    UTVPI_SHORT_OUTPUT = 7,
+
+    /* The work area is too short: lend a longer one. The functions declared
+     * here have no work area and never give this. */
+    UTVPI_SHORT_WORK_AREA = 8,
+
+    /* The model is not exactly 8*n bytes: give one value for each variable. */
+    UTVPI_BAD_MODEL_LENGTH = 9,
+
+    /* The model's value at this place, the first such, is below
+     * -1,000,000,000,000 or above 1,000,000,000,000: choose a nearer one. */
+    UTVPI_BAD_MODEL_VALUE = 10,
+
+    /* The refutation is longer than 65,536 numbers (262,144 bytes): look for a
+     * shorter one. A list that no whole numbers meet always has one of at most
+     * 4*n + 4 numbers. */
+    UTVPI_LONG_REFUTATION = 11
+};
+
+#ifdef __cplusplus
+}
+#endif
+
+#endif

@@ -1,0 +1,361 @@
+//! Random input, right, nearly right and damaged: the library must answer as
+//! the second implementation does, and never accept a refutation of a list that
+//! has a solution. Each test counts the answers that it saw.
+
+use std::hint::black_box;
+use std::thread;
+
+use utvpi_tests::bytes;
+use utvpi_tests::chance::Chance;
+use utvpi_tests::damage::Input;
+use utvpi_tests::library::{self, Check};
+use utvpi_tests::make::{self, Proposal};
+use utvpi_tests::second::{self, Answer};
+
+const LARGEST_VALUE: i64 = 1_000_000_000_000;
+
+/// How many answers of each kind were seen.
+#[derive(Default)]
+struct Seen {
+    inputs: usize,
+    yes: usize,
+    no: usize,
+    refused: [usize; 12],
+}
+
+impl Seen {
+    fn count(&mut self, answer: Answer) {
+        self.inputs += 1;
+        match answer {
+            Answer::Yes => self.yes += 1,
+            Answer::No(_) => self.no += 1,
+            Answer::Refused(number, _) => self.refused[number as usize] += 1,
+        }
+    }
+
+    /// Fails if some answer was rarely seen, so that the test tested too little.
+    fn must_include(&self, refusals: &[usize], inputs: usize) {
+        println!(
+            "{} inputs: {} yes, {} no, refused by number {:?}",
+            self.inputs,
+            self.yes,
+            self.no,
+            &self.refused[1..]
+        );
+        assert!(self.inputs >= inputs, "only {} inputs", self.inputs);
+        assert!(self.yes >= inputs / 20, "only {} yes", self.yes);
+        assert!(self.no >= inputs / 20, "only {} no", self.no);
+        for &refusal in refusals {
+            let times = self.refused[refusal];
+            assert!(times >= 100, "refusal {refusal} seen only {times} times");
+        }
+    }
+}
+
+/// A number of lines, mostly small.
+fn some_lines(chance: &mut Chance) -> usize {
+    match chance.below(64) {
+        0 => chance.between(500, 516) as usize,
+        1..=4 => chance.below(100),
+        _ => chance.below(9),
+    }
+}
+
+/// A value for each variable: all small, some large, or all about one height.
+fn some_values(chance: &mut Chance, n: u64) -> Vec<i64> {
+    let base = chance.pick(&[0, 0, 0, 700_000, LARGEST_VALUE - 4, 4 - LARGEST_VALUE]);
+    let extremes = chance.one_in(8);
+    let mut value = || match chance.below(8) {
+        0 if extremes => chance.pick(&[LARGEST_VALUE, -LARGEST_VALUE, 1 << 39, -1 << 31]),
+        _ => base + chance.between(-4, 4),
+    };
+    (0..n).map(|_| value()).collect()
+}
+
+#[test]
+fn models() {
+    let mut chance = Chance::new(1);
+    let mut seen = Seen::default();
+    for _ in 0..60_000 {
+        let n = make::variables(&mut chance);
+        let count = some_lines(&mut chance);
+        let values = some_values(&mut chance, n);
+        let lines = make::lines_met_by(&mut chance, &values, count);
+        let right = Input {
+            n,
+            list: bytes::list(&lines),
+            proposed: bytes::model(&values),
+        };
+        let answer = utvpi_tests::model(n, &right.list, &right.proposed);
+        assert_eq!(answer == Answer::Yes, count <= 512, "{answer:?}");
+        seen.count(answer);
+
+        // Another list with the same model, and another model of the same list.
+        let other_list = bytes::list(&make::lines(&mut chance, n, count));
+        seen.count(utvpi_tests::model(n, &other_list, &right.proposed));
+        let other_values = bytes::model(&some_values(&mut chance, n));
+        seen.count(utvpi_tests::model(n, &right.list, &other_values));
+        for _ in 0..5 {
+            let Input { n, list, proposed } = right.damaged(&mut chance, 8);
+            seen.count(utvpi_tests::model(n, &list, &proposed));
+        }
+    }
+    seen.must_include(&[1, 2, 3, 4, 5, 6, 9, 10], 480_000);
+}
+
+/// An input to the refutation checker, and values that meet its list where they
+/// are known.
+struct Case {
+    n: u64,
+    lines: Vec<bytes::Line>,
+    proposal: Proposal,
+    solution: Option<Vec<i64>>,
+}
+
+fn some_case(chance: &mut Chance) -> Case {
+    let n = make::variables(chance);
+    match chance.below(8) {
+        0..=2 if n > 0 => {
+            let (lines, proposal) = make::near_refutation(chance, n);
+            Case {
+                n,
+                lines,
+                proposal,
+                solution: None,
+            }
+        }
+        3 => {
+            let (lines, proposal) = make::near_false_line(chance, n);
+            Case {
+                n,
+                lines,
+                proposal,
+                solution: None,
+            }
+        }
+        4 | 5 => {
+            let count = some_lines(chance).min(512);
+            let lines = make::lines(chance, n, count);
+            let proposal = some_stroll(chance, &lines);
+            Case {
+                n,
+                lines,
+                proposal,
+                solution: None,
+            }
+        }
+        _ => {
+            let values = some_values(chance, n);
+            let count = some_lines(chance).min(512);
+            let lines = make::lines_met_by(chance, &values, count);
+            let proposal = some_stroll(chance, &lines);
+            Case {
+                n,
+                lines,
+                proposal,
+                solution: Some(values),
+            }
+        }
+    }
+}
+
+/// A walk along the lines, or if none is found some numbers without much sense.
+fn some_stroll(chance: &mut Chance, lines: &[bytes::Line]) -> Proposal {
+    for _ in 0..4 {
+        if let Some(proposal) = make::stroll(chance, lines) {
+            return proposal;
+        }
+    }
+    let mut steps = |count| {
+        (0..count)
+            .map(|_| chance.below(2 * lines.len() + 2) as u32)
+            .collect()
+    };
+    Proposal {
+        kind: 1 + lines.len() as u32 % 3,
+        first: steps(2),
+        second: steps(lines.len() % 3),
+    }
+}
+
+/// Whether small values of at most two variables meet the list.
+fn has_small_solution(n: u64, list: &[u8]) -> bool {
+    let values = |x, y| bytes::model(&[x, y][..n as usize]);
+    (-6..=6).any(|x| (-6..=6).any(|y| second::check_model(n, list, &values(x, y)) == Answer::Yes))
+}
+
+#[test]
+fn refutations() {
+    let mut chance = Chance::new(2);
+    let mut seen = Seen::default();
+    let (mut yes_of_kind, mut solvable) = ([0; 4], 0);
+    for round in 0..100_000 {
+        let Case {
+            n,
+            lines,
+            proposal,
+            solution,
+        } = some_case(&mut chance);
+        let base = Input {
+            n,
+            list: bytes::list(&lines),
+            proposed: bytes::refutation(&proposal.numbers()),
+        };
+        let mut inputs = vec![base.clone()];
+        let miscounted = bytes::refutation(&make::miscount(&mut chance, &proposal));
+        inputs.push(Input {
+            proposed: miscounted,
+            ..base.clone()
+        });
+        inputs.extend((0..5).map(|_| base.damaged(&mut chance, 4)));
+        if round % 50 == 0 {
+            let mut long = base;
+            long.proposed
+                .resize(chance.between(262_141, 262_149) as usize, 0);
+            inputs.push(long);
+        }
+        for Input { n, list, proposed } in inputs {
+            let answer = utvpi_tests::refutation(n, &list, &proposed);
+            seen.count(answer);
+            let known = solution.as_ref().is_some_and(|values| {
+                second::check_model(n, &list, &bytes::model(values)) == Answer::Yes
+            });
+            solvable += usize::from(known);
+            if answer == Answer::Yes {
+                yes_of_kind[proposed[0] as usize] += 1;
+                let shown = bytes::show(&list, 4);
+                assert!(
+                    !known,
+                    "{:?} solves n {n}, list {shown}, refuted by {proposed:?}",
+                    solution
+                );
+                if n <= 2 {
+                    assert!(
+                        !has_small_solution(n, &list),
+                        "n {n}, list {shown}, {proposed:?}"
+                    );
+                }
+            }
+        }
+    }
+    println!(
+        "yes by kind {:?}, {solvable} inputs with a known solution",
+        &yes_of_kind[1..]
+    );
+    seen.must_include(&[1, 2, 3, 4, 5, 6, 11], 700_000);
+    assert!(solvable >= 50_000);
+    assert!(
+        yes_of_kind[1..].iter().all(|&times| times >= 1_000),
+        "{yes_of_kind:?}"
+    );
+}
+
+/// Numbers with no thought behind them, and bytes with none.
+#[test]
+fn noise() {
+    let mut chance = Chance::new(3);
+    let mut seen = Seen::default();
+    for _ in 0..20_000 {
+        let n = chance.between(0, 3) as u64;
+        let list: Vec<i32> = (0..chance.between(0, 31))
+            .map(|_| chance.between(-2, 2) as i32)
+            .collect();
+        let some: Vec<u32> = (0..chance.below(9))
+            .map(|_| chance.below(4) as u32)
+            .collect();
+        let mut list = bytes::numbers(&list);
+        let mut some = bytes::refutation(&some);
+        seen.count(utvpi_tests::model(n, &list, &some));
+        seen.count(utvpi_tests::refutation(n, &list, &some));
+        list.iter_mut()
+            .chain(&mut some)
+            .for_each(|byte| *byte = chance.next() as u8);
+        seen.count(utvpi_tests::model(n, &list, &some));
+        seen.count(utvpi_tests::refutation(n, &list, &some));
+    }
+    assert!(
+        seen.inputs == 80_000 && seen.no >= 100,
+        "{} inputs, {} no",
+        seen.inputs,
+        seen.no
+    );
+}
+
+/// Calls the function on copies of the bytes that begin at any alignment, lie
+/// between other bytes, and must be left as they were.
+fn result_elsewhere(chance: &mut Chance, check: Check, input: &Input) -> i64 {
+    let around = chance.pick(&[0, 1, 255]);
+    let mut copy = |bytes: &[u8]| {
+        let before = chance.below(9);
+        let copy = [&vec![around; before], bytes, &[around; 32]].concat();
+        (copy, before..before + bytes.len())
+    };
+    let (list, list_part) = copy(&input.list);
+    let (proposed, proposed_part) = copy(&input.proposed);
+    let result = check(
+        input.n,
+        &list[list_part.clone()],
+        &proposed[proposed_part.clone()],
+    );
+    let unchanged = |whole: Vec<u8>, part: std::ops::Range<usize>, old: &[u8]| {
+        let whole = black_box(whole);
+        whole[part.clone()] == *old
+            && whole[..part.start].iter().all(|&byte| byte == around)
+            && whole[part.end..].iter().all(|&byte| byte == around)
+    };
+    assert!(
+        unchanged(list, list_part, &input.list),
+        "the list was written to"
+    );
+    assert!(
+        unchanged(proposed, proposed_part, &input.proposed),
+        "the proposal was written to"
+    );
+    result
+}
+
+/// The same answers at any alignment, from several threads, and whatever was
+/// asked before; and nothing is written.
+#[test]
+fn calls_do_not_disturb_anything() {
+    let mut chance = Chance::new(4);
+    let mut asked: Vec<(Check, Input, i64)> = Vec::new();
+    for _ in 0..2_000 {
+        let Case {
+            n, lines, proposal, ..
+        } = some_case(&mut chance);
+        let (list, values) = (bytes::list(&lines), some_values(&mut chance, n));
+        let refutation = bytes::refutation(&proposal.numbers());
+        let input = Input {
+            n,
+            list: list.clone(),
+            proposed: refutation,
+        };
+        for input in [input.damaged(&mut chance, 4), input] {
+            let due = second::check_refutation(input.n, &input.list, &input.proposed).code();
+            asked.push((library::check_refutation, input, due));
+        }
+        let input = Input {
+            n,
+            list,
+            proposed: bytes::model(&values),
+        };
+        for input in [input.damaged(&mut chance, 8), input] {
+            let due = second::check_model(input.n, &input.list, &input.proposed).code();
+            asked.push((library::check_model, input, due));
+        }
+    }
+    thread::scope(|scope| {
+        for seed in 10..14 {
+            let asked = &asked;
+            scope.spawn(move || {
+                let mut chance = Chance::new(seed);
+                for at in chance.order(asked.len()) {
+                    let (check, input, due) = &asked[at];
+                    assert_eq!(result_elsewhere(&mut chance, *check, input), *due);
+                    assert_eq!(check(input.n, &input.list, &input.proposed), *due);
+                }
+            });
+        }
+    });
+}

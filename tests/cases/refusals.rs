@@ -1,0 +1,373 @@
+//! Which input is refused, with what number and place, and which refusal is
+//! given where several apply; and which line a model's no names.
+
+use utvpi_tests::bytes::{self, Line};
+use utvpi_tests::make;
+use utvpi_tests::second::Answer::{self, No, Refused, Yes};
+use utvpi_tests::{model, refutation};
+
+const LARGEST_VALUE: i64 = 1_000_000_000_000;
+
+/// What is wrong with an input. The order here is the order in which the
+/// refusals are given, but that a line's faults go by line first.
+#[derive(Clone, Copy, Debug, PartialEq, Eq)]
+enum Fault {
+    Variables,
+    ListLength,
+    Lines,
+    Coefficient(usize),
+    Variable(usize),
+    Bound(usize),
+    ModelLength,
+    ModelValue(usize),
+    LongRefutation,
+}
+use Fault::*;
+
+impl Fault {
+    /// The refusal, and a key by which the first one to be given is the least.
+    fn refusal(self) -> ((u8, usize, u8), Answer) {
+        match self {
+            Variables => ((1, 0, 0), Refused(1, 0)),
+            ListLength => ((2, 0, 0), Refused(2, 0)),
+            Lines => ((3, 0, 0), Refused(3, 0)),
+            Coefficient(line) => ((4, line, 4), Refused(4, line)),
+            Variable(line) => ((4, line, 5), Refused(5, line)),
+            Bound(line) => ((4, line, 6), Refused(6, line)),
+            ModelLength => ((9, 0, 0), Refused(9, 0)),
+            ModelValue(index) => ((10, index, 0), Refused(10, index)),
+            LongRefutation => ((11, 0, 0), Refused(11, 0)),
+        }
+    }
+}
+
+const FAULTS: [Fault; 15] = [
+    Variables,
+    ListLength,
+    Lines,
+    Coefficient(0),
+    Variable(0),
+    Bound(0),
+    Coefficient(1),
+    Variable(1),
+    Bound(1),
+    Coefficient(511),
+    Bound(511),
+    ModelLength,
+    ModelValue(0),
+    ModelValue(63),
+    LongRefutation,
+];
+
+/// Both checkers' answers to an input with just these faults.
+fn answers(faults: &[Fault]) -> [Answer; 2] {
+    let has = |fault| faults.contains(&fault);
+    let mut lines: Vec<Line> = vec![[1, 63, -1, 0, 5]; if has(Lines) { 513 } else { 512 }];
+    let mut values = vec![LARGEST_VALUE; 64];
+    for fault in faults {
+        match *fault {
+            Coefficient(line) => lines[line][2] = 2,
+            Variable(line) => lines[line][1] = 99,
+            Bound(line) => lines[line][4] = -1_000_001,
+            ModelValue(index) => values[index] = -LARGEST_VALUE - 1,
+            _ => {}
+        }
+    }
+    if has(ModelLength) {
+        values.push(0);
+    }
+    let mut list = bytes::list(&lines);
+    if has(ListLength) {
+        list.push(0);
+    }
+    let n = if has(Variables) { 65 } else { 64 };
+    let numbers = if has(LongRefutation) { 65_537 } else { 65_536 };
+    [
+        model(n, &list, &bytes::model(&values)),
+        refutation(n, &list, &vec![0; 4 * numbers]),
+    ]
+}
+
+#[test]
+fn the_first_of_several_refusals() {
+    assert_eq!(answers(&[]), [Yes, No(0)]);
+    let mut sets: Vec<Vec<Fault>> = vec![FAULTS.to_vec()];
+    for (one, first) in FAULTS.iter().enumerate() {
+        for (two, second) in FAULTS.iter().enumerate().skip(one) {
+            sets.push(vec![*first, *second]);
+            sets.extend(
+                FAULTS[two..]
+                    .iter()
+                    .map(|third| vec![*first, *second, *third]),
+            );
+        }
+    }
+    for set in sets {
+        let due = |mut faults: Vec<Fault>, otherwise| {
+            faults.sort_by_key(|fault| fault.refusal().0);
+            faults.first().map_or(otherwise, |fault| fault.refusal().1)
+        };
+        let of_model = |fault: &Fault| *fault != LongRefutation;
+        let of_refutation = |fault: &Fault| !matches!(*fault, ModelLength | ModelValue(_));
+        let expected = [
+            due(set.iter().copied().filter(of_model).collect(), Yes),
+            due(set.iter().copied().filter(of_refutation).collect(), No(0)),
+        ];
+        assert_eq!(answers(&set), expected, "{set:?}");
+    }
+}
+
+#[test]
+fn too_many_variables() {
+    for n in [
+        65,
+        66,
+        127,
+        128,
+        255,
+        256,
+        1 << 16,
+        1 << 31,
+        1 << 32,
+        (1 << 32) + 1,
+        1 << 61,
+        1 << 63,
+        u64::MAX,
+    ] {
+        // The list is otherwise right, empty, of a broken length, or too long.
+        for list in [
+            vec![0; 20],
+            vec![],
+            vec![0; 19],
+            vec![9; 20 * 513],
+            vec![255; 20],
+        ] {
+            for bytes in [0, 8, 12, 8 * 65] {
+                assert_eq!(model(n, &list, &vec![0; bytes]), Refused(1, 0));
+                assert_eq!(refutation(n, &list, &vec![0; bytes]), Refused(1, 0));
+            }
+        }
+    }
+    for n in 0..=64 {
+        assert_eq!(model(n, &[], &vec![0; 8 * n as usize]), Yes);
+        assert_eq!(refutation(n, &[], &[]), No(0));
+    }
+}
+
+#[test]
+fn coefficients_and_variables() {
+    for coefficient in [
+        -2,
+        2,
+        3,
+        127,
+        128,
+        255,
+        256,
+        257,
+        65_535,
+        65_537,
+        i32::MIN,
+        i32::MIN + 1,
+        i32::MAX,
+    ] {
+        for line in [
+            [coefficient, 0, 0, 0, 0],
+            [0, 0, coefficient, 0, 0],
+            [1, 7, coefficient, 99, i32::MAX],
+        ] {
+            let list = bytes::list(&[[1, 0, 1, 1, 0], line]);
+            assert_eq!(model(2, &list, &[0; 16]), Refused(4, 1));
+            assert_eq!(refutation(2, &list, &[]), Refused(4, 1));
+        }
+    }
+    // Every number of variables, with every variable's number about it.
+    for n in 0..=64 {
+        for variable in -1..=66 {
+            let there = variable >= 0 && variable < n;
+            for sign in [-1, 1] {
+                for line in [[sign, variable, 0, 0, 0], [0, 0, sign, variable, 0]] {
+                    let expected = if there { Yes } else { Refused(5, 0) };
+                    let values = vec![0; 8 * n as usize];
+                    assert_eq!(model(n as u64, &bytes::list(&[line]), &values), expected);
+                }
+            }
+            // Beside the coefficient 0 only the number 0 stands, even if n is 0.
+            for line in [[0, variable, 0, 0, 0], [0, 0, 0, variable, 0]] {
+                let expected = if variable == 0 { No(0) } else { Refused(5, 0) };
+                assert_eq!(refutation(n as u64, &bytes::list(&[line]), &[]), expected);
+            }
+        }
+    }
+}
+
+#[test]
+fn bounds_at_their_limits() {
+    for d in [-1_000_000, -999_999, 999_999, 1_000_000] {
+        assert_eq!(refutation(1, &bytes::list(&[[1, 0, 1, 0, d]]), &[]), No(0));
+    }
+    for d in [
+        -1_000_001,
+        1_000_001,
+        -(1 << 24),
+        1 << 24,
+        i32::MIN,
+        i32::MAX,
+    ] {
+        assert_eq!(
+            refutation(1, &bytes::list(&[[1, 0, 1, 0, d]]), &[]),
+            Refused(6, 0)
+        );
+        assert_eq!(
+            model(1, &bytes::list(&[[0, 0, 0, 0, d]]), &[0; 8]),
+            Refused(6, 0)
+        );
+    }
+}
+
+#[test]
+fn the_length_of_a_model() {
+    for n in 0..=64 {
+        let right = 8 * n as usize;
+        for bytes in [
+            0,
+            1,
+            4,
+            7,
+            8,
+            9,
+            right.saturating_sub(1),
+            right,
+            right + 1,
+            right + 8,
+            2 * right,
+            4096,
+        ] {
+            let expected = if bytes == right { Yes } else { Refused(9, 0) };
+            assert_eq!(
+                model(n, &bytes::list(&[[0, 0, 0, 0, 0]]), &vec![0; bytes]),
+                expected
+            );
+            // Values beyond the limits come after the length.
+            if bytes != right {
+                assert_eq!(model(n, &[], &vec![127; bytes]), Refused(9, 0));
+            }
+        }
+    }
+}
+
+#[test]
+fn the_values_of_a_model() {
+    let line = bytes::list(&[[1, 0, -1, 63, 0]]);
+    for value in [LARGEST_VALUE, -LARGEST_VALUE] {
+        assert_eq!(model(64, &line, &bytes::model(&[value; 64])), Yes);
+    }
+    for value in [
+        LARGEST_VALUE + 1,
+        -LARGEST_VALUE - 1,
+        i64::MAX,
+        i64::MIN,
+        1 << 40,
+        1 << 62,
+    ] {
+        for index in 0..64 {
+            let mut values = [0; 64];
+            values[index] = value;
+            assert_eq!(model(64, &line, &bytes::model(&values)), Refused(10, index));
+            // The lowest index is given, whatever stands above it.
+            values[index..].fill(value);
+            assert_eq!(model(64, &line, &bytes::model(&values)), Refused(10, index));
+            values[63] = -value.max(-i64::MAX);
+            values[index] = value;
+            assert_eq!(model(64, &line, &bytes::model(&values)), Refused(10, index));
+        }
+    }
+}
+
+#[test]
+fn the_length_of_a_refutation() {
+    let lines = bytes::list(&[[0, 0, 0, 0, -1]]);
+    let bad = bytes::list(&[[0, 0, 0, 0, -1], [0, 1, 0, 0, 0]]);
+    let right = bytes::refutation(&[3, 1, 0, 0]);
+    // Bytes that are no multiple of four: a no, and after the list's refusals.
+    for bytes in 0..40 {
+        let mut proposed = right.clone();
+        proposed.resize(bytes, 0);
+        let expected = if bytes == 16 { Yes } else { No(0) };
+        assert_eq!(refutation(0, &lines, &proposed), expected, "{bytes} bytes");
+        assert_eq!(
+            refutation(0, &bad, &proposed),
+            Refused(5, 1),
+            "{bytes} bytes"
+        );
+    }
+    for bytes in [262_137, 262_140, 262_141, 262_142, 262_143, 262_144] {
+        assert_eq!(
+            refutation(0, &lines, &vec![0; bytes]),
+            No(0),
+            "{bytes} bytes"
+        );
+        assert_eq!(
+            refutation(0, &bad, &vec![0; bytes]),
+            Refused(5, 1),
+            "{bytes} bytes"
+        );
+    }
+    for bytes in [
+        262_145,
+        262_146,
+        262_147,
+        262_148,
+        262_149,
+        300_000,
+        1 << 20,
+    ] {
+        assert_eq!(
+            refutation(0, &lines, &vec![0; bytes]),
+            Refused(11, 0),
+            "{bytes} bytes"
+        );
+        assert_eq!(
+            refutation(0, &bad, &vec![0; bytes]),
+            Refused(5, 1),
+            "{bytes} bytes"
+        );
+        assert_eq!(
+            refutation(0, &lines[..19], &vec![0; bytes]),
+            Refused(2, 0),
+            "{bytes} bytes"
+        );
+    }
+}
+
+#[test]
+fn the_first_line_that_a_model_fails() {
+    for first in 0..512 {
+        let mut lines: Vec<Line> = vec![[1, 0, 1, 1, 0]; 512];
+        lines[first] = [0, 0, -1, 0, -1];
+        assert_eq!(model(2, &bytes::list(&lines), &[0; 16]), No(first));
+        lines[first..].fill([-1, 0, 1, 1, -1]);
+        assert_eq!(model(2, &bytes::list(&lines), &[0; 16]), No(first));
+    }
+}
+
+#[test]
+fn the_left_side_of_a_line() {
+    let values = [LARGEST_VALUE, -LARGEST_VALUE, 999_999, -500_000, 1, 0];
+    for a in [-1, 0, 1] {
+        for b in [-1, 0, 1] {
+            for x in 0..if a == 0 { 1 } else { 6 } {
+                for y in 0..if b == 0 { 1 } else { 6 } {
+                    let left = make::left_side(&[a, x, b, y, 0], &values);
+                    for d in [left - 1, left, left + 1, -1_000_000, 1_000_000] {
+                        if d.abs() <= 1_000_000 {
+                            let list = bytes::list(&[[0, 0, 0, 0, 0], [a, x, b, y, d as i32]]);
+                            let expected = if left <= d { Yes } else { No(1) };
+                            assert_eq!(model(6, &list, &bytes::model(&values)), expected);
+                        }
+                    }
+                }
+            }
+        }
+    }
+}

@@ -1,0 +1,137 @@
+//! Damages input in all the ways in which a file or a program may get it wrong.
+
+use crate::chance::Chance;
+
+/// Numbers at which a wrong width or a wrong limit shows.
+const EXTREMES: [i64; 12] = [
+    0,
+    -1,
+    1 << 16,
+    1 << 30,
+    (1 << 31) - 1,
+    1 << 31,
+    i64::MIN,
+    i64::MAX,
+    -1_000_000_000_001,
+    -1_000_000_000_000,
+    1_000_000_000_000,
+    1_000_000_000_001,
+];
+
+/// What one call is given: the model or the refutation is `proposed`.
+#[derive(Clone)]
+pub struct Input {
+    pub n: u64,
+    pub list: Vec<u8>,
+    pub proposed: Vec<u8>,
+}
+
+impl Input {
+    /// The same with one damage, at times two. A number in `proposed` takes
+    /// `width` bytes.
+    pub fn damaged(&self, chance: &mut Chance, width: usize) -> Input {
+        let mut input = self.clone();
+        loop {
+            match chance.below(10) {
+                0 => input.n = other_count(chance, input.n),
+                1..=4 => damage_list(chance, &mut input.list),
+                _ => damage_numbers(chance, &mut input.proposed, width),
+            }
+            if !chance.one_in(4) {
+                return input;
+            }
+        }
+    }
+}
+
+/// Another number of variables.
+fn other_count(chance: &mut Chance, n: u64) -> u64 {
+    // With 2^61 more, 8n is the same if its high bits are dropped.
+    match chance.below(4) {
+        0 => n.wrapping_add(1),
+        1 => n.wrapping_sub(1),
+        2 => n.wrapping_add(chance.pick(&[256, 1 << 32, 1 << 61, 1 << 63])),
+        _ => chance.pick(&[0, 64, 65, u64::MAX]),
+    }
+}
+
+/// Damages whole lines, or numbers.
+fn damage_list(chance: &mut Chance, list: &mut Vec<u8>) {
+    let lines = list.len() / 20;
+    if lines == 0 || !chance.one_in(4) {
+        return damage_numbers(chance, list, 4);
+    }
+    let at = 20 * chance.below(lines);
+    let line: Vec<u8> = list[at..at + 20].to_vec();
+    match chance.below(6) {
+        0 => drop(list.drain(at..at + 20)),
+        1 => drop(list.splice(at..at, line)),
+        2 => swap(list, at, 20 * chance.below(lines), 20),
+        // As many copies of a line as are let in, or a few more.
+        3 => {
+            let count = chance.between(511, 514) as usize;
+            *list = [&list[..], &line.repeat(count.saturating_sub(lines))].concat();
+        }
+        // A bound at the limits or just beyond.
+        4 => {
+            let bound = chance.pick(&[-1_000_001, -1_000_000, 1_000_000, 1_000_001_i32]);
+            list[at + 16..at + 20].copy_from_slice(&bound.to_le_bytes());
+        }
+        // The number of a variable that is just not there, or of one beside 0.
+        _ => {
+            let place = at + chance.pick(&[4, 12]);
+            let variable = chance.pick(&[-1, 1, 63, 64, 65, 256, 65_536_i32]);
+            list[place..place + 4].copy_from_slice(&variable.to_le_bytes());
+        }
+    }
+}
+
+/// Damages numbers of `width` bytes each.
+fn damage_numbers(chance: &mut Chance, bytes: &mut Vec<u8>, width: usize) {
+    let numbers = bytes.len() / width;
+    if numbers == 0 || chance.one_in(8) {
+        let count = if chance.one_in(2) {
+            width
+        } else {
+            chance.below(24)
+        };
+        let more = (0..count).map(|_| chance.next() as u8 & 3);
+        return bytes.extend(more.collect::<Vec<u8>>());
+    }
+    let at = width * chance.below(numbers);
+    let other = width * chance.below(numbers);
+    let number: Vec<u8> = bytes[at..at + width].to_vec();
+    match chance.below(14) {
+        0 => bytes.truncate(bytes.len() - chance.between(1, bytes.len().min(24) as i64) as usize),
+        1 => drop(bytes.drain(at..at + chance.between(1, width as i64) as usize)),
+        2 => drop(bytes.drain(at.min(other)..at.max(other))),
+        3 => bytes.insert(at, chance.next() as u8),
+        4 => bytes[at + chance.below(width)] ^= 1 << chance.below(8),
+        5 => bytes[at + chance.below(width)] = chance.next() as u8,
+        6 | 7 => add(bytes, at, width, chance.pick(&[1, -1])),
+        8 => swap(bytes, at, other, width),
+        9 => drop(bytes.splice(at..at, number)),
+        10 => drop(bytes.drain(at..at + width)),
+        11 => bytes[at..at + width].reverse(),
+        12 => {
+            let extreme = chance.pick(&EXTREMES);
+            bytes[at..at + width].copy_from_slice(&extreme.to_le_bytes()[..width]);
+        }
+        _ => bytes[at..].fill(chance.pick(&[0, 255])),
+    }
+}
+
+/// Adds to the number at this byte.
+fn add(bytes: &mut [u8], at: usize, width: usize, what: i64) {
+    let mut eight = [0; 8];
+    eight[..width].copy_from_slice(&bytes[at..at + width]);
+    let number = i64::from_le_bytes(eight).wrapping_add(what);
+    bytes[at..at + width].copy_from_slice(&number.to_le_bytes()[..width]);
+}
+
+/// Swaps two stretches, which are one and the same or lie apart.
+fn swap(bytes: &mut [u8], one: usize, other: usize, width: usize) {
+    for at in 0..width {
+        bytes.swap(one + at, other + at);
+    }
+}

@@ -1,0 +1,49 @@
+//! What the tests share: the library under test, a second implementation to
+//! hold it to, and the means to make input for both and to damage it.
+
+pub mod bytes;
+pub mod chance;
+pub mod damage;
+pub mod library;
+pub mod make;
+pub mod second;
+
+use second::Answer;
+
+/// The answer on a model, after making sure that the library and the second
+/// implementation agree on it.
+pub fn model(n: u64, list: &[u8], model: &[u8]) -> Answer {
+    let answer = second::check_model(n, list, model);
+    let result = library::check_model(n, list, model);
+    if result != answer.code() {
+        differ(result, answer, n, list, "model", bytes::show(model, 8));
+    }
+    answer
+}
+
+/// The answer on a refutation, after making sure that the library and the
+/// second implementation agree on it.
+pub fn refutation(n: u64, list: &[u8], refutation: &[u8]) -> Answer {
+    let answer = second::check_refutation(n, list, refutation);
+    let result = library::check_refutation(n, list, refutation);
+    if result != answer.code() {
+        differ(
+            result,
+            answer,
+            n,
+            list,
+            "refutation",
+            bytes::show(refutation, 4),
+        );
+    }
+    answer
+}
+
+fn differ(result: i64, answer: Answer, n: u64, list: &[u8], name: &str, proposed: String) -> ! {
+    panic!(
+        "the library returns {result} and the second implementation {} ({answer:?})\n\
+         n: {n}\nlist: {}\n{name}: {proposed}",
+        answer.code(),
+        bytes::show(list, 4)
+    );
+}
