@@ -24,7 +24,7 @@ use Rattle.refutation.specs.declared.RefutationAnswer.the-variants.{No}
 use Rattle.refutation.specs.Answer.{refutationAnswer}
 use Rattle.refutation.specs.Places as refutation
 use Rattle.c_interface.specs.Codes.{refusalUnit}
-use Rattle.c_interface.specs.Calls.{numberBytes, valueBytes, bytesValidity, modelOfValues, refutationOfNumbers}
+use Rattle.c_interface.specs.Calls.{numberBytes, valueBytes, bytesValidity, modelOfValues, refutationOfNumbers, modelOfBytes, refutationOfBytes}
 
 -- the answer on a list in bytes, and its numbers where it is valid
 pub record Decoded (n : ℕ) (b : List ℕ) (out : List ℤ) (r : Validity) : Type 0 where
@@ -81,3 +81,11 @@ refutation-below n L r =
     go : (t : Bool) → refutation.Below refusalUnit (cond t (refutationAnswer n L (nat32s r)) No)
     go true = refutation.answer-below refusalUnit (omega arith) n L (nat32s r)
     go false = tt
+
+pub model-bytes-below : (n : ℕ) (b m : List ℕ) → model.Below refusalUnit (modelOfBytes n b m)
+unfolding modelOfBytes
+model-bytes-below n b m = model.below-unless refusalUnit _ _ (bytes-placed n b) (λ _. model-below n (int32s b) m)
+
+pub refutation-bytes-below : (n : ℕ) (b r : List ℕ) → refutation.Below refusalUnit (refutationOfBytes n b r)
+unfolding refutationOfBytes
+refutation-bytes-below n b r = refutation.below-unless refusalUnit _ _ (bytes-placed n b) (refutation-below n (int32s b) r)

@@ -1,9 +1,11 @@
 // The checkers called on buffers that are lent for writing: each answers what its definition says, and leaves every
 // buffer as it was.
-use c_interface::{utvpi_check_model, utvpi_check_refutation};
-use model::{ModelAnswer, check_model};
-use refutation::{RefutationAnswer, check_refutation};
-
+use c_interface::utvpi_check_model;
+use c_interface::utvpi_check_refutation;
+use model::ModelAnswer;
+use model::check_model;
+use refutation::RefutationAnswer;
+use refutation::check_refutation;
 ghost use mathlib.Core.Path.{_≡_};
 ghost use Rattle.model.specs.Model.{modelAnswer};
 ghost use Rattle.refutation.specs.Answer.{refutationAnswer};
@@ -17,7 +19,11 @@ pub fn model_check_only_reads(n: usize, list: &mut [i32], model: &mut [i64]) -> 
     check_model(n, list, model)
 }
 
-pub fn refutation_check_only_reads(n: usize, list: &mut [i32], refutation: &mut [u32]) -> RefutationAnswer
+pub fn refutation_check_only_reads(
+    n: usize,
+    list: &mut [i32],
+    refutation: &mut [u32],
+) -> RefutationAnswer
     ensures answer { λ r. ⌜ r ≡ refutationAnswer n (now (list .entry)) (now (refutation .entry)) ⌝ }
     ensures list_kept { λ _. ⌜ now (list .exit) ≡ now (list .entry) ⌝ }
     ensures refutation_kept { λ _. ⌜ now (refutation .exit) ≡ now (refutation .entry) ⌝ }

@@ -15,8 +15,9 @@ use Rattle.steps.specs.Point.{opposite}
 use Rattle.steps.specs.Step.{stepNumbered}
 use Rattle.steps.specs.Walk.{Path, Names}
 use Rattle.refutation.specs.declared.Progress.{Progress}
+use Rattle.refutation.specs.Small.{advance-read}
 use Rattle.refutation.specs.Progress.{headSize, joins, turns, along, walkOn, advance, run}
-use Rattle.soundness.specs.Run.{advance-next, body-same, advance-walk, endAfter, left, along-u, along-here, along-first-u, Headed}
+use Rattle.soundness.specs.Run.{body-same, advance-walk, endAfter, left, along-u, along-here, along-first-u, Headed}
 
 or-left : (a b : Bool) → a ≡ true → (a || b) ≡ true
 or-left a b e = ap (λ (t : Bool). t || b) e
@@ -64,7 +65,7 @@ stays-good L n s (r ∷ ks) (t ∷ ts) v e h k g names path turn =
     let l : headSize ≤ s .read = omega arith in
     let i = is-along L s r t l k (names .0) in
     let same = body-same L s r l in
-    let count = advance-next L s r .0 in
+    let count = advance-read L s r in
     let here : y .here ≡ t .to = ap (λ (x : Progress). x .here) i ∙ along-here s t in
     let u : y .u ≡ s .u = ap (λ (x : Progress). x .u) i ∙ along-u s t h in
     let good : y .good ≡ true = good-along L s r t l k (names .0) g (joins-here s (t .from) (path .0)) (turns-ok s (along s t .u) (t .to) (λ a b. turn-here n e turn a b ∙ ap opposite (sym (along-u s t h)))) in
@@ -90,7 +91,7 @@ body-good L s (r ∷ ks) (t ∷ ts) u v h k g l names path turn =
     let b : headSize ≤ s .read = omega (arith, h .read) in
     let i = is-along L s r t b k (names .0) in
     let same = body-same L s r b in
-    let count = advance-next L s r .0 in
+    let count = advance-read L s r in
     let here : y .here ≡ t .to = ap (λ (x : Progress). x .here) i ∙ along-here s t in
     let at : along s t .u ≡ t .from = along-first-u s t (h .read) in
     let good : y .good ≡ true = good-along L s r t b k (names .0) g (joins-first s (t .from) (h .read)) (turns-ok s (along s t .u) (t .to) (λ a c. turn-here (s .p) refl turn a c ∙ ap opposite (path .0 ∙ sym at))) in

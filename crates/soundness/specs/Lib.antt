@@ -3,3 +3,4 @@ pub mod Run
 pub mod Good
 pub mod Meaning
 pub mod Sound
+pub mod Answered

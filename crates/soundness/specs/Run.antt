@@ -18,44 +18,36 @@ use Rattle.steps.specs.Point.{opposite}
 use Rattle.steps.specs.Step.{stepNumbered}
 use Rattle.steps.specs.Walk.{Path, total, Names}
 use Rattle.refutation.specs.declared.Progress.{Progress}
+use Rattle.refutation.specs.Small.{either, advance-read}
 use Rattle.refutation.specs.Progress.{headSize, countsOk, isFalseStep, headOn, onlyIf, joins, turns, along, walkOn, advance, run}
 
 pub no-true : false ≡ true → ⊥
 no-true e = subst T (sym e) tt
 
-both : (P : Progress → Type 0) (t : Bool) (a b : Progress) → P a → P b → P (cond t a b)
-both P true a b x y = x
-both P false a b x y = y
+-- ---- whatever is read, what was not good stays so
+From : Progress → Progress → Type 0
+From s x = x .good ≡ true → s .good ≡ true
 
--- ---- whatever is read, it counts as one number, and what was not good stays so
-Next : Progress → Progress → Type 0
-Next s x = (x .read ≡ s .read + 1) × (x .good ≡ true → s .good ≡ true)
-
-next-only : (s : Progress) (b : Bool) → Next s (onlyIf s b)
-unfolding Next
-next-only s b = (refl, λ e. and-true (s .good) b e .0)
-
-pub advance-next : (L : List ℤ) (s : Progress) (r : ℕ) → (advance L s r .read ≡ s .read + 1) × (advance L s r .good ≡ true → s .good ≡ true)
-unfolding advance Next headOn along
-advance-next L s r =
-    both (Next s) (ltb (s .read) headSize) _ _ head (both (Next s) (eqb (s .kind) 3) _ _ (next-only s _) (walk (stepNumbered L r)))
+pub advance-good : (L : List ℤ) (s : Progress) (r : ℕ) → advance L s r .good ≡ true → s .good ≡ true
+unfolding advance From headOn along
+advance-good L s r = either (From s) (ltb (s .read) headSize) head (either (From s) (eqb (s .kind) 3) (λ e. and-true (s .good) _ e .0) (walk (stepNumbered L r)))
   where
-    head : Next s (headOn s r)
-    head = both (Next s) (eqb (s .read) 0) _ _ (refl, λ e. e) (both (Next s) (eqb (s .read) 1) _ _ (refl, λ e. e) (refl, λ e. and-true (s .good) _ e .0))
+    head : From s (headOn s r)
+    head = either (From s) (eqb (s .read) 0) (λ e. e) (either (From s) (eqb (s .read) 1) (λ e. e) (λ e. and-true (s .good) _ e .0))
 
-    walk : (t : NamedStep) → Next s (walkOn s t)
-    walk (Found t) = (refl, λ e. and-true (s .good) _ e .0)
-    walk Nothing = next-only s false
+    walk : (t : NamedStep) → From s (walkOn s t)
+    walk (Found t) = λ e. and-true (s .good) _ e .0
+    walk Nothing = λ e. and-true (s .good) _ e .0
 
 pub run-read : (L : List ℤ) (s : Progress) (R : List ℕ) → run L s R .read ≡ s .read + length R
 unfolding run
 run-read L s [] = omega arith
-run-read L s (r ∷ R) = run-read L (advance L s r) R ∙ omega (arith, advance-next L s r .0)
+run-read L s (r ∷ R) = run-read L (advance L s r) R ∙ omega (arith, advance-read L s r)
 
 pub run-good : (L : List ℤ) (s : Progress) (R : List ℕ) → run L s R .good ≡ true → s .good ≡ true
 unfolding run
 run-good L s [] e = e
-run-good L s (r ∷ R) e = advance-next L s r .1 (run-good L (advance L s r) R e)
+run-good L s (r ∷ R) e = advance-good L s r (run-good L (advance L s r) R e)
 
 -- ---- after the head
 pub record Same (s x : Progress) : Type 0 where
@@ -66,7 +58,7 @@ pub record Same (s x : Progress) : Type 0 where
 pub body-same : (L : List ℤ) (s : Progress) (r : ℕ) → headSize ≤ s .read → Same s (advance L s r)
 unfolding advance along
 body-same L s r h =
-    rw (le-ltb (s .read) headSize h) (both (Same s) (eqb (s .kind) 3) _ _ (record { kind = refl; p = refl; q = refl }) (walk (stepNumbered L r)))
+    rw (le-ltb (s .read) headSize h) (either (Same s) (eqb (s .kind) 3) (record { kind = refl; p = refl; q = refl }) (walk (stepNumbered L r)))
   where
     walk : (t : NamedStep) → Same s (walkOn s t)
     walk (Found t) = record { kind = refl; p = refl; q = refl }
@@ -77,7 +69,7 @@ unfolding run
 run-same L s [] h = record { kind = refl; p = refl; q = refl }
 run-same L s (r ∷ R) h =
     let a = body-same L s r h in
-    let b = run-same L (advance L s r) R (omega (arith, advance-next L s r .0)) in
+    let b = run-same L (advance L s r) R (omega (arith, advance-read L s r)) in
     record { kind = b .kind ∙ a .kind; p = b .p ∙ a .p; q = b .q ∙ a .q }
 
 -- a number of a walk
@@ -233,17 +225,17 @@ onward L n s [] e h k g =
 onward L n s (r ∷ ks) e h k g =
     let y = advance L s r in
     let same = body-same L s r (omega arith) in
-    let count = advance-next L s r .0 in
+    let count = advance-read L s r in
     go n e (λ m q. onward L m y ks q (omega arith) (λ z. k (sym (same .kind) ∙ z)) g)
   where
     go : (n : ℕ) → left s ≡ n → ((m : ℕ) → left (advance L s r) ≡ m → Onward L m (advance L s r) ks (run L (advance L s r) ks)) → Onward L n s (r ∷ ks) (run L (advance L s r) ks)
     go zero e rest =
         let st = good-step L s r (omega arith) k (run-good L (advance L s r) ks g) in
-        before-second L s r ks _ h st e (rest 0 (omega (arith, body-same L s r (omega arith) .p, advance-next L s r .0)))
+        before-second L s r ks _ h st e (rest 0 (omega (arith, body-same L s r (omega arith) .p, advance-read L s r)))
     go (suc m) e rest =
         let st = good-step L s r (omega arith) k (run-good L (advance L s r) ks g) in
         let same = body-same L s r (omega arith) in
-        before-first L s r ks _ h st m e (same .kind) (rest m (omega (arith, same .p, advance-next L s r .0)))
+        before-first L s r ks _ h st m e (same .kind) (rest m (omega (arith, same .p, advance-read L s r)))
 
 -- ---- the whole walk, from the first step on
 pub record Body (L : List ℤ) (s : Progress) (ks : List ℕ) (f : Progress) : Type 0 where
@@ -307,6 +299,6 @@ body L s r ks h k g = go (s .p) refl (h .some)
     go (suc p) e l =
         let st = good-step L s r (omega (arith, h .read)) k (run-good L (advance L s r) ks g) in
         let same = body-same L s r (omega (arith, h .read)) in
-        let count = advance-next L s r .0 in
+        let count = advance-read L s r in
         first-before L s r ks _ h st p e (same .kind)
         (onward L p (advance L s r) ks (omega (arith, h .read, same .p, count)) (omega (arith, h .read, count)) (λ z. k (sym (same .kind) ∙ z)) g)

@@ -1,0 +1,143 @@
+-- The numbers returned tell the answers apart, and what a returned yes says of the bytes.
+use mathlib.Core.Path.{_≡_, refl, sym, ap, ap₂, _∙_}
+use mathlib.Core.Logic.{_↔_}
+use mathlib.Core.Bool.{Bool, true, false, cond}
+use mathlib.Core.List.{List}
+use Prim.Native.Nat.{ℕ, _+_, _*_, _%_, _<_, _≤_}
+use native.Mathlib.Omega.{arith}
+use borrow.Author.Tests.{ltb-false, le-ltb, eqb-true, eq-eqb}
+use lib.Dec.{eqb, ltb}
+use lib.IntN.{ℤ, pos, negℤ}
+use lib.ListN.{length}
+use Rattle.integers.specs.Linear.{ints}
+use Rattle.integers.specs.Laws.{never}
+use Rattle.lines.specs.declared.Refusal.{Refusal}
+use Rattle.lines.specs.declared.Refusal.the-variants.{TooManyVariables, BrokenLength, TooManyLines, BadCoefficient, BadVariable, BadConstant, ShortOutput, ShortWorkArea, WrongModelLength, BadValue, LongRefutation}
+use Rattle.lines.specs.declared.Validity.{Validity}
+use Rattle.lines.specs.declared.Validity.the-variants as validity
+use Rattle.lines.specs.Limits.{maxRefutation}
+use Rattle.lines.specs.Refusal.{numberOf, placeOf, refuseIf}
+use Rattle.lines.specs.Valid.{not-refused}
+use Rattle.little_endian.specs.Bytes.{int32s, nat32s}
+use Rattle.model.specs.declared.ModelAnswer.{ModelAnswer}
+use Rattle.model.specs.declared.ModelAnswer.the-variants.{Yes, No, Refused}
+use Rattle.model.specs.Places as model
+use Rattle.refutation.specs.declared.RefutationAnswer.{RefutationAnswer}
+use Rattle.refutation.specs.declared.RefutationAnswer.the-variants as answer
+use Rattle.refutation.specs.Answer.{unlessRefused, refutationAnswer}
+use Rattle.refutation.specs.Places as refutation
+use Rattle.c_interface.specs.Codes.{noCode, refusalUnit, refusalCode, modelCode, refutationCode}
+use Rattle.c_interface.specs.Calls.{numberBytes, bytesValidity, refutationOfNumbers, refutationOfBytes, checkRefutation}
+
+-- ---- a refusal is known by its number and place
+refusalOf : ℕ → ℕ → Refusal
+refusalOf n k =
+    cond (eqb n 1) TooManyVariables
+    (cond (eqb n 2) BrokenLength
+    (cond (eqb n 3) TooManyLines
+    (cond (eqb n 4) (BadCoefficient k)
+    (cond (eqb n 5) (BadVariable k)
+    (cond (eqb n 6) (BadConstant k)
+    (cond (eqb n 7) (ShortOutput k)
+    (cond (eqb n 8) ShortWorkArea
+    (cond (eqb n 9) WrongModelLength
+    (cond (eqb n 10) (BadValue k) LongRefutation)))))))))
+
+refusal-back : (r : Refusal) → refusalOf (numberOf r) (placeOf r) ≡ r
+unfolding refusalOf
+refusal-back TooManyVariables = refl
+refusal-back BrokenLength = refl
+refusal-back TooManyLines = refl
+refusal-back (BadCoefficient k) = refl
+refusal-back (BadVariable k) = refl
+refusal-back (BadConstant k) = refl
+refusal-back (ShortOutput k) = refl
+refusal-back ShortWorkArea = refl
+refusal-back WrongModelLength = refl
+refusal-back (BadValue k) = refl
+refusal-back LongRefutation = refl
+
+number-some : (r : Refusal) → 0 < numberOf r
+number-some TooManyVariables = omega arith
+number-some BrokenLength = omega arith
+number-some TooManyLines = omega arith
+number-some (BadCoefficient k) = omega arith
+number-some (BadVariable k) = omega arith
+number-some (BadConstant k) = omega arith
+number-some (ShortOutput k) = omega arith
+number-some ShortWorkArea = omega arith
+number-some WrongModelLength = omega arith
+number-some (BadValue k) = omega arith
+number-some LongRefutation = omega arith
+
+same-number : (a b : ℕ) → negℤ (pos a) ≡ negℤ (pos b) → a ≡ b
+same-number a b = simp ints (omega arith)
+
+not-negative : (a b : ℕ) → 0 < a → pos b ≡ negℤ (pos a) → ⊥
+not-negative a b = simp ints (omega arith)
+
+-- refusals with one code are one refusal; no other answer has its code
+refusals-apart : (r s : Refusal) → placeOf r < refusalUnit → placeOf s < refusalUnit → refusalCode r ≡ refusalCode s → r ≡ s
+unfolding refusalCode
+refusals-apart r s h k e =
+    let q : numberOf r * refusalUnit + placeOf r ≡ numberOf s * refusalUnit + placeOf s = same-number _ _ e in
+    let n : numberOf r ≡ numberOf s = omega arith in
+    let p : placeOf r ≡ placeOf s = omega arith in
+    sym (refusal-back r) ∙ ap₂ refusalOf n p ∙ refusal-back s
+
+no-refusal : (n : ℕ) (r : Refusal) → pos n ≡ refusalCode r → ⊥
+unfolding refusalCode
+no-refusal n r = not-negative (numberOf r * refusalUnit + placeOf r) n (omega (arith, number-some r))
+
+same-pos : (a b : ℕ) → pos a ≡ pos b → a ≡ b
+same-pos a b = simp ints (omega arith)
+
+-- no two answers have one number
+pub models-apart : (a b : ModelAnswer) → model.Below refusalUnit a → model.Below refusalUnit b → modelCode a ≡ modelCode b → a ≡ b
+models-apart Yes Yes h k e = refl
+models-apart Yes (No j) h k e = let q : 0 ≡ noCode + j = same-pos _ _ e in absurd (omega arith)
+models-apart Yes (Refused s) h k e = absurd (no-refusal 0 s e)
+models-apart (No i) Yes h k e = let q : noCode + i ≡ 0 = same-pos _ _ e in absurd (omega arith)
+models-apart (No i) (No j) h k e = let q : noCode + i ≡ noCode + j = same-pos _ _ e in let p : i ≡ j = omega arith in ap No p
+models-apart (No i) (Refused s) h k e = absurd (no-refusal (noCode + i) s e)
+models-apart (Refused r) Yes h k e = absurd (no-refusal 0 r (sym e))
+models-apart (Refused r) (No j) h k e = absurd (no-refusal (noCode + j) r (sym e))
+models-apart (Refused r) (Refused s) h k e = ap Refused (refusals-apart r s h k e)
+
+pub refutations-apart : (a b : RefutationAnswer) → refutation.Below refusalUnit a → refutation.Below refusalUnit b → refutationCode a ≡ refutationCode b → a ≡ b
+refutations-apart answer.Yes answer.Yes h k e = refl
+refutations-apart answer.Yes answer.No h k e = let q : 0 ≡ noCode = same-pos _ _ e in absurd (omega arith)
+refutations-apart answer.Yes (answer.Refused s) h k e = absurd (no-refusal 0 s e)
+refutations-apart answer.No answer.Yes h k e = let q : noCode ≡ 0 = same-pos _ _ e in absurd (omega arith)
+refutations-apart answer.No answer.No h k e = refl
+refutations-apart answer.No (answer.Refused s) h k e = absurd (no-refusal noCode s e)
+refutations-apart (answer.Refused r) answer.Yes h k e = absurd (no-refusal 0 r (sym e))
+refutations-apart (answer.Refused r) answer.No h k e = absurd (no-refusal noCode r (sym e))
+refutations-apart (answer.Refused r) (answer.Refused s) h k e = ap answer.Refused (refusals-apart r s h k e)
+
+-- ---- a returned yes is the checker's yes on the numbers
+module _ (n : ℕ) (b r : List ℕ) where
+  code-yes : (a : RefutationAnswer) → refutationCode a ≡ pos 0 → a ≡ answer.Yes
+  code-yes answer.Yes e = refl
+  code-yes answer.No e = let q : noCode ≡ 0 = same-pos _ _ e in absurd (omega arith)
+  code-yes (answer.Refused s) e = absurd (no-refusal 0 s (sym e))
+
+  unless-yes : (v : Validity) (a : RefutationAnswer) → unlessRefused v a ≡ answer.Yes → (v ≡ validity.Valid) × (a ≡ answer.Yes)
+  unless-yes validity.Valid a e = (refl, e)
+  unless-yes (validity.Refused s) a e = never (cc)
+
+  whole-yes : (t : Bool) (a : RefutationAnswer) → cond t a answer.No ≡ answer.Yes → (t ≡ true) × (a ≡ answer.Yes)
+  whole-yes true a e = (refl, e)
+  whole-yes false a e = never (cc)
+
+  pub returned-yes : (checkRefutation n b r ≡ pos 0)
+      ↔ ((bytesValidity n b ≡ validity.Valid) × (length r ≤ numberBytes * maxRefutation) × (length r % numberBytes ≡ 0) × (refutationAnswer n (int32s b) (nat32s r) ≡ answer.Yes))
+  unfolding refutationOfBytes refutationOfNumbers
+  returned-yes = (
+    (λ e.
+        let u = unless-yes (bytesValidity n b) (refutationOfNumbers n (int32s b) r) (code-yes (refutationOfBytes n b r) e) in
+        let v = unless-yes (refuseIf (ltb (numberBytes * maxRefutation) (length r)) LongRefutation) _ (u .1) in
+        let w = whole-yes (eqb (length r % numberBytes) 0) (refutationAnswer n (int32s b) (nat32s r)) (v .1) in
+        (u .0, ltb-false _ _ (not-refused _ LongRefutation (v .0)), eqb-true _ _ (w .0), w .1)),
+    (λ h. rw (h .0, le-ltb (numberBytes * maxRefutation) (length r) (h .1), eq-eqb (length r % numberBytes) 0 (h .2), h .3)),
+  )

@@ -1,0 +1,98 @@
+-- Versions of the checkers that answer idly or by guessing, each a definition, and at a named input what breaks the promise.
+use mathlib.Core.Path.{_≡_, refl, sym, _∙_}
+use mathlib.Core.List.{List, [], _∷_}
+use Prim.Native.Nat.{ℕ}
+use lib.IntN.{ℤ, pos, negℤ}
+use Rattle.integers.specs.Laws.{never}
+use Rattle.lines.specs.declared.Refusal.the-variants.{TooManyVariables}
+use Rattle.lines.specs.Line.{lineAt, leftSide, isFalse}
+use Rattle.lines.specs.Refusal.{coefficientsOk, variableOk, variablesOk, constantOk, linesValidity, validityOf}
+use Rattle.model.specs.declared.ModelAnswer.{ModelAnswer}
+use Rattle.model.specs.declared.ModelAnswer.the-variants as model
+use Rattle.model.specs.Model as model-check
+use Rattle.model.specs.Model.{valuesValidity, modelValidity, firstFailing, modelAnswer}
+use Rattle.refutation.specs.declared.RefutationAnswer.{RefutationAnswer}
+use Rattle.refutation.specs.declared.RefutationAnswer.the-variants.{Yes, No, Refused}
+use Rattle.refutation.specs.Progress.{countsOk, isFalseStep, headOn, advance, run, closes, accepted, accepts}
+use Rattle.refutation.specs.Answer.{unlessRefused, refutationValidity, refutationAnswer}
+
+-- ---- the refutation checker's promise, of any version of it
+abbrev KeepsRefutation : (ℕ → List ℤ → List ℕ → RefutationAnswer) → Type 0
+KeepsRefutation f = (n : ℕ) (L : List ℤ) (R : List ℕ) → f n L R ≡ refutationAnswer n L R
+
+-- case 3: the line 0 ≤ -1, and its refutation
+falseList : List ℤ
+falseList = pos 0 ∷ pos 0 ∷ pos 0 ∷ pos 0 ∷ negℤ (pos 1) ∷ []
+
+falseRefutation : List ℕ
+falseRefutation = 3 ∷ 1 ∷ 0 ∷ 0 ∷ []
+
+case-3 : refutationAnswer 0 falseList falseRefutation ≡ Yes
+unfolding refutationAnswer refutationValidity validityOf linesValidity coefficientsOk variableOk variablesOk constantOk lineAt isFalse falseList falseRefutation countsOk isFalseStep headOn advance run closes accepted accepts
+case-3 = refl
+
+-- no numbers are no refutation, of no lines
+nothing : refutationAnswer 0 [] [] ≡ No
+unfolding refutationAnswer refutationValidity validityOf linesValidity run closes accepted accepts
+nothing = refl
+
+-- it accepts nothing
+pub acceptsNothing : ℕ → List ℤ → List ℕ → RefutationAnswer
+acceptsNothing n L R = unlessRefused (refutationValidity n L R) No
+
+pub accepts-nothing-breaks : KeepsRefutation acceptsNothing → ⊥
+unfolding acceptsNothing refutationValidity validityOf linesValidity coefficientsOk variableOk variablesOk constantOk lineAt falseList falseRefutation
+accepts-nothing-breaks k = let e : No ≡ Yes = k 0 falseList falseRefutation ∙ case-3 in never (cc)
+
+-- it accepts everything that is not refused
+pub acceptsEverything : ℕ → List ℤ → List ℕ → RefutationAnswer
+acceptsEverything n L R = unlessRefused (refutationValidity n L R) Yes
+
+pub accepts-everything-breaks : KeepsRefutation acceptsEverything → ⊥
+unfolding acceptsEverything refutationValidity validityOf linesValidity
+accepts-everything-breaks k = let e : Yes ≡ No = k 0 [] [] ∙ nothing in never (cc)
+
+-- it refuses every list
+pub refusesEvery : ℕ → List ℤ → List ℕ → RefutationAnswer
+refusesEvery n L R = Refused TooManyVariables
+
+pub refuses-every-breaks : KeepsRefutation refusesEvery → ⊥
+unfolding refusesEvery
+refuses-every-breaks k = let e : Refused TooManyVariables ≡ No = k 0 [] [] ∙ nothing in never (cc)
+
+-- ---- the model checker's promise, of any version of it
+abbrev KeepsModel : (ℕ → List ℤ → List ℤ → ModelAnswer) → Type 0
+KeepsModel f = (n : ℕ) (L m : List ℤ) → f n L m ≡ modelAnswer n L m
+
+-- no values for no variables fail line 0, 0 ≤ -1
+first-line-fails : modelAnswer 0 falseList [] ≡ model.No 0
+unfolding modelAnswer modelValidity validityOf linesValidity coefficientsOk variableOk variablesOk constantOk lineAt leftSide falseList valuesValidity firstFailing
+first-line-fails = refl
+
+no-lines-met : modelAnswer 0 [] [] ≡ model.Yes
+unfolding modelAnswer modelValidity validityOf linesValidity valuesValidity firstFailing
+no-lines-met = refl
+
+-- it says yes to every model that is not refused
+pub saysYes : ℕ → List ℤ → List ℤ → ModelAnswer
+saysYes n L m = model-check.unlessRefused (modelValidity n L m) model.Yes
+
+pub says-yes-breaks : KeepsModel saysYes → ⊥
+unfolding saysYes modelValidity validityOf linesValidity coefficientsOk variableOk variablesOk constantOk lineAt falseList valuesValidity
+says-yes-breaks k = let e : model.Yes ≡ model.No 0 = k 0 falseList [] ∙ first-line-fails in never (cc)
+
+-- it says no to every model, at the first line
+pub saysNo : ℕ → List ℤ → List ℤ → ModelAnswer
+saysNo n L m = model-check.unlessRefused (modelValidity n L m) (model.No 0)
+
+pub says-no-breaks : KeepsModel saysNo → ⊥
+unfolding saysNo modelValidity validityOf linesValidity valuesValidity
+says-no-breaks k = let e : model.No 0 ≡ model.Yes = k 0 [] [] ∙ no-lines-met in never (cc)
+
+-- it refuses every list
+pub refusesModel : ℕ → List ℤ → List ℤ → ModelAnswer
+refusesModel n L m = model.Refused TooManyVariables
+
+pub refuses-model-breaks : KeepsModel refusesModel → ⊥
+unfolding refusesModel
+refuses-model-breaks k = let e : model.Refused TooManyVariables ≡ model.Yes = k 0 [] [] ∙ no-lines-met in never (cc)
