@@ -13,11 +13,11 @@ use Rattle.lines.specs.declared.Refusal.{Refusal}
 use Rattle.lines.specs.declared.Validity.the-variants.{Valid}
 use Rattle.lines.specs.declared.Validity.the-variants as validity
 use Rattle.lines.specs.Limits.{maxRefutation}
-use Rattle.lines.specs.Line.{Solves, Solvable, linesOf}
+use Rattle.lines.specs.Line.{Solves, Solvable, linesOf, assignmentOf}
 use Rattle.lines.specs.Refusal.{validityOf}
 use Rattle.little_endian.specs.Bytes.{int32s, nat32s}
 use Rattle.model.specs.declared.ModelAnswer.the-variants as model
-use Rattle.model.specs.Model.{assignmentOf, modelValidity, modelAnswer}
+use Rattle.model.specs.Model.{modelValidity, modelAnswer}
 use Rattle.model.specs.Meaning.{FirstFails, yes-exactly, no-exactly, refused-exactly}
 use Rattle.refutation.specs.declared.RefutationAnswer.the-variants.{Yes}
 use Rattle.refutation.specs.Answer.{refutationAnswer}

@@ -34,6 +34,10 @@ linesOf L = tabulate (lineCount L) (lineAt L)
 abbrev pub Assignment : Type 0
 Assignment = ℕ → ℤ
 
+-- the assignment that a list of values gives: the value at an index is that of the variable with this number, and a variable beyond has 0
+abbrev pub assignmentOf : List ℤ → Assignment
+assignmentOf m k = getD m k (pos 0)
+
 -- a·x + b·y. A variable number of a valid line is not negative, so that natAbs only makes it a ℕ
 unfoldable pub leftSide : Assignment → Line → ℤ
 leftSide s l = l .a *ℤ s (natAbs (l .x)) +ℤ l .b *ℤ s (natAbs (l .y))

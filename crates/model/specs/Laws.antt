@@ -19,12 +19,12 @@ use Rattle.lines.specs.declared.Refusal.the-variants.{BadValue}
 use Rattle.lines.specs.declared.Validity.{Validity}
 use Rattle.lines.specs.declared.Validity.the-variants.{Valid, Refused}
 use Rattle.lines.specs.Limits.{maxValue}
-use Rattle.lines.specs.Line.{Assignment, lineAt, lineCount, linesOf, meets}
+use Rattle.lines.specs.Line.{Assignment, lineAt, lineCount, linesOf, meets, assignmentOf}
 use Rattle.lines.specs.Refusal.{_orElse_, refuseIf}
 use Rattle.lines.specs.Valid.{VariableOk, ListOk, valid-list, or-valid, not-refused}
 use Rattle.lines.specs.Laws.{lines-from, lines-past}
 use Rattle.model.specs.declared.ModelAnswer.the-variants.{Yes, No}
-use Rattle.model.specs.Model.{assignmentOf, valuesValidity, modelValidity, firstFailing}
+use Rattle.model.specs.Model.{valuesValidity, modelValidity, firstFailing}
 
 -- ---- what a valid model grants
 -- each value lies within the limit, and so does the 0 of the variables beyond

@@ -16,11 +16,11 @@ use Rattle.lines.specs.declared.Refusal.{Refusal}
 use Rattle.lines.specs.declared.Validity.{Validity}
 use Rattle.lines.specs.declared.Validity.the-variants.{Valid}
 use Rattle.lines.specs.declared.Validity.the-variants as validity
-use Rattle.lines.specs.Line.{Assignment, lineAt, lineCount, linesOf, Meets, meets, Solves}
+use Rattle.lines.specs.Line.{Assignment, lineAt, lineCount, linesOf, Meets, meets, Solves, assignmentOf}
 use Rattle.lines.specs.Solutions.{meets-true, solves-at}
 use Rattle.model.specs.declared.ModelAnswer.{ModelAnswer}
 use Rattle.model.specs.declared.ModelAnswer.the-variants.{Yes, No, Refused}
-use Rattle.model.specs.Model.{assignmentOf, modelValidity, firstFailing, unlessRefused, modelAnswer}
+use Rattle.model.specs.Model.{modelValidity, firstFailing, unlessRefused, modelAnswer}
 use Rattle.model.specs.Laws.{failing-from, failing-past}
 
 -- line k is the first that fails

@@ -12,14 +12,10 @@ use Rattle.lines.specs.declared.Validity.{Validity}
 use Rattle.lines.specs.declared.Validity.the-variants.{Valid}
 use Rattle.lines.specs.declared.Validity.the-variants as validity
 use Rattle.lines.specs.Limits.{maxValue}
-use Rattle.lines.specs.Line.{Assignment, linesOf, meets}
+use Rattle.lines.specs.Line.{Assignment, linesOf, meets, assignmentOf}
 use Rattle.lines.specs.Refusal.{_orElse_, refuseIf, validityOf}
 use Rattle.model.specs.declared.ModelAnswer.{ModelAnswer}
 use Rattle.model.specs.declared.ModelAnswer.the-variants.{Yes, No, Refused}
-
--- the value at an index is that of the variable with this number; a variable beyond has 0
-abbrev pub assignmentOf : List ℤ → Assignment
-assignmentOf m k = getD m k (pos 0)
 
 -- 10: values from the first, which has index k
 unfoldable pub valuesValidity : ℕ → List ℤ → Validity

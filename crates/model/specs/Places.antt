@@ -15,13 +15,13 @@ use Rattle.lines.specs.declared.Refusal.the-variants.{WrongModelLength, BadValu
 use Rattle.lines.specs.declared.Validity.{Validity}
 use Rattle.lines.specs.declared.Validity.the-variants as validity
 use Rattle.lines.specs.Limits.{maxVariables, maxLines, maxValue}
-use Rattle.lines.specs.Line.{Assignment, lineAt, lineCount, linesOf, meets}
+use Rattle.lines.specs.Line.{Assignment, lineAt, lineCount, linesOf, meets, assignmentOf}
 use Rattle.lines.specs.Refusal.{placeOf, _orElse_, refuseIf, validityOf}
 use Rattle.lines.specs.Valid.{ListOk, valid-list, or-valid}
 use Rattle.lines.specs.Places.{Placed, valid, refused, placed-or, placed-if, place-at, placed-list}
 use Rattle.model.specs.declared.ModelAnswer.{ModelAnswer}
 use Rattle.model.specs.declared.ModelAnswer.the-variants.{Yes, No, Refused}
-use Rattle.model.specs.Model.{assignmentOf, valuesValidity, modelValidity, firstFailing, unlessRefused, modelAnswer}
+use Rattle.model.specs.Model.{valuesValidity, modelValidity, firstFailing, unlessRefused, modelAnswer}
 
 abbrev pub Below : ℕ → ModelAnswer → Type 0
 Below m Yes = Unit {0}

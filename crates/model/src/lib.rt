@@ -10,9 +10,9 @@ use lines::list_validity;
 ghost use mathlib.Core.Path.{_≡_};
 ghost use lib.IntN.{natAbs, _*ℤ_};
 ghost use lib.ListN.{length};
-ghost use Rattle.lines.specs.Line.{linesOf, leftSide, meets};
+ghost use Rattle.lines.specs.Line.{linesOf, leftSide, meets, assignmentOf};
 ghost use Rattle.lines.specs.Valid.{LineOk, LinesOk};
-ghost use Rattle.model.specs.Model.{assignmentOf, valuesValidity, modelValidity, firstFailing, modelAnswer};
+ghost use Rattle.model.specs.Model.{valuesValidity, modelValidity, firstFailing, modelAnswer};
 ghost use Rattle.model.specs.Laws.{ValuesOk, TermOk};
 
 // Yes, no with the number of the first line that fails, or a refusal.

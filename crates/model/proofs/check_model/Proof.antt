@@ -3,8 +3,8 @@ use mathlib.Core.Path.{_≡_, sym, ap, _∙_}
 use borrow.Author.Needs.{needs}
 use Rattle.lines.specs.declared.Validity.{Validity}
 use Rattle.lines.specs.declared.Validity.the-variants.{Valid}
-use Rattle.lines.specs.Line.{linesOf}
-use Rattle.model.specs.Model.{assignmentOf, modelValidity, firstFailing, unlessRefused, modelAnswer}
+use Rattle.lines.specs.Line.{linesOf, assignmentOf}
+use Rattle.model.specs.Model.{modelValidity, firstFailing, unlessRefused, modelAnswer}
 use Rattle.model.specs.Laws.{valid-model}
 use Rattle.model.proofs.check_model.Statement.{statement}
 use Rattle.model.proofs.check_model.Tie as tie

@@ -9,10 +9,10 @@ use borrow.Author.Needs.{needs}
 use borrow.Author.Tests.{not-true, not-false}
 use lib.IntN.{ℤ}
 use lib.ListN.{drop}
-use Rattle.lines.specs.Line.{Assignment, linesOf, meets}
+use Rattle.lines.specs.Line.{Assignment, linesOf, meets, assignmentOf}
 use Rattle.model.specs.declared.ModelAnswer.{ModelAnswer}
 use Rattle.model.specs.declared.ModelAnswer.the-variants.{No}
-use Rattle.model.specs.Model.{assignmentOf, firstFailing}
+use Rattle.model.specs.Model.{firstFailing}
 use Rattle.model.specs.Laws.{failing-from, failing-past}
 use Rattle.model.proofs.first_failing.Statement.{statement}
 use Rattle.model.proofs.first_failing.Tie as tie

@@ -8,8 +8,7 @@ use mir.Facts.{toZ-ofZ}
 use Rattle.integers.specs.Bits.{kept}
 use Rattle.lines.specs.declared.Line.{Line}
 use Rattle.lines.specs.Limits.{maxValue}
-use Rattle.lines.specs.Line.{Assignment, leftSide}
-use Rattle.model.specs.Model.{assignmentOf}
+use Rattle.lines.specs.Line.{Assignment, leftSide, assignmentOf}
 use Rattle.model.specs.Laws.{product-within, sum-fits}
 use Rattle.model.proofs.left_side.Statement.{statement}
 use Rattle.model.proofs.left_side.Tie as tie

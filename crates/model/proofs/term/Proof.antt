@@ -12,7 +12,7 @@ use Rattle.integers.specs.Integer.{Within}
 use Rattle.integers.specs.Bits.{zero-of-bits}
 use Rattle.lines.specs.Limits.{maxValue}
 use Rattle.lines.specs.Valid.{VariableOk, variable-lt}
-use Rattle.model.specs.Model.{assignmentOf}
+use Rattle.lines.specs.Line.{assignmentOf}
 use Rattle.model.specs.Laws.{minus-value, plus-value, product-within, value-fits}
 use Rattle.model.proofs.term.Statement.{statement}
 use Rattle.model.proofs.term.Tie as tie

@@ -14,7 +14,8 @@ use Rattle.lines.specs.declared.Refusal.the-variants.{BadValue}
 use Rattle.lines.specs.declared.Validity.{Validity}
 use Rattle.lines.specs.Limits.{maxValue}
 use Rattle.lines.specs.Refusal.{_orElse_, refuseIf}
-use Rattle.model.specs.Model.{assignmentOf, valuesValidity}
+use Rattle.lines.specs.Line.{assignmentOf}
+use Rattle.model.specs.Model.{valuesValidity}
 use Rattle.model.specs.Laws.{values-from, values-past}
 use Rattle.model.proofs.values_validity.Statement.{statement}
 use Rattle.model.proofs.values_validity.Tie as tie
