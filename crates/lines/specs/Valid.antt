@@ -1,7 +1,7 @@
 -- What a valid list grants: its limits, and of each line what the rules say.
 use mathlib.Core.Path.{_≡_, refl, sym, ap, _∙_}
 use mathlib.Core.Bool.{Bool, true, false, not, cond, _&&_}
-use mathlib.Core.List.{List}
+use mathlib.Core.List.{List, [], _∷_}
 use Prim.Native.Nat.{ℕ, zero, suc, _+_, _%_, _<_, _≤_}
 use native.Mathlib.Numerals.{add-one}
 use native.Mathlib.Omega.{arith}
@@ -12,6 +12,7 @@ use lib.Signed.{leZ, ltZ}
 use Rattle.integers.specs.Integer.{_⩽_, _⋖_, eqZ, isWithin, Within}
 use Rattle.integers.specs.Linear.{ints, given, given₂}
 use Rattle.integers.specs.Laws.{never, and-true, is-within, ne-eqZ}
+use Rattle.integers.specs.Sequence.{tabulate}
 use Rattle.lines.specs.declared.Line.{Line}
 use Rattle.lines.specs.declared.Refusal.{Refusal}
 use Rattle.lines.specs.declared.Validity.{Validity}
@@ -115,3 +116,15 @@ lines-more n m L h ok k l =
       variable-y = λ z. variable-more n m _ h (o .variable-y z);
       constant = o .constant;
     }
+
+-- the same of some lines
+abbrev pub AllOk : ℕ → List Line → Type 0
+AllOk n [] = Unit {0}
+AllOk n (l ∷ ls) = LineOk n l × AllOk n ls
+
+pub all-ok : (n : ℕ) (L : List ℤ) → LinesOk n L → AllOk n (linesOf L)
+all-ok n L ok = go (lineCount L) (lineAt L) ok
+  where
+    go : (c : ℕ) (f : ℕ → Line) → ((k : ℕ) → k < c → LineOk n (f k)) → AllOk n (tabulate c f)
+    go zero f h = tt
+    go (suc c) f h = (h 0 (omega arith), go c (λ k. f (suc k)) (λ k l. h (suc k) (omega arith)))

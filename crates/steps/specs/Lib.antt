@@ -4,3 +4,4 @@ pub mod Step
 pub mod Laws
 pub mod Meaning
 pub mod Walk
+pub mod Mirror

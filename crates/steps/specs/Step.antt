@@ -1,6 +1,6 @@
 -- The steps of a line (the field's term: edges), the step with a given number, and what a step says.
 use mathlib.Core.Bool.{Bool, cond}
-use mathlib.Core.List.{List}
+use mathlib.Core.List.{List, [], _∷_, _++_}
 use Prim.Native.Nat.{ℕ, _+_, _*_, _/_, _%_}
 use lib.Dec.{eqb, ltb}
 use lib.IntN.{ℤ, pos, natAbs, _-ℤ_, _*ℤ_}
@@ -47,3 +47,12 @@ Says s t = value s (t .from) -ℤ value s (t .to) ⩽ t .weight
 abbrev pub Holds : Assignment → NamedStep → Type 0
 Holds s (Found t) = Says s t
 Holds s Nothing = Unit {0}
+
+-- all steps of some lines, in the order of their numbers
+abbrev pub named : NamedStep → List Step
+named (Found t) = t ∷ []
+named Nothing = []
+
+unfoldable pub stepsOf : List Line → List Step
+stepsOf [] = []
+stepsOf (l ∷ ls) = named (stepOf l 0) ++ (named (stepOf l 1) ++ stepsOf ls)

@@ -1,0 +1,5 @@
+pub mod Semantics
+pub mod Graph
+pub mod Small
+pub mod Verdict
+pub mod Refuted

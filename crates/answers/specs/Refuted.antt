@@ -1,0 +1,146 @@
+-- Where the verdict is no there is a refutation of the due kind with at most 4n steps, or that of the lowest false line.
+use mathlib.Core.Path.{_≡_, refl, sym, ap, subst, _∙_}
+use mathlib.Core.Logic.{_⊎_, inl, inr}
+use mathlib.Core.Bool.{Bool, true, false, not, _&&_}
+use mathlib.Core.List.{List, [], _∷_, _++_}
+use Prim.Native.Nat.{ℕ, zero, suc, _+_, _*_, _<_, _≤_}
+use native.Mathlib.Omega.{arith}
+use lib.IntN.{ℤ, pos, _+ℤ_}
+use lib.ListN.{length, getD, length-append}
+use Rattle.integers.specs.Integer.{_⋖_, half}
+use Rattle.integers.specs.Laws.{never, both-true}
+use Rattle.lines.specs.declared.Line.{Line}
+use Rattle.lines.specs.Line.{lineAt, lineCount, linesOf, isFalse}
+use Rattle.steps.specs.declared.Step.{Step}
+use Rattle.steps.specs.Point.{opposite}
+use Rattle.steps.specs.Step.{stepsOf}
+use Rattle.steps.specs.Walk.{Path, total}
+use Rattle.walks.specs.Distance.{Distance, some}
+use Rattle.walks.specs.Row.{best}
+use Rattle.walks.specs.Reach.{Reaches}
+use Rattle.walks.specs.Least.{best-attained}
+use Rattle.walks.specs.Negative.{noNegative, NegativeWalk, negative-point, negative-walk}
+use Rattle.soundness.specs.Refutes.{Walk, Closed, There-and-back, Falsehood, Refutes, kind-1, kind-2, kind-3}
+use Rattle.answers.specs.Graph.{at-line, Numbered, numbered}
+use Rattle.answers.specs.Verdict.{hasFalse, firstFalse, LowestFalse, lowest-false, distances, consistentHalves, BadHalves, bad-halves, verdictOf, dueKind}
+
+-- the kind, and the steps in all, that a refutation states
+abbrev pub kindOf : List ℕ → ℕ
+kindOf R = getD R 0 0
+
+abbrev pub stepsIn : List ℕ → ℕ
+stepsIn R = getD R 1 0 + getD R 2 0
+
+-- a refutation of the due kind: a false line's, of the lowest, or with at most 4n steps
+pub record Due (n : ℕ) (L : List ℤ) : Type 0 where
+  pub numbers : List ℕ
+  pub refutes : Refutes L numbers
+  pub kind : kindOf numbers ≡ dueKind n (linesOf L)
+  pub steps : dueKind n (linesOf L) ≡ 3 → stepsIn numbers ≡ 1
+  pub few : (dueKind n (linesOf L) ≡ 3 → ⊥) → stepsIn numbers ≤ 4 * n
+  pub lowest : dueKind n (linesOf L) ≡ 3 → getD numbers 3 0 ≡ 2 * firstFalse 0 (linesOf L)
+  pub size : length numbers ≤ 4 + 4 * n
+
+kind-false : (n : ℕ) (ls : List Line) → hasFalse ls ≡ true → dueKind n ls ≡ 3
+unfolding dueKind
+kind-false n ls e = rw e
+
+kind-negative : (n : ℕ) (ls : List Line) → hasFalse ls ≡ false → noNegative (stepsOf ls) (2 * n) ≡ false → dueKind n ls ≡ 1
+unfolding dueKind
+kind-negative n ls e f = rw (e, f)
+
+kind-halves : (n : ℕ) (ls : List Line) → hasFalse ls ≡ false → noNegative (stepsOf ls) (2 * n) ≡ true → dueKind n ls ≡ 2
+unfolding dueKind
+kind-halves n ls e f = rw (e, f)
+
+module _ (n : ℕ) (L : List ℤ) where
+  abbrev ls : List Line
+  ls = linesOf L
+
+  due-false : hasFalse ls ≡ true → Due n L
+  due-false e =
+      let f = lowest-false ls e in
+      let k = firstFalse 0 ls in
+      let a = at-line L k (f .line) (f .at) in
+      record {
+        numbers = 3 ∷ 1 ∷ 0 ∷ 2 * k ∷ [];
+        refutes = kind-3 (record { line = k; is = refl; within = a .0; false-line = ap isFalse (a .1) ∙ f .false-line });
+        kind = sym (kind-false n ls e);
+        steps = λ _. refl;
+        few = λ z. absurd (z (kind-false n ls e));
+        lowest = λ _. refl;
+        size = omega arith;
+      }
+
+  due-negative : hasFalse ls ≡ false → noNegative (stepsOf ls) (2 * n) ≡ false → Due n L
+  due-negative e f =
+      let w = negative-walk (stepsOf ls) (2 * n) (negative-point (stepsOf ls) (2 * n) f) in
+      let m = numbered L (w .steps) (w .walk .steps) in
+      let d = kind-negative n ls e f in
+      record {
+        numbers = 1 ∷ length (m .numbers) ∷ 0 ∷ m .numbers;
+        refutes = kind-1
+            (record {
+              numbers = m .numbers;
+              point = w .point;
+              is = refl;
+              walk = record { steps = w .steps; some = omega (arith, m .count, w .nonempty); named = m .names; path = w .walk .path };
+              low = w .negative;
+            });
+        kind = sym d;
+        steps = λ z. absurd (omega arith);
+        few = λ _. omega (arith, m .count, w .few);
+        lowest = λ z. absurd (omega arith);
+        size = omega (arith, m .count, w .few);
+      }
+
+  -- a point is not its own opposite, so that a walk between them has steps
+  some-step : (u : ℕ) (ts : List Step) → Path u ts (opposite u) → 0 < length ts
+  unfolding opposite
+  some-step u [] p = absurd (omega (arith, p))
+  some-step u (t ∷ ts) p = omega arith
+
+  some-back : (u : ℕ) (ts : List Step) → Path (opposite u) ts u → 0 < length ts
+  unfolding opposite
+  some-back u [] p = absurd (omega (arith, p))
+  some-back u (t ∷ ts) p = omega arith
+
+  due-halves : hasFalse ls ≡ false → noNegative (stepsOf ls) (2 * n) ≡ true → consistentHalves n ls ≡ false → Due n L
+  due-halves e f g =
+      let b = bad-halves n ls g in
+      let E = stepsOf ls in
+      let u = b .point in
+      let v = best-attained E (2 * n) u (opposite u) (b .there) (b .there-is) in
+      let w = best-attained E (2 * n) (opposite u) u (b .back) (b .back-is) in
+      let p = numbered L (v .steps) (v .walk .steps) in
+      let q = numbered L (w .steps) (w .walk .steps) in
+      let d = kind-halves n ls e f in
+      record {
+        numbers = 2 ∷ length (p .numbers) ∷ length (q .numbers) ∷ (p .numbers ++ q .numbers);
+        refutes = kind-2
+            (record {
+              numbers = p .numbers;
+              more = q .numbers;
+              point = u;
+              is = refl;
+              there = record { steps = v .steps; some = omega (arith, p .count, some-step u (v .steps) (v .walk .path)); named = p .names; path = v .walk .path };
+              back = record { steps = w .steps; some = omega (arith, q .count, some-back u (w .steps) (w .walk .path)); named = q .names; path = w .walk .path };
+              low = rw (v .sum, w .sum) (b .negative);
+            });
+        kind = sym d;
+        steps = λ z. absurd (omega arith);
+        few = λ _. omega (arith, p .count, q .count, v .count, w .count);
+        lowest = λ z. absurd (omega arith);
+        size = omega (arith, length-append (p .numbers) (q .numbers), p .count, q .count, v .count, w .count);
+      }
+
+  -- a no is shown
+  pub due-refutation : verdictOf n ls ≡ false → Due n L
+  unfolding verdictOf
+  due-refutation = go (hasFalse ls) refl (noNegative (stepsOf ls) (2 * n)) refl (consistentHalves n ls) refl
+    where
+      go : (a : Bool) → hasFalse ls ≡ a → (b : Bool) → noNegative (stepsOf ls) (2 * n) ≡ b → (c : Bool) → consistentHalves n ls ≡ c → (not a && (b && c)) ≡ false → Due n L
+      go true e b f c g z = due-false e
+      go false e false f c g z = due-negative e f
+      go false e true f false g z = due-halves e f g
+      go false e true f true g z = never (cc)

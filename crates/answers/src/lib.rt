@@ -1,0 +1,1 @@
+// What deciding answers, as definitions, and what they mean: mathematics, no code.
