@@ -1,11 +1,13 @@
 -- What document 01's section "Yes" says, without any algorithm: the one model, least and greatest values, groups.
 use mathlib.Core.Path.{_≡_}
+use mathlib.Core.Logic.{_⊎_}
 use mathlib.Core.List.{List}
-use Prim.Native.Nat.{ℕ, _≤_, _<_}
-use lib.IntN.{ℤ, natAbs}
+use Prim.Native.Nat.{ℕ, _+_, _*_, _-_, _^_, _≤_, _<_}
+use lib.IntN.{ℤ, pos, negsuc, natAbs}
+use lib.ListN.{length, getD}
 use Rattle.integers.specs.Integer.{_⩽_}
 use Rattle.lines.specs.declared.Line.{Line}
-use Rattle.lines.specs.Line.{Assignment, Solves}
+use Rattle.lines.specs.Line.{Assignment, assignmentOf, Solves}
 
 -- t agrees with s on all variables before k
 abbrev pub Agrees : ℕ → Assignment → Assignment → Type 0
@@ -44,4 +46,28 @@ Together ls x r = (t : Assignment) → Solves ls t → t x ≡ t r
 -- r is the lowest variable number that has the same value as x in every integer solution
 pub record IsGroup (ls : List Line) (x r : ℕ) : Type 0 where
   pub together : Together ls x r
-  pub lowest : (q : ℕ) → Together ls x q → r ≤ q
+  pub lowest : (q : ℕ) → q < r → Together ls x q → ⊥
+
+-- ---- as the numbers written
+-- where there is none, the least is the lowest 64-bit number and the greatest is the highest
+abbrev pub absentLeast : ℤ
+absentLeast = negsuc (2 ^ 63 - 1)
+
+abbrev pub absentGreatest : ℤ
+absentGreatest = pos (2 ^ 63 - 1)
+
+abbrev pub LeastWritten : List Line → ℕ → ℤ → Type 0
+LeastWritten ls x w = IsLeast ls x w ⊎ (NoLeast ls x × (w ≡ absentLeast))
+
+abbrev pub GreatestWritten : List Line → ℕ → ℤ → Type 0
+GreatestWritten ls x w = IsGreatest ls x w ⊎ (NoGreatest ls x × (w ≡ absentGreatest))
+
+-- written on a yes: the model; for each variable its least, then its greatest value; the groups
+pub record Written (n : ℕ) (ls : List Line) (model bounds : List ℤ) (groups : List ℕ) : Type 0 where
+  pub model-length : length model ≡ n
+  pub model-is : IsModel n ls (assignmentOf model)
+  pub bounds-length : length bounds ≡ 2 * n
+  pub least-is : (x : ℕ) → x < n → LeastWritten ls x (getD bounds (2 * x) (pos 0))
+  pub greatest-is : (x : ℕ) → x < n → GreatestWritten ls x (getD bounds (2 * x + 1) (pos 0))
+  pub groups-length : length groups ≡ n
+  pub group-is : (x : ℕ) → x < n → IsGroup ls x (getD groups x 0)
