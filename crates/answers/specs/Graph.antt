@@ -2,12 +2,13 @@
 -- lines exactly if every step holds and no line is false.
 use mathlib.Core.Path.{_≡_, refl, sym, ap, subst, _∙_}
 use mathlib.Core.Logic.{_⊎_, inl, inr, ⊎-elim, _↔_}
-use mathlib.Core.Bool.{Bool, true, false, _&&_}
+use mathlib.Core.Bool.{Bool, true, false, cond, _&&_}
 use mathlib.Core.List.{List, [], _∷_, _++_}
 use Prim.Native.Nat.{ℕ, zero, suc, _+_, _*_, _/_, _%_, _<_}
 use native.Mathlib.Nat.{not-suc-le-zero}
 use native.Mathlib.Omega.{arith}
-use borrow.Author.Tests.{lt-ltb}
+use borrow.Author.Tests.{lt-ltb, ltb-true}
+use lib.Dec.{ltb}
 use lib.IntN.{ℤ, pos}
 use lib.Signed.{ltZ}
 use lib.ListN.{length}
@@ -51,6 +52,9 @@ tabulate-at (suc n) f (suc k) h = tabulate-at n (λ i. f (suc i)) k (omega arith
 -- line number k of a list is its k-th
 pub at-line : (L : List ℤ) (k : ℕ) (l : Line) → At (linesOf L) k l → (k < lineCount L) × (lineAt L k ≡ l)
 at-line L k l a = at-tabulate (lineCount L) (lineAt L) k l a
+
+pub line-at : (L : List ℤ) (k : ℕ) → k < lineCount L → At (linesOf L) k (lineAt L k)
+line-at L k h = tabulate-at (lineCount L) (lineAt L) k h
 
 pub solves-line : (ls : List Line) (s : Assignment) (k : ℕ) (l : Line) → Solves ls s → At ls k l → Meets s l
 solves-line [] s k l h a = absurd a
@@ -199,3 +203,18 @@ module _ (L : List ℤ) where
         count = ap suc (r .count);
         names = (numbered-found (s .number) (s .side) t (k .0) (s .low) (ap (λ (l : Line). stepOf l (s .side)) (k .1) ∙ s .found), r .names);
       }
+
+  found-member : (k : ℕ) (t : Step) → stepNumbered L k ≡ Found t → In t (stepsOf (linesOf L))
+  unfolding stepNumbered
+  found-member k t = go (ltb (k / 2) (lineCount L)) refl
+    where
+      go : (b : Bool) → ltb (k / 2) (lineCount L) ≡ b → cond b (stepOf (lineAt L (k / 2)) (k % 2)) Nothing ≡ Found t → In t (stepsOf (linesOf L))
+      go true e f = member (linesOf L) t (k / 2) (lineAt L (k / 2)) (line-at L (k / 2) (ltb-true _ _ e)) (k % 2) (omega arith) f
+      go false e f = never (cc)
+
+  -- and what numbers name are steps of the list's lines
+  pub named-steps : (ks : List ℕ) (ts : List Step) → Names L ks ts → Steps (stepsOf (linesOf L)) ts
+  named-steps [] [] a = tt
+  named-steps [] (t ∷ ts) a = absurd a
+  named-steps (k ∷ ks) [] a = absurd a
+  named-steps (k ∷ ks) (t ∷ ts) a = (found-member k t (a .0), named-steps ks ts (a .1))

@@ -6,3 +6,6 @@ pub mod Refuted
 pub mod Answers
 pub mod Solved
 pub mod Meaning
+pub mod Decided
+pub mod Unique
+pub mod Longer

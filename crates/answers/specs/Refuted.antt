@@ -57,14 +57,18 @@ module _ (n : ℕ) (L : List ℤ) where
   abbrev ls : List Line
   ls = linesOf L
 
+  -- a false line, the lowest
+  pub falsehood : hasFalse ls ≡ true → Falsehood L (3 ∷ 1 ∷ 0 ∷ 2 * firstFalse 0 ls ∷ [])
+  falsehood e =
+      let f = lowest-false ls e in
+      let a = at-line L (firstFalse 0 ls) (f .line) (f .at) in
+      record { line = firstFalse 0 ls; is = refl; within = a .0; false-line = ap isFalse (a .1) ∙ f .false-line }
+
   due-false : hasFalse ls ≡ true → Due n L
   due-false e =
-      let f = lowest-false ls e in
-      let k = firstFalse 0 ls in
-      let a = at-line L k (f .line) (f .at) in
       record {
-        numbers = 3 ∷ 1 ∷ 0 ∷ 2 * k ∷ [];
-        refutes = kind-3 (record { line = k; is = refl; within = a .0; false-line = ap isFalse (a .1) ∙ f .false-line });
+        numbers = 3 ∷ 1 ∷ 0 ∷ 2 * firstFalse 0 ls ∷ [];
+        refutes = kind-3 (falsehood e);
         kind = sym (kind-false n ls e);
         steps = λ _. refl;
         few = λ z. absurd (z (kind-false n ls e));
@@ -72,21 +76,30 @@ module _ (n : ℕ) (L : List ℤ) where
         size = omega arith;
       }
 
+  -- a closed walk of negative sum, with at most 2n steps
+  pub closed-walk : noNegative (stepsOf ls) (2 * n) ≡ false → (R : List ℕ) × Closed L R
+  closed-walk f =
+      let w = negative-walk (stepsOf ls) (2 * n) (negative-point (stepsOf ls) (2 * n) f) in
+      let m = numbered L (w .steps) (w .walk .steps) in (
+        1 ∷ length (m .numbers) ∷ 0 ∷ m .numbers,
+        record {
+          numbers = m .numbers;
+          point = w .point;
+          is = refl;
+          walk = record { steps = w .steps; some = omega (arith, m .count, w .nonempty); named = m .names; path = w .walk .path };
+          low = w .negative;
+        },
+      )
+
   due-negative : hasFalse ls ≡ false → noNegative (stepsOf ls) (2 * n) ≡ false → Due n L
+  unfolding closed-walk
   due-negative e f =
       let w = negative-walk (stepsOf ls) (2 * n) (negative-point (stepsOf ls) (2 * n) f) in
       let m = numbered L (w .steps) (w .walk .steps) in
       let d = kind-negative n ls e f in
       record {
         numbers = 1 ∷ length (m .numbers) ∷ 0 ∷ m .numbers;
-        refutes = kind-1
-            (record {
-              numbers = m .numbers;
-              point = w .point;
-              is = refl;
-              walk = record { steps = w .steps; some = omega (arith, m .count, w .nonempty); named = m .names; path = w .walk .path };
-              low = w .negative;
-            });
+        refutes = kind-1 (closed-walk f .1);
         kind = sym d;
         steps = λ z. absurd (omega arith);
         few = λ _. omega (arith, m .count, w .few);
