@@ -1,30 +1,25 @@
 -- The verdict is yes exactly if the list has a solution, and no exactly if the checker accepts some refutation: then it accepts one of the due kind.
-use mathlib.Core.Path.{_≡_, refl, sym, ap, subst, _∙_}
-use mathlib.Core.Logic.{_⊎_, inl, inr, _↔_}
+use mathlib.Core.Path.{_≡_, refl}
+use mathlib.Core.Logic.{_↔_}
 use mathlib.Core.Bool.{Bool, true, false, cond}
-use mathlib.Core.List.{List, [], _∷_}
-use Prim.Native.Nat.{ℕ, zero, suc, _+_, _*_, _<_, _≤_}
+use mathlib.Core.List.{List}
+use Prim.Native.Nat.{ℕ, _*_}
 use native.Mathlib.Omega.{arith}
-use lib.IntN.{ℤ, pos}
+use lib.IntN.{ℤ}
 use lib.ListN.{length}
-use Rattle.integers.specs.Integer.{_⋖_}
 use Rattle.integers.specs.Laws.{never}
-use Rattle.lines.specs.declared.Line.{Line}
 use Rattle.lines.specs.declared.Validity.the-variants.{Valid}
-use Rattle.lines.specs.Limits.{maxVariables, maxRefutation}
-use Rattle.lines.specs.Line.{lineAt, lineCount, linesOf, Assignment, assignmentOf, Solves, Solvable, isFalse}
+use Rattle.lines.specs.Line.{linesOf, assignmentOf, Solvable}
 use Rattle.lines.specs.Refusal.{validityOf}
 use Rattle.lines.specs.Valid.{ListOk, AllOk, valid-list, all-ok}
 use Rattle.steps.specs.Step.{stepsOf}
-use Rattle.steps.specs.Walk.{total}
 use Rattle.walks.specs.Negative.{noNegative, no-negative-found}
 use Rattle.refutation.specs.declared.RefutationAnswer.the-variants.{Yes}
 use Rattle.refutation.specs.Answer.{refutationAnswer}
-use Rattle.soundness.specs.Refutes.{Closed, Falsehood, Refutes}
+use Rattle.soundness.specs.Refutes.{Closed, Falsehood}
 use Rattle.soundness.specs.Answered.{accepted-when, answers-no-solvable}
-use Rattle.answers.specs.Semantics.{IsModel}
-use Rattle.answers.specs.Graph.{At, line-at, ends-points, named-steps}
-use Rattle.answers.specs.Verdict.{hasFalse, no-false, lowest-false, verdictOf, dueKind}
+use Rattle.answers.specs.Graph.{line-at, ends-points, named-steps}
+use Rattle.answers.specs.Verdict.{hasFalse, no-false, verdictOf, dueKind}
 use Rattle.answers.specs.Refuted.{Due, falsehood, closed-walk, due-refutation}
 use Rattle.answers.specs.Answers.{modelOf}
 use Rattle.answers.specs.Meaning.{model-is-model}

@@ -1,8 +1,8 @@
 -- The steps of a list's lines as one list: where each comes from, that it is mirrored and its ends are points, and that assignments solve the
 -- lines exactly if every step holds and no line is false.
 use mathlib.Core.Path.{_≡_, refl, sym, ap, subst, _∙_}
-use mathlib.Core.Logic.{_⊎_, inl, inr, ⊎-elim, _↔_}
-use mathlib.Core.Bool.{Bool, true, false, cond, _&&_}
+use mathlib.Core.Logic.{_⊎_, inl, inr, ⊎-elim}
+use mathlib.Core.Bool.{Bool, true, false, cond}
 use mathlib.Core.List.{List, [], _∷_, _++_}
 use Prim.Native.Nat.{ℕ, zero, suc, _+_, _*_, _/_, _%_, _<_}
 use native.Mathlib.Nat.{not-suc-le-zero}
@@ -22,11 +22,10 @@ use Rattle.lines.specs.Valid.{LineOk, AllOk}
 use Rattle.steps.specs.declared.Step.{Step}
 use Rattle.steps.specs.declared.NamedStep.{NamedStep}
 use Rattle.steps.specs.declared.NamedStep.the-variants.{Found, Nothing}
-use Rattle.steps.specs.Point.{opposite}
 use Rattle.steps.specs.Step.{maxWeight, stepOf, stepNumbered, stepsOf, named, Says, Holds}
 use Rattle.steps.specs.Laws.{line-weight}
 use Rattle.steps.specs.Mirror.{LineStep, line-step-known}
-use Rattle.steps.specs.Meaning.{StepsHold, meets-holds, line-steps, false-line}
+use Rattle.steps.specs.Meaning.{meets-holds, line-steps}
 use Rattle.steps.specs.Walk.{Names}
 use Rattle.walks.specs.Row.{In, WithinPoints}
 use Rattle.walks.specs.Reach.{Steps}

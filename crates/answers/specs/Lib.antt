@@ -9,3 +9,4 @@ pub mod Meaning
 pub mod Decided
 pub mod Unique
 pub mod Longer
+pub mod Cases

@@ -1,34 +1,34 @@
 -- Demand 3 of the answers: what is learned of a list holds of each valid longer list that begins with it.
 use mathlib.Core.Path.{_≡_, refl, sym, ap, subst, _∙_}
-use mathlib.Core.Logic.{_⊎_, inl, inr, _↔_}
-use mathlib.Core.Bool.{Bool, true, false}
-use mathlib.Core.List.{List, [], _∷_, _++_}
-use Prim.Native.Nat.{ℕ, zero, suc, _+_, _*_, _-_, _^_, _<_, _≤_}
+use mathlib.Core.Logic.{inl, inr, _↔_}
+use mathlib.Core.Bool.{true, false}
+use mathlib.Core.List.{List, _++_}
+use Prim.Native.Nat.{ℕ, _+_, _*_, _-_, _<_, _≤_}
 use native.Mathlib.Omega.{arith}
-use lib.IntN.{ℤ, pos, negsuc, negℤ, natAbs}
-use lib.ListN.{length, getD}
+use lib.IntN.{ℤ, pos, negℤ}
+use lib.ListN.{getD}
 use lib.Seq.{ext-getD}
 use Rattle.integers.specs.Integer.{_⩽_, half, Within}
 use Rattle.integers.specs.Linear.{ints}
 use Rattle.integers.specs.Laws.{never}
 use Rattle.lines.specs.declared.Line.{Line}
 use Rattle.lines.specs.declared.Validity.the-variants.{Valid}
-use Rattle.lines.specs.Limits.{maxVariables, maxConstant}
-use Rattle.lines.specs.Line.{linesOf, Assignment, assignmentOf, Solves, Solvable}
+use Rattle.lines.specs.Limits.{maxVariables}
+use Rattle.lines.specs.Line.{linesOf, Assignment, assignmentOf, Solves}
 use Rattle.lines.specs.Refusal.{validityOf}
-use Rattle.lines.specs.Valid.{ListOk, AllOk, valid-list}
+use Rattle.lines.specs.Valid.{valid-list}
 use Rattle.lines.specs.Solutions.{solves-append, lines-append}
 use Rattle.steps.specs.Point.{point, opposite}
 use Rattle.steps.specs.Step.{maxWeight, stepsOf}
 use Rattle.walks.specs.Distance.{Distance, none, some, halfD}
 use Rattle.walks.specs.Size.{best-within}
 use Rattle.bounds.specs.Tight.{halves}
-use Rattle.answers.specs.Semantics.{Agrees, IsModel, IsGreatest, NoGreatest, IsLeast, NoLeast, Together, IsGroup, absentLeast, absentGreatest, LeastWritten, GreatestWritten, Written}
+use Rattle.answers.specs.Semantics.{IsModel, IsGreatest, IsLeast, Together, IsGroup, absentLeast, absentGreatest, LeastWritten, GreatestWritten, Written}
 use Rattle.answers.specs.Graph.{weights-small}
 use Rattle.answers.specs.Verdict.{distances, verdictOf}
 use Rattle.answers.specs.Answers.{greatestOf, leastOf}
 use Rattle.answers.specs.Meaning.{only-model, greatest-written, least-written}
-use Rattle.answers.specs.Decided.{lines-ok, yes-solvable, no-unsolvable, solvable-yes, unsolvable-no}
+use Rattle.answers.specs.Decided.{lines-ok, no-unsolvable, solvable-yes, unsolvable-no}
 use Rattle.answers.specs.Unique.{no-both-greatest, no-both-least, one-greatest, one-least, one-group}
 
 -- ---- a bound that is there lies strictly between the numbers that stand for absent ones

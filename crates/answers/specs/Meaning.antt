@@ -1,20 +1,19 @@
 -- The computed answers have the meaning of document 01's section "Yes".
-use mathlib.Core.Path.{_≡_, refl, sym, ap, ap₂, subst, _∙_}
-use mathlib.Core.Logic.{_⊎_, inl, inr, ⊎-elim, _↔_}
-use mathlib.Core.Bool.{Bool, true, false, cond, _&&_}
-use mathlib.Core.List.{List, [], _∷_}
+use mathlib.Core.Path.{_≡_, refl, sym, ap, _∙_}
+use mathlib.Core.Logic.{inl, inr, _↔_}
+use mathlib.Core.Bool.{Bool, true, false}
+use mathlib.Core.List.{List}
 use Prim.Native.Nat.{ℕ, zero, suc, _+_, _*_, _/_, _%_, _<_, _≤_}
 use native.Mathlib.Omega.{arith}
 use native.Mathlib.Decide.{ℕ-discrete, decLt}
 use borrow.Author.Tests.{eq-eqb, ne-eqb}
-use lib.Dec.{eqb}
-use lib.IntN.{ℤ, pos, negℤ, natAbs, _-ℤ_}
-use lib.ListN.{length, getD}
+use lib.IntN.{ℤ, pos}
+use lib.ListN.{getD}
 use lib.Signed.{leZ}
 use Rattle.integers.specs.Integer.{_⩽_}
 use Rattle.integers.specs.Linear.{ints}
 use Rattle.integers.specs.Laws.{never, and-true, both-true}
-use Rattle.integers.specs.Sequence.{tabulate, length-tabulate, getD-tabulate}
+use Rattle.integers.specs.Sequence.{length-tabulate, getD-tabulate}
 use Rattle.lines.specs.declared.Line.{Line}
 use Rattle.lines.specs.Line.{Assignment, assignmentOf, Solves}
 use Rattle.lines.specs.Valid.{AllOk}
@@ -23,7 +22,7 @@ use Rattle.walks.specs.Distance.{Distance, none, some, _⊑_, some-le, le-some}
 use Rattle.bounds.specs.Points.{variableOf, value-cong, variable-below}
 use Rattle.bounds.specs.Tight.{Table, halves, tight}
 use Rattle.bounds.specs.Table.{ClosedTable, Solution, tableModel, model-solves, model-nearest, model-unique, consecutive, greatest, no-greatest, least, no-least, grouped}
-use Rattle.answers.specs.Semantics.{Agrees, IsModel, IsGreatest, NoGreatest, IsLeast, NoLeast, Together, IsGroup, LeastWritten, GreatestWritten, Written}
+use Rattle.answers.specs.Semantics.{Agrees, IsModel, Together, IsGroup, LeastWritten, GreatestWritten, Written}
 use Rattle.answers.specs.Verdict.{distances, verdictOf}
 use Rattle.answers.specs.Answers.{modelOf, greatestOf, leastOf, boundAt, boundsOf, lowest, notAbove0, sameGroup, groupAt, groupsOf}
 use Rattle.answers.specs.Solved.{Verdicts, verdict-yes, to-table, of-table, closed-table}

@@ -1,28 +1,24 @@
 -- Where the verdict is no there is a refutation of the due kind with at most 4n steps, or that of the lowest false line.
-use mathlib.Core.Path.{_≡_, refl, sym, ap, subst, _∙_}
-use mathlib.Core.Logic.{_⊎_, inl, inr}
+use mathlib.Core.Path.{_≡_, refl, sym, ap, _∙_}
 use mathlib.Core.Bool.{Bool, true, false, not, _&&_}
 use mathlib.Core.List.{List, [], _∷_, _++_}
-use Prim.Native.Nat.{ℕ, zero, suc, _+_, _*_, _<_, _≤_}
+use Prim.Native.Nat.{ℕ, _+_, _*_, _<_, _≤_}
 use native.Mathlib.Omega.{arith}
-use lib.IntN.{ℤ, pos, _+ℤ_}
+use lib.IntN.{ℤ}
 use lib.ListN.{length, getD, length-append}
-use Rattle.integers.specs.Integer.{_⋖_, half}
-use Rattle.integers.specs.Laws.{never, both-true}
+use Rattle.integers.specs.Laws.{never}
 use Rattle.lines.specs.declared.Line.{Line}
-use Rattle.lines.specs.Line.{lineAt, lineCount, linesOf, isFalse}
+use Rattle.lines.specs.Line.{linesOf, isFalse}
 use Rattle.steps.specs.declared.Step.{Step}
 use Rattle.steps.specs.Point.{opposite}
 use Rattle.steps.specs.Step.{stepsOf}
-use Rattle.steps.specs.Walk.{Path, total}
-use Rattle.walks.specs.Distance.{Distance, some}
-use Rattle.walks.specs.Row.{best}
-use Rattle.walks.specs.Reach.{Reaches}
+use Rattle.steps.specs.Walk.{Path}
+use Rattle.walks.specs.Distance.{some}
 use Rattle.walks.specs.Least.{best-attained}
-use Rattle.walks.specs.Negative.{noNegative, NegativeWalk, negative-point, negative-walk}
-use Rattle.soundness.specs.Refutes.{Walk, Closed, There-and-back, Falsehood, Refutes, kind-1, kind-2, kind-3}
-use Rattle.answers.specs.Graph.{at-line, Numbered, numbered}
-use Rattle.answers.specs.Verdict.{hasFalse, firstFalse, LowestFalse, lowest-false, distances, consistentHalves, BadHalves, bad-halves, verdictOf, dueKind}
+use Rattle.walks.specs.Negative.{noNegative, negative-point, negative-walk}
+use Rattle.soundness.specs.Refutes.{Closed, Falsehood, Refutes, kind-1, kind-2, kind-3}
+use Rattle.answers.specs.Graph.{at-line, numbered}
+use Rattle.answers.specs.Verdict.{hasFalse, firstFalse, lowest-false, consistentHalves, bad-halves, verdictOf, dueKind}
 
 -- the kind, and the steps in all, that a refutation states
 abbrev pub kindOf : List ℕ → ℕ

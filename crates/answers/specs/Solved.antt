@@ -1,15 +1,13 @@
 -- Where the verdict is yes the lines have solutions, and they are those of the table of distances.
 use mathlib.Core.Path.{_≡_, refl, sym, ap, ap₂, subst, _∙_}
-use mathlib.Core.Logic.{_⊎_, inl, inr, ⊎-elim, _↔_}
-use mathlib.Core.Bool.{Bool, true, false, not, _&&_}
+use mathlib.Core.Bool.{Bool, true, false, not}
 use mathlib.Core.List.{List, [], _∷_}
-use Prim.Native.Nat.{ℕ, zero, suc, _+_, _*_, _/_, _%_, _<_, _≤_}
+use Prim.Native.Nat.{ℕ, _+_, _*_, _<_}
 use native.Mathlib.Omega.{arith}
-use lib.IntN.{ℤ, pos, negℤ, _+ℤ_, _-ℤ_}
-use lib.ListN.{length}
+use lib.IntN.{ℤ, pos, _+ℤ_, _-ℤ_}
 use Rattle.integers.specs.Integer.{_⩽_}
 use Rattle.integers.specs.Linear.{ints}
-use Rattle.integers.specs.Laws.{never, and-true}
+use Rattle.integers.specs.Laws.{and-true}
 use Rattle.integers.specs.Table.{below-at}
 use Rattle.lines.specs.declared.Line.{Line}
 use Rattle.lines.specs.Line.{Assignment, Solves}
@@ -18,15 +16,15 @@ use Rattle.steps.specs.declared.Step.{Step}
 use Rattle.steps.specs.Point.{opposite, value, opposite-twice}
 use Rattle.steps.specs.Step.{stepsOf, Says}
 use Rattle.steps.specs.Walk.{AllSay, walk-says}
-use Rattle.walks.specs.Distance.{Distance, none, some, _⊑_, _⊞_, halfD, Up, up-inv, up-of-le, up-at, le-some}
-use Rattle.walks.specs.Row.{In, WithinPoints, best}
-use Rattle.walks.specs.Reach.{Steps, Walk, walk-one}
+use Rattle.walks.specs.Distance.{Distance, some, _⊑_, _⊞_, halfD, up-inv, up-of-le, up-at, le-some}
+use Rattle.walks.specs.Row.{In}
+use Rattle.walks.specs.Reach.{Steps, walk-one}
 use Rattle.walks.specs.Least.{NoneNegative, best-attained, best-short, best-self, best-triangle}
 use Rattle.walks.specs.Mirror.{best-mirror}
-use Rattle.walks.specs.Negative.{notBelow0, noNegative, no-negative-yes, is-not-below}
+use Rattle.walks.specs.Negative.{noNegative, no-negative-yes, is-not-below}
 use Rattle.bounds.specs.Tight.{Table, halves}
 use Rattle.bounds.specs.Table.{ClosedTable, Solution}
-use Rattle.answers.specs.Graph.{At, ends-points, steps-mirrored, solution-says, says-solution}
+use Rattle.answers.specs.Graph.{ends-points, steps-mirrored, solution-says, says-solution}
 use Rattle.answers.specs.Verdict.{hasFalse, no-false, distances, halvesOk, consistentHalves, verdictOf}
 
 -- what a verdict of yes says

@@ -1,17 +1,15 @@
 -- The verdict as a computed definition: no false line, no closed walk of negative sum, and no point whose halves sum below 0.
 use mathlib.Core.Path.{_≡_, refl, sym, ap, subst, _∙_}
-use mathlib.Core.Logic.{_⊎_, inl, inr}
 use mathlib.Core.Bool.{Bool, true, false, not, cond, _&&_, _||_}
 use mathlib.Core.List.{List, [], _∷_}
-use Prim.Native.Nat.{ℕ, zero, suc, _+_, _*_, _<_, _≤_}
+use Prim.Native.Nat.{ℕ, zero, suc, _+_, _*_, _<_}
 use native.Mathlib.Omega.{arith}
 use lib.IntN.{ℤ, pos, _+ℤ_}
-use Rattle.integers.specs.Integer.{_⩽_, _⋖_, half}
-use Rattle.integers.specs.Laws.{never, and-true}
-use Rattle.integers.specs.Table.{allBelow, below-at}
+use Rattle.integers.specs.Integer.{_⋖_, half}
+use Rattle.integers.specs.Laws.{never}
+use Rattle.integers.specs.Table.{allBelow}
 use Rattle.lines.specs.declared.Line.{Line}
 use Rattle.lines.specs.Line.{isFalse}
-use Rattle.steps.specs.declared.Step.{Step}
 use Rattle.steps.specs.Point.{opposite}
 use Rattle.steps.specs.Step.{stepsOf}
 use Rattle.walks.specs.Distance.{Distance, none, some, _⊞_, halfD}

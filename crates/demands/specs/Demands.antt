@@ -1,19 +1,24 @@
--- What was demanded of the checkers, in document 01's words, each statement proved by citing the rest.
+-- What was demanded, in document 01's words, each statement proved by citing the rest: of the answers and of the checkers.
+--
+-- A reader has to believe the meaning of the words (`Solves`, `Written` in answers/specs/Semantics.antt, `Refutes` in soundness/specs/Refutes.antt)
+-- and nothing of how the answers are computed.
 --
 -- The promises of the code are equations: `check_model` answers `modelAnswer`, `check_refutation` answers `refutationAnswer`, and the exported
 -- functions return `checkModel` and `checkRefutation`, for every input. src/lib.rt calls each of them on buffers that could be written, and
 -- proves that every buffer is left as it was: both checkers only read.
 use mathlib.Core.Path.{_≡_}
 use mathlib.Core.Logic.{_↔_}
+use mathlib.Core.Bool.{true, false}
 use mathlib.Core.List.{List, _++_}
-use Prim.Native.Nat.{ℕ, _*_, _%_, _≤_}
-use lib.IntN.{ℤ, pos}
-use lib.ListN.{length}
+use Prim.Native.Nat.{ℕ, _+_, _*_, _%_, _<_, _≤_}
+use lib.IntN.{ℤ, pos, natAbs}
+use lib.ListN.{length, getD}
+use Rattle.integers.specs.Integer.{_⩽_}
 use Rattle.lines.specs.declared.Refusal.{Refusal}
 use Rattle.lines.specs.declared.Validity.the-variants.{Valid}
 use Rattle.lines.specs.declared.Validity.the-variants as validity
 use Rattle.lines.specs.Limits.{maxRefutation}
-use Rattle.lines.specs.Line.{Solves, Solvable, linesOf, assignmentOf}
+use Rattle.lines.specs.Line.{Assignment, Solves, Solvable, linesOf, assignmentOf}
 use Rattle.lines.specs.Refusal.{validityOf}
 use Rattle.little_endian.specs.Bytes.{int32s, nat32s}
 use Rattle.model.specs.declared.ModelAnswer.the-variants as model
@@ -23,6 +28,15 @@ use Rattle.refutation.specs.declared.RefutationAnswer.the-variants.{Yes}
 use Rattle.refutation.specs.Answer.{refutationAnswer}
 use Rattle.soundness.specs.Refutes.{Refutes}
 use Rattle.soundness.specs.Answered.{accepted-when, answers-longer, answers-no-solvable}
+use Rattle.answers.specs.Semantics.{Agrees, IsModel, Written}
+use Rattle.answers.specs.Verdict.{verdictOf, dueKind}
+use Rattle.answers.specs.Answers.{modelOf, boundsOf, groupsOf}
+use Rattle.answers.specs.Small.{AllAbove, model-small}
+use Rattle.answers.specs.Refuted.{Due, due-refutation}
+use Rattle.answers.specs.Meaning.{computed-written, no-tie}
+use Rattle.answers.specs.Decided.{DueKind, lines-ok, yes-solvable, solvable-yes, unsolvable-no, due-accepted, kind-due}
+use Rattle.answers.specs.Unique.{written-model, written-bounds, written-groups}
+use Rattle.answers.specs.Longer.{no-stays, least-stays-or-rises, greatest-stays-or-falls, groups-kept, model-kept}
 use Rattle.c_interface.specs.Calls.{numberBytes, bytesValidity, modelOfBytes, refutationOfBytes, checkModel, checkRefutation}
 use Rattle.c_interface.specs.Laws.{model-bytes-below, refutation-bytes-below}
 use Rattle.c_interface.specs.Apart.{models-apart, refutations-apart, returned-yes}
@@ -34,6 +48,76 @@ ValidFor n L = validityOf n L ≡ Valid
 -- A refutation is accepted against a list if the refutation checker, given that list and its n, says yes.
 abbrev pub Accepted : ℕ → List ℤ → List ℕ → Type 0
 Accepted n L R = refutationAnswer n L R ≡ Yes
+
+-- ---- the answer
+
+-- The answer is yes exactly if whole numbers exist that meet every line.
+pub yes-exactly-if-solvable : (n : ℕ) (L : List ℤ) → ValidFor n L → (verdictOf n (linesOf L) ≡ true) ↔ Solvable (linesOf L)
+yes-exactly-if-solvable n L v = (yes-solvable n L v, solvable-yes n L v)
+
+-- Then the one model, the tightest bounds and the groups are computed.
+pub yes-writes : (n : ℕ) (L : List ℤ) → ValidFor n L → verdictOf n (linesOf L) ≡ true
+    → Written n (linesOf L) (modelOf n (linesOf L)) (boundsOf n (linesOf L)) (groupsOf n (linesOf L))
+yes-writes n L v e = computed-written n (linesOf L) (lines-ok n L v) e
+
+-- Nothing else has their meaning.
+pub nothing-else : (n : ℕ) (L model bounds : List ℤ) (groups : List ℕ) → ValidFor n L → Written n (linesOf L) model bounds groups
+    → (model ≡ modelOf n (linesOf L)) × (bounds ≡ boundsOf n (linesOf L)) × (groups ≡ groupsOf n (linesOf L))
+nothing-else n L m b g v w = (written-model n L v m b g w, written-bounds n L v m b g w, written-groups n L v m b g w)
+
+-- The values that a variable has in solutions agreeing with all earlier choices are consecutive integers, so there is no tie.
+pub consecutive-values : (n : ℕ) (L : List ℤ) → ValidFor n L → (k : ℕ) → k < n → (s t : Assignment) → Solves (linesOf L) s → Solves (linesOf L) t → Agrees k t s
+    → (z : ℤ) → s k ⩽ z → z ⩽ t k → (r : Assignment) × Solves (linesOf L) r × Agrees k r s × (r k ≡ z)
+consecutive-values n L v k h s t a b =
+    no-tie n (linesOf L) (lines-ok n L v) (solvable-yes n L v (record { assignment = s; solves = a })) k h s t a b
+
+-- With every d at least -m, each value of the model lies within n·m of zero.
+pub model-is-small : (n m : ℕ) (L : List ℤ) → ValidFor n L → AllAbove m (linesOf L) → (s : Assignment) → IsModel n (linesOf L) s → (k : ℕ) → k < n
+    → natAbs (s k) ≤ n * m
+model-is-small n m L v a = model-small n m (linesOf L) (lines-ok n L v) a
+
+-- Kind 3 is due if some line is false, else kind 1 if a closed walk of negative sum exists, else kind 2.
+pub the-due-kind : (n : ℕ) (L : List ℤ) → ValidFor n L → DueKind L (dueKind n (linesOf L))
+the-due-kind n L v = kind-due n L v
+
+-- ---- demand 3: every no is shown, and nothing learned is unlearned when lines are added
+
+pub record NothingUnlearned (n : ℕ) (L M : List ℤ) : Type 0 where
+  -- There is no solution exactly if the checker accepts some refutation.
+  pub no-exactly-if-refuted : (Solvable (linesOf L) → ⊥) ↔ ((R : List ℕ) × Accepted n L R)
+  -- Then it accepts one of the due kind: of the lowest false line, or with at most 4n steps in all.
+  pub shown : (Solvable (linesOf L) → ⊥) → (R : Due n L) × Accepted n L (R .numbers)
+  -- Accepted refutations stay accepted, unchanged.
+  pub accepted-stays : (R : List ℕ) → Accepted n L R → Accepted n (L ++ M) R
+  -- A no stays a no.
+  pub no-stays-no : verdictOf n (linesOf L) ≡ false → verdictOf n (linesOf (L ++ M)) ≡ false
+  -- Where both are a yes: least values stay or rise and greatest stay or fall, as the numbers written, absent ones included.
+  pub least : verdictOf n (linesOf L) ≡ true → verdictOf n (linesOf (L ++ M)) ≡ true → (x : ℕ) → x < n
+      → getD (boundsOf n (linesOf L)) (2 * x) (pos 0) ⩽ getD (boundsOf n (linesOf (L ++ M))) (2 * x) (pos 0)
+  pub greatest : verdictOf n (linesOf L) ≡ true → verdictOf n (linesOf (L ++ M)) ≡ true → (x : ℕ) → x < n
+      → getD (boundsOf n (linesOf (L ++ M))) (2 * x + 1) (pos 0) ⩽ getD (boundsOf n (linesOf L)) (2 * x + 1) (pos 0)
+  -- Two events in one group stay in one group.
+  pub groups : verdictOf n (linesOf L) ≡ true → verdictOf n (linesOf (L ++ M)) ≡ true → (x y : ℕ) → x < n → y < n
+      → getD (groupsOf n (linesOf L)) x 0 ≡ getD (groupsOf n (linesOf L)) y 0 → getD (groupsOf n (linesOf (L ++ M))) x 0 ≡ getD (groupsOf n (linesOf (L ++ M))) y 0
+  -- The model is the same exactly if the shorter list's model meets every added line.
+  pub model : verdictOf n (linesOf L) ≡ true → verdictOf n (linesOf (L ++ M)) ≡ true
+      → (modelOf n (linesOf (L ++ M)) ≡ modelOf n (linesOf L)) ↔ Solves (linesOf M) (assignmentOf (modelOf n (linesOf L)))
+
+pub nothing-unlearned : (n : ℕ) (L M : List ℤ) → ValidFor n L → ValidFor n (L ++ M) → NothingUnlearned n L M
+nothing-unlearned n L M v u =
+    record {
+      no-exactly-if-refuted = ((λ f. let d = due f in (d .numbers, due-accepted n L v d)), (λ r. answers-no-solvable n L (r .0) (r .1)));
+      shown = λ f. let d = due f in (d, due-accepted n L v d);
+      accepted-stays = λ R. answers-longer n L M R u;
+      no-stays-no = no-stays n L M v u;
+      least = λ a b. least-stays-or-rises n L M v u _ _ _ _ _ _ (yes-writes n L v a) (yes-writes n (L ++ M) u b);
+      greatest = λ a b. greatest-stays-or-falls n L M v u _ _ _ _ _ _ (yes-writes n L v a) (yes-writes n (L ++ M) u b);
+      groups = λ a b. groups-kept n L M v u _ _ _ _ _ _ (yes-writes n L v a) (yes-writes n (L ++ M) u b);
+      model = λ a b. model-kept n L M v u _ _ _ _ _ _ (yes-writes n L v a) (yes-writes n (L ++ M) u b);
+    }
+  where
+    due : (Solvable (linesOf L) → ⊥) → Due n L
+    due f = due-refutation n L (unsolvable-no n L v f)
 
 -- ---- the refutation checker
 

@@ -1,17 +1,17 @@
 -- A signed number and its bits: what unsigned bits say, and a cast to a wider type.
 use mathlib.Core.Path.{_≡_, refl, sym, ap, subst, _∙_}
-use Prim.Native.Nat.{ℕ, zero, suc, _+_, _-_, _*_, _^_, _<_, _≤_}
+use Prim.Native.Nat.{ℕ, zero, suc, _-_, _^_, _<_, _≤_}
 use native.Mathlib.Nat.{zero-add}
 use native.Mathlib.Omega.{arith}
 use mathlib.Core.Bool.{Bool, true, false}
 use borrow.Author.Tests.{eqb-true, eqb-false}
 use lib.Dec.{T, leb, eqb}
-use lib.IntN.{ℤ, pos, negsuc, _+ℤ_, _-ℤ_}
+use lib.IntN.{ℤ, pos, negsuc, _-ℤ_}
 use lib.Pow.{pow-pos}
 use lib.Signed.{mag}
 use mir.Syntax.{Width, w64}
 use mir.Val.{bits, hbits, SFits, toZ, ofZ}
-use mir.Facts.{toZ-ofZ, toZ-pos, toZ-neg, sfits-widen}
+use mir.Facts.{toZ-ofZ, toZ-pos, sfits-widen}
 use mir.ValLaws.{pow-bits}
 use Rattle.integers.specs.Integer.{eqZ}
 use Rattle.integers.specs.Laws.{eq-eqZ, ne-eqZ}

@@ -1,7 +1,7 @@
 -- Halving, minimum, maximum and the number nearest zero, over ℤ. Each goes by clauses on `pos` and `negsuc`: it computes at literals, and is a
 -- call that laws can match elsewhere.
-use mathlib.Core.Bool.{Bool, true, false, _&&_}
-use Prim.Native.Nat.{ℕ, suc, _/_, min, max}
+use mathlib.Core.Bool.{Bool, false, _&&_}
+use Prim.Native.Nat.{ℕ, _/_, min, max}
 use lib.Dec.{eqb}
 use lib.IntN.{ℤ, pos, negsuc, negℤ}
 use lib.Signed.{_≤ℤ_, _<ℤ_, leZ}

@@ -2,14 +2,14 @@
 use mathlib.Core.Path.{_≡_, refl, sym, ap, subst, _∙_}
 use mathlib.Core.Logic.{_↔_}
 use mathlib.Core.Bool.{Bool, true, false, _&&_}
-use Prim.Native.Nat.{ℕ, _+_, _*_, _≤_}
+use Prim.Native.Nat.{ℕ, _+_, _≤_}
 use native.Mathlib.Omega.{arith}
 use borrow.Author.Tests.{eq-eqb}
 use lib.Dec.{T, eqb→eq}
-use lib.IntN.{ℤ, pos, negsuc, negℤ, natAbs, _+ℤ_, _-ℤ_}
+use lib.IntN.{ℤ, pos, negsuc, negℤ, natAbs, _+ℤ_}
 use lib.Signed.{leZ}
-use Rattle.integers.specs.Integer.{_⩽_, _⋖_, half, minZ, maxZ, nearestZero, eqZ, isWithin, Within}
-use Rattle.integers.specs.Linear.{ints, zs, given, given₂}
+use Rattle.integers.specs.Integer.{_⩽_, half, nearestZero, eqZ, isWithin, Within}
+use Rattle.integers.specs.Linear.{ints, zs, given}
 
 -- halving is the greatest number whose double is not above
 pub half-greatest : (z k : ℤ) → (k ⩽ half z) ↔ (k +ℤ k ⩽ z)

@@ -5,7 +5,7 @@
 --     given h (simp ints (omega zs))   the same from facts in hand (`given₂`, `given₃`)
 --     omega zs                         where each side of each statement is one term
 --     simp (code, FITS ..) ..          at a need of code: `code` is `ints` and `toZ-ofZ`, whose premises are listed
-use mathlib.Core.Path.{_≡_, refl, sym, _∙_, ap, subst}
+use mathlib.Core.Path.{_≡_, refl, sym, ap, subst}
 use mathlib.Core.Logic.{_↔_}
 use mathlib.Core.Bool.{Bool, true, false, not, cond}
 use Prim.Native.Nat.{ℕ, zero, suc, _+_, _*_, _-_, _/_, _^_, _≤_, _<_, min, max}
@@ -13,10 +13,10 @@ use mir.Syntax.{Width}
 use mir.Val.{SFits, hbits}
 use mir.Facts.{toZ-ofZ}
 use native.Mathlib.Omega.{arith}
-use lib.Dec.{T, leb, ltb, leb→le, le→leb, ltb→lt, lt→ltb, nltb→le}
+use lib.Dec.{T, ltb, leb→le, le→leb, ltb→lt, lt→ltb, nltb→le}
 use lib.IntN.{ℤ, pos, negsuc, negℤ, subℕ, _+ℤ_, _-ℤ_, _*ℤ_, natAbs, sucℤ, predℤ, *ℤ-comm, +ℤ-one, -ℤ-one, negℤ-negℤ}
 use lib.Signed.{_≤ℤ_, _<ℤ_, leZ, ltZ, ltZ-no, shrZ, mag}
-use Rattle.integers.specs.Integer.{_⩽_, _⋖_, half, minZ, maxZ}
+use Rattle.integers.specs.Integer.{_⩽_, half, minZ, maxZ}
 
 -- positive and negative part: z = posPart z - negPart z
 abbrev pub posPart : ℤ → ℕ

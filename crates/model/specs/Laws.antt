@@ -1,6 +1,6 @@
 -- What a valid model grants, the products of a line, and the laws by which the loops go one value or one line further.
 use mathlib.Core.Path.{_≡_, refl, sym, ap, _∙_}
-use mathlib.Core.Bool.{Bool, true, false, not, cond}
+use mathlib.Core.Bool.{true, false, not, cond}
 use mathlib.Core.List.{List, [], _∷_}
 use Prim.Native.Nat.{ℕ, zero, suc, _+_, _<_, _≤_}
 use native.Mathlib.Numerals.{add-one}
@@ -16,8 +16,7 @@ use Rattle.integers.specs.Integer.{_⩽_, isWithin, Within}
 use Rattle.integers.specs.Linear.{ints, zs}
 use Rattle.integers.specs.Laws.{is-within}
 use Rattle.lines.specs.declared.Refusal.the-variants.{BadValue}
-use Rattle.lines.specs.declared.Validity.{Validity}
-use Rattle.lines.specs.declared.Validity.the-variants.{Valid, Refused}
+use Rattle.lines.specs.declared.Validity.the-variants.{Valid}
 use Rattle.lines.specs.Limits.{maxValue}
 use Rattle.lines.specs.Line.{Assignment, lineAt, lineCount, linesOf, meets, assignmentOf}
 use Rattle.lines.specs.Refusal.{_orElse_, refuseIf}

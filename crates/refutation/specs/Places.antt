@@ -1,5 +1,4 @@
 -- The place of a refused answer is small: below any bound that passes the limit of lines.
-use mathlib.Core.Path.{_≡_}
 use mathlib.Core.Bool.{Bool, true, false}
 use mathlib.Core.List.{List}
 use Prim.Native.Nat.{ℕ, _<_}
@@ -11,7 +10,7 @@ use Rattle.lines.specs.declared.Refusal.the-variants.{LongRefutation}
 use Rattle.lines.specs.declared.Validity.{Validity}
 use Rattle.lines.specs.declared.Validity.the-variants as validity
 use Rattle.lines.specs.Limits.{maxLines, maxRefutation}
-use Rattle.lines.specs.Refusal.{placeOf, validityOf}
+use Rattle.lines.specs.Refusal.{placeOf}
 use Rattle.lines.specs.Places.{Placed, placed-or, placed-if, place-at, placed-list}
 use Rattle.refutation.specs.declared.RefutationAnswer.{RefutationAnswer}
 use Rattle.refutation.specs.declared.RefutationAnswer.the-variants.{Yes, No, Refused}

@@ -1,10 +1,9 @@
 -- What the checker's answer yes says: the list is valid, the refutation is not too long and is of one of the three kinds.
-use mathlib.Core.Path.{_≡_, refl, sym, ap, _∙_}
+use mathlib.Core.Path.{_≡_, refl}
 use mathlib.Core.Logic.{_↔_}
 use mathlib.Core.Bool.{Bool, true, false}
 use mathlib.Core.List.{List, _++_}
 use Prim.Native.Nat.{ℕ, _≤_}
-use native.Mathlib.Omega.{arith}
 use borrow.Author.Tests.{le-ltb, ltb-false}
 use lib.Dec.{ltb}
 use lib.IntN.{ℤ}
@@ -17,7 +16,7 @@ use Rattle.lines.specs.declared.Validity.the-variants as validity
 use Rattle.lines.specs.Limits.{maxRefutation}
 use Rattle.lines.specs.Line.{Solvable, linesOf}
 use Rattle.lines.specs.Refusal.{_orElse_, refuseIf, validityOf}
-use Rattle.lines.specs.Valid.{ListOk, valid-list, or-valid, not-refused}
+use Rattle.lines.specs.Valid.{valid-list, or-valid, not-refused}
 use Rattle.refutation.specs.declared.RefutationAnswer.the-variants.{Yes}
 use Rattle.refutation.specs.Progress.{accepts}
 use Rattle.refutation.specs.Answer.{refutationValidity, unlessRefused, verdict, refutationAnswer}

@@ -1,14 +1,14 @@
 -- The checker's rule says yes exactly to document 01's three kinds.
 use mathlib.Core.Path.{_≡_, refl, sym, ap, ap₂, subst, _∙_}
 use mathlib.Core.Logic.{_↔_}
-use mathlib.Core.Bool.{Bool, true, false, not, cond, _&&_, _||_}
+use mathlib.Core.Bool.{Bool, true, false, cond, _&&_}
 use mathlib.Core.List.{List, [], _∷_, _++_}
 use Prim.Native.Nat.{ℕ, zero, suc, _+_, _*_, _-_, _/_, _%_, _<_, _≤_}
 use native.Mathlib.Omega.{arith}
-use borrow.Author.Tests.{lt-ltb, le-ltb, ltb-true, eq-eqb, ne-eqb, eqb-true, eqb-false}
+use borrow.Author.Tests.{lt-ltb, le-ltb, ltb-true, eq-eqb, eqb-true}
 use lib.Dec.{T, eqb, ltb}
 use lib.IntN.{ℤ, pos, _+ℤ_}
-use lib.ListN.{length, take, drop, take-append-drop, length-append, length-take, length-drop}
+use lib.ListN.{length, take, drop, take-append-drop, length-append, length-drop}
 use lib.Seq.{take-all, take-at, drop-at, length-take-le}
 use lib.Signed.{ltZ}
 use Rattle.integers.specs.Integer.{_⋖_, half}
@@ -18,13 +18,12 @@ use Rattle.lines.specs.Line.{lineAt, lineCount, isFalse}
 use Rattle.steps.specs.declared.Step.{Step}
 use Rattle.steps.specs.declared.NamedStep.the-variants.{Found}
 use Rattle.steps.specs.Point.{opposite}
-use Rattle.steps.specs.Step.{stepNumbered}
 use Rattle.steps.specs.Walk.{Path, total, Names, path-append}
 use Rattle.refutation.specs.declared.Progress.{Progress}
 use Rattle.refutation.specs.Progress.{headSize, start, countsOk, isFalseStep, headOn, onlyIf, advance, run, closes, accepted, accepts}
 use Rattle.soundness.specs.Run.{no-true, run-read, run-good, run-same, endAfter, Body, Headed, body}
 use Rattle.soundness.specs.Good.{body-good}
-use Rattle.soundness.specs.Refutes.{Walk, Closed, There-and-back, Falsehood, Refutes, kind-1, kind-2, kind-3}
+use Rattle.soundness.specs.Refutes.{Closed, There-and-back, Falsehood, Refutes, kind-1, kind-2, kind-3}
 
 -- ---- walks cut after n steps
 path-cut : (n u v : ℕ) (ts : List Step) → Path u ts v → Path u (take n ts) (endAfter n u ts) × Path (endAfter n u ts) (drop n ts) v

@@ -1,10 +1,10 @@
 -- How the checker's progress runs: what stays, and what a run that stays good says of the steps that it read.
-use mathlib.Core.Path.{_≡_, refl, sym, ap, ap₂, subst, _∙_}
-use mathlib.Core.Bool.{Bool, true, false, not, cond, _&&_, _||_}
-use mathlib.Core.List.{List, [], _∷_, _++_}
-use Prim.Native.Nat.{ℕ, zero, suc, pred, _+_, _*_, _-_, _/_, _%_, _<_, _≤_}
+use mathlib.Core.Path.{_≡_, refl, sym, ap, subst, _∙_}
+use mathlib.Core.Bool.{Bool, true, false, not, _&&_, _||_}
+use mathlib.Core.List.{List, [], _∷_}
+use Prim.Native.Nat.{ℕ, zero, suc, _+_, _-_, _<_, _≤_}
 use native.Mathlib.Omega.{arith}
-use borrow.Author.Tests.{lt-ltb, le-ltb, ltb-true, ltb-false, eq-eqb, ne-eqb, eqb-true, eqb-false}
+use borrow.Author.Tests.{lt-ltb, le-ltb, eq-eqb, ne-eqb, eqb-true}
 use lib.Dec.{T, eqb, ltb}
 use lib.IntN.{ℤ, pos, _+ℤ_}
 use lib.ListN.{length, take, drop}
@@ -19,7 +19,7 @@ use Rattle.steps.specs.Step.{stepNumbered}
 use Rattle.steps.specs.Walk.{Path, total, Names}
 use Rattle.refutation.specs.declared.Progress.{Progress}
 use Rattle.refutation.specs.Small.{either, advance-read}
-use Rattle.refutation.specs.Progress.{headSize, countsOk, isFalseStep, headOn, onlyIf, joins, turns, along, walkOn, advance, run}
+use Rattle.refutation.specs.Progress.{headSize, headOn, joins, turns, along, walkOn, advance, run}
 
 pub no-true : false ≡ true → ⊥
 no-true e = subst T (sym e) tt

@@ -1,28 +1,25 @@
 -- Nothing is accepted against a list that has a solution, and whatever is accepted against a list is accepted against each longer one.
-use mathlib.Core.Path.{_≡_, sym, ap, subst, _∙_}
+use mathlib.Core.Path.{_≡_, ap, subst, _∙_}
 use mathlib.Core.Bool.{true}
 use mathlib.Core.List.{List, [], _∷_, _++_}
-use Prim.Native.Nat.{ℕ, _+_, _%_, _<_}
+use Prim.Native.Nat.{ℕ, _+_, _%_}
 use native.Mathlib.Omega.{arith}
 use lib.IntN.{ℤ, pos, negℤ, _+ℤ_, _-ℤ_}
 use lib.ListN.{length}
 use Rattle.integers.specs.Integer.{_⩽_, _⋖_, half}
 use Rattle.integers.specs.Linear.{ints}
-use Rattle.lines.specs.declared.Line.{Line}
 use Rattle.lines.specs.Limits.{lineSize}
-use Rattle.lines.specs.Line.{Assignment, Solves, linesOf, lineAt, lineCount, isFalse}
+use Rattle.lines.specs.Line.{Assignment, Solves, linesOf, isFalse}
 use Rattle.lines.specs.Valid.{LinesOk}
 use Rattle.lines.specs.Solutions.{count-append, line-left}
 use Rattle.steps.specs.declared.Step.{Step}
-use Rattle.steps.specs.declared.NamedStep.{NamedStep}
-use Rattle.steps.specs.declared.NamedStep.the-variants.{Found}
-use Rattle.steps.specs.Point.{value, opposite, value-opposite}
-use Rattle.steps.specs.Step.{stepNumbered, Says, Holds}
+use Rattle.steps.specs.Point.{value, value-opposite}
+use Rattle.steps.specs.Step.{Holds}
 use Rattle.steps.specs.Laws.{numbered-longer}
 use Rattle.steps.specs.Meaning.{numbered-holds, no-false-line}
 use Rattle.steps.specs.Walk.{Names, AllSay, total, walk-says}
 use Rattle.refutation.specs.Progress.{accepts}
-use Rattle.soundness.specs.Refutes.{Walk, Closed, There-and-back, Falsehood, Refutes, kind-1, kind-2, kind-3}
+use Rattle.soundness.specs.Refutes.{Walk, Refutes, kind-1, kind-2, kind-3}
 use Rattle.soundness.specs.Meaning.{accepts-exactly}
 
 -- ---- against a solution

@@ -1,10 +1,10 @@
 -- What the code and its callers use of a line's step: when there is one, that its ends are right, and that its weight is small.
-use mathlib.Core.Path.{_≡_, refl, sym, ap, subst, _∙_}
-use mathlib.Core.Bool.{Bool, true, false, not, cond, _&&_}
+use mathlib.Core.Path.{_≡_, refl, sym, subst}
+use mathlib.Core.Bool.{Bool, true, false, not, cond}
 use mathlib.Core.List.{List, _++_}
-use Prim.Native.Nat.{ℕ, zero, suc, _+_, _*_, _/_, _%_, _<_, _≤_}
+use Prim.Native.Nat.{ℕ, zero, suc, _+_, _*_, _/_, _%_, _<_}
 use native.Mathlib.Omega.{arith}
-use borrow.Author.Tests.{lt-ltb, ltb-true, eqb-false, eq-eqb, ne-eqb}
+use borrow.Author.Tests.{lt-ltb, ltb-true, eq-eqb, ne-eqb}
 use lib.Dec.{T, eqb, ltb}
 use lib.IntN.{ℤ, pos, _*ℤ_}
 use lib.ListN.{length}
@@ -17,10 +17,9 @@ use Rattle.lines.specs.Line.{lineAt, lineCount}
 use Rattle.lines.specs.Valid.{VariableOk, LineOk, LinesOk}
 use Rattle.lines.specs.Solutions.{count-append, line-left}
 use Rattle.steps.specs.declared.Step.{Step}
-use Rattle.steps.specs.declared.NamedStep.{NamedStep}
 use Rattle.steps.specs.declared.NamedStep.the-variants.{Found, Nothing}
 use Rattle.steps.specs.Table.{entry, cell, digit, isEnd, CellRule, rule-at, digit-lt}
-use Rattle.steps.specs.Step.{maxWeight, variableAt, endPoint, stepWith, stepOf, stepNumbered}
+use Rattle.steps.specs.Step.{maxWeight, variableAt, stepWith, stepOf, stepNumbered}
 
 module _ (l : Line) (side : ℕ) where
   abbrev c : ℕ

@@ -1,7 +1,7 @@
 -- A line is met exactly if its steps hold, for all nine coefficient pairs at once.
-use mathlib.Core.Path.{_≡_, refl, sym, ap, ap₂, subst, _∙_}
+use mathlib.Core.Path.{_≡_, refl, sym, ap, ap₂, _∙_}
 use mathlib.Core.Logic.{_↔_}
-use mathlib.Core.Bool.{Bool, true, false, cond, _&&_}
+use mathlib.Core.Bool.{Bool, true, false, cond}
 use mathlib.Core.List.{List}
 use Prim.Native.Nat.{ℕ, zero, suc, _+_, _*_, _/_, _%_, _<_}
 use native.Mathlib.Omega.{arith}
@@ -17,10 +17,8 @@ use Rattle.lines.specs.declared.Line.{Line}
 use Rattle.lines.specs.Line.{Assignment, leftSide, Meets, Solves, lineAt, lineCount, linesOf, isZero, isFalse}
 use Rattle.lines.specs.Valid.{LineOk, LinesOk}
 use Rattle.lines.specs.Solutions.{solves-at}
-use Rattle.steps.specs.declared.Step.{Step}
-use Rattle.steps.specs.declared.NamedStep.{NamedStep}
 use Rattle.steps.specs.declared.NamedStep.the-variants.{Found, Nothing}
-use Rattle.steps.specs.Point.{point, value, value-plus, value-minus}
+use Rattle.steps.specs.Point.{value, value-plus, value-minus}
 use Rattle.steps.specs.Table.{entry, cell, digit, countX, countY, coefficient, isEnd, CellRule, rule-at, digit-lt, coefficient-digit, missing}
 use Rattle.steps.specs.Step.{endPoint, stepWith, stepOf, stepNumbered, Says, Holds}
 

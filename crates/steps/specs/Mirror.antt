@@ -1,10 +1,10 @@
 -- A line's steps are mirrored: with p to q of weight w also the opposite of q to the opposite of p, of the same weight; and their points.
-use mathlib.Core.Path.{_≡_, refl, sym, ap, ap₂, subst, _∙_}
+use mathlib.Core.Path.{_≡_, refl, sym, ap, subst, _∙_}
 use mathlib.Core.Logic.{_⊎_, inl, inr, ⊎-elim}
 use mathlib.Core.Bool.{Bool, true, false, cond, _&&_, _||_}
 use Prim.Native.Nat.{ℕ, zero, suc, _+_, _*_, _-_, _/_, _%_, _<_, _≤_}
 use native.Mathlib.Omega.{arith}
-use borrow.Author.Tests.{lt-ltb, le-ltb, ltb-true, ltb-false, eqb-true, eqb-false, ne-eqb}
+use borrow.Author.Tests.{ltb-true, ltb-false, eqb-true, eqb-false}
 use lib.Dec.{eqb, ltb}
 use lib.IntN.{ℤ, pos, natAbs, _*ℤ_}
 use Rattle.integers.specs.Laws.{never, and-true}
@@ -12,10 +12,9 @@ use Rattle.integers.specs.Table.{allBelow, below-at}
 use Rattle.lines.specs.declared.Line.{Line}
 use Rattle.lines.specs.Valid.{VariableOk, variable-lt, LineOk}
 use Rattle.steps.specs.declared.Step.{Step}
-use Rattle.steps.specs.declared.NamedStep.{NamedStep}
 use Rattle.steps.specs.declared.NamedStep.the-variants.{Found, Nothing}
 use Rattle.steps.specs.Point.{point, opposite}
-use Rattle.steps.specs.Table.{entry, cell, digit, digit-lt, CellRule}
+use Rattle.steps.specs.Table.{entry, cell, digit, digit-lt}
 use Rattle.steps.specs.Step.{variableAt, endPoint, stepWith, stepOf}
 use Rattle.steps.specs.Laws.{step-found, line-rule, end-ok}
 

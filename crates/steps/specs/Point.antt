@@ -1,5 +1,5 @@
 -- The two points of each variable x (the field's term: vertices): x+, of number 2x, stands for x, and x-, of number 2x + 1, for -x.
-use mathlib.Core.Path.{_≡_, refl, sym, ap, _∙_}
+use mathlib.Core.Path.{_≡_, refl, sym}
 use Prim.Native.Nat.{ℕ, zero, suc, _+_, _*_, _-_, _/_, _%_}
 use native.Mathlib.Omega.{arith}
 use lib.IntN.{ℤ, negℤ, negℤ-negℤ}

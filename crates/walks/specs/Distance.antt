@@ -1,14 +1,13 @@
 -- Distances: an integer, or none where there is no walk. Their order, the smaller of two, sums and halves.
 -- `Up a z` says that the distance a is at most the integer z, so that `none` needs no case in a proof; `Below v a`, that v is at most a.
-use mathlib.Core.Path.{_≡_, refl, sym, _∙_, ap, subst}
+use mathlib.Core.Path.{_≡_, refl, sym, ap, subst}
 use mathlib.Core.Logic.{_⊎_, inl, inr, ⊎-elim}
 use mathlib.Core.Bool.{Bool, true, false}
-use Prim.Native.Nat.{ℕ, suc}
 use native.Mathlib.Omega.{arith}
-use lib.IntN.{ℤ, pos, negsuc, _+ℤ_}
+use lib.IntN.{ℤ, pos, _+ℤ_}
 use lib.Signed.{leZ}
 use Rattle.integers.specs.Integer.{_⩽_, _⋖_, half, minZ}
-use Rattle.integers.specs.Linear.{ints, given}
+use Rattle.integers.specs.Linear.{ints}
 use Rattle.integers.specs.Laws.{never}
 
 pub data Distance : Type 0 where

@@ -1,6 +1,6 @@
 -- `lines::line_validity` meets its contract: each way out has the tests that led there.
-use mathlib.Core.Path.{_≡_, sym, ap, _∙_}
-use mathlib.Core.Bool.{Bool, true, false, not}
+use mathlib.Core.Path.{_≡_, sym, ap}
+use mathlib.Core.Bool.{not}
 use borrow.Author.Needs.{needs}
 use Rattle.lines.specs.Refusal.{coefficientsOk, variablesOk, constantOk}
 use Rattle.lines.proofs.line_validity.Statement.{statement}

@@ -1,5 +1,4 @@
 -- `lines::list_validity` meets its contract: each way out has the tests that led there.
-use mathlib.Core.Path.{_∙_, sym}
 use borrow.Author.Needs.{needs}
 use borrow.Author.Tests.{lt-ltb, le-ltb, eq-eqb, ne-eqb}
 use Rattle.lines.specs.Refusal.{validityOf}

@@ -9,10 +9,9 @@ use Rattle.integers.specs.Bits.{kept}
 use Rattle.lines.specs.declared.Line.{Line}
 use Rattle.lines.specs.Limits.{maxVariables}
 use Rattle.lines.specs.Valid.{LineOk}
-use Rattle.steps.specs.declared.Step.{Step}
 use Rattle.steps.specs.declared.NamedStep.the-variants.{Found}
 use Rattle.steps.specs.Table.{entry, cell, digit, CellRule}
-use Rattle.steps.specs.Step.{endPoint, stepWith}
+use Rattle.steps.specs.Step.{endPoint}
 use Rattle.steps.specs.Laws.{step-none, step-found, line-rule, end-ok}
 use Rattle.steps.proofs.line_step.Statement.{statement}
 use Rattle.steps.proofs.line_step.Tie as tie

@@ -1,5 +1,4 @@
 -- `steps::point_of` meets its contract.
-use mathlib.Core.Path.{_≡_}
 use native.Mathlib.Omega.{arith}
 use lib.Signed.{yes-nonNeg}
 use mir.Facts.{toZ-ofZ}

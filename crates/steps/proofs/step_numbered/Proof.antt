@@ -1,12 +1,10 @@
 -- `steps::step_numbered` meets its contract.
-use mathlib.Core.Path.{_≡_, ap, _∙_}
+use mathlib.Core.Path.{ap, _∙_}
 use Prim.Native.Nat.{_/_, _%_}
 use native.Mathlib.Omega.{arith}
 use borrow.Author.Needs.{needs}
 use borrow.Author.Tests.{lt-ltb, le-ltb}
 use Rattle.lines.specs.declared.Line.{Line}
-use Rattle.lines.specs.Limits.{maxVariables}
-use Rattle.lines.specs.Valid.{LineOk}
 use Rattle.steps.specs.Step.{stepOf, stepNumbered}
 use Rattle.steps.proofs.step_numbered.Statement.{statement}
 use Rattle.steps.proofs.step_numbered.Tie as tie
