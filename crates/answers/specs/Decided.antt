@@ -41,14 +41,14 @@ module _ (n : ℕ) (L : List ℤ) (valid : validityOf n L ≡ Valid) where
   lines-ok = all-ok n L (list-ok .lines)
 
   -- a due refutation is short enough for the checker
-  pub due-accepted : (d : Due n L) → refutationAnswer n L (d .numbers) ≡ Yes
-  due-accepted d = accepted-when n L (d .numbers) .1 (valid, omega (arith, d .size, list-ok .variables), d .refutes)
+  pub due-accepted : (R : List ℕ) → Due n L R → refutationAnswer n L R ≡ Yes
+  due-accepted R d = accepted-when n L R .1 (valid, omega (arith, d .size, list-ok .variables), d .refutes)
 
   pub yes-solvable : verdictOf n (linesOf L) ≡ true → Solvable (linesOf L)
   yes-solvable e = record { assignment = assignmentOf (modelOf n (linesOf L)); solves = model-is-model n (linesOf L) lines-ok e .solves }
 
   pub no-unsolvable : verdictOf n (linesOf L) ≡ false → Solvable (linesOf L) → ⊥
-  no-unsolvable e s = let d = due-refutation n L e in answers-no-solvable n L (d .numbers) (due-accepted d) s
+  no-unsolvable e s = let r = due-refutation n L e in answers-no-solvable n L (r .0) (due-accepted (r .0) (r .1)) s
 
   pub solvable-yes : Solvable (linesOf L) → verdictOf n (linesOf L) ≡ true
   solvable-yes s = go (verdictOf n (linesOf L)) refl

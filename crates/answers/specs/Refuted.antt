@@ -27,15 +27,13 @@ kindOf R = getD R 0 0
 abbrev pub stepsIn : List ℕ → ℕ
 stepsIn R = getD R 1 0 + getD R 2 0
 
--- a refutation of the due kind: a false line's, of the lowest, or with at most 4n steps
-pub record Due (n : ℕ) (L : List ℤ) : Type 0 where
-  pub numbers : List ℕ
-  pub refutes : Refutes L numbers
-  pub kind : kindOf numbers ≡ dueKind n (linesOf L)
-  pub steps : dueKind n (linesOf L) ≡ 3 → stepsIn numbers ≡ 1
-  pub few : (dueKind n (linesOf L) ≡ 3 → ⊥) → stepsIn numbers ≤ 4 * n
-  pub lowest : dueKind n (linesOf L) ≡ 3 → getD numbers 3 0 ≡ 2 * firstFalse 0 (linesOf L)
-  pub size : length numbers ≤ 4 + 4 * n
+-- a refutation of the due kind: that of the lowest false line, or one with at most 4n steps
+pub record Due (n : ℕ) (L : List ℤ) (R : List ℕ) : Type 0 where
+  pub refutes : Refutes L R
+  pub kind : kindOf R ≡ dueKind n (linesOf L)
+  pub lowest : dueKind n (linesOf L) ≡ 3 → R ≡ 3 ∷ 1 ∷ 0 ∷ 2 * firstFalse 0 (linesOf L) ∷ []
+  pub few : (dueKind n (linesOf L) ≡ 3 → ⊥) → stepsIn R ≤ 4 * n
+  pub size : length R ≤ 4 + 4 * n
 
 kind-false : (n : ℕ) (ls : List Line) → hasFalse ls ≡ true → dueKind n ls ≡ 3
 unfolding dueKind
@@ -60,15 +58,13 @@ module _ (n : ℕ) (L : List ℤ) where
       let a = at-line L (firstFalse 0 ls) (f .line) (f .at) in
       record { line = firstFalse 0 ls; is = refl; within = a .0; false-line = ap isFalse (a .1) ∙ f .false-line }
 
-  due-false : hasFalse ls ≡ true → Due n L
+  due-false : (e : hasFalse ls ≡ true) → Due n L (3 ∷ 1 ∷ 0 ∷ 2 * firstFalse 0 ls ∷ [])
   due-false e =
       record {
-        numbers = 3 ∷ 1 ∷ 0 ∷ 2 * firstFalse 0 ls ∷ [];
         refutes = kind-3 (falsehood e);
         kind = sym (kind-false n ls e);
-        steps = λ _. refl;
-        few = λ z. absurd (z (kind-false n ls e));
         lowest = λ _. refl;
+        few = λ z. absurd (z (kind-false n ls e));
         size = omega arith;
       }
 
@@ -87,17 +83,15 @@ module _ (n : ℕ) (L : List ℤ) where
         },
       )
 
-  due-negative : hasFalse ls ≡ false → noNegative (stepsOf ls) (2 * n) ≡ false → Due n L
+  due-negative : hasFalse ls ≡ false → (f : noNegative (stepsOf ls) (2 * n) ≡ false) → Due n L (closed-walk f .0)
   unfolding closed-walk
   due-negative e f =
       let w = negative-walk (stepsOf ls) (2 * n) (negative-point (stepsOf ls) (2 * n) f) in
       let m = numbered L (w .steps) (w .walk .steps) in
       let d = kind-negative n ls e f in
       record {
-        numbers = 1 ∷ length (m .numbers) ∷ 0 ∷ m .numbers;
         refutes = kind-1 (closed-walk f .1);
         kind = sym d;
-        steps = λ z. absurd (omega arith);
         few = λ _. omega (arith, m .count, w .few);
         lowest = λ z. absurd (omega arith);
         size = omega (arith, m .count, w .few);
@@ -114,7 +108,7 @@ module _ (n : ℕ) (L : List ℤ) where
   some-back u [] p = absurd (omega (arith, p))
   some-back u (t ∷ ts) p = omega arith
 
-  due-halves : hasFalse ls ≡ false → noNegative (stepsOf ls) (2 * n) ≡ true → consistentHalves n ls ≡ false → Due n L
+  due-halves : hasFalse ls ≡ false → noNegative (stepsOf ls) (2 * n) ≡ true → consistentHalves n ls ≡ false → (R : List ℕ) × Due n L R
   due-halves e f g =
       let b = bad-halves n ls g in
       let E = stepsOf ls in
@@ -123,33 +117,33 @@ module _ (n : ℕ) (L : List ℤ) where
       let w = best-attained E (2 * n) (opposite u) u (b .back) (b .back-is) in
       let p = numbered L (v .steps) (v .walk .steps) in
       let q = numbered L (w .steps) (w .walk .steps) in
-      let d = kind-halves n ls e f in
-      record {
-        numbers = 2 ∷ length (p .numbers) ∷ length (q .numbers) ∷ (p .numbers ++ q .numbers);
-        refutes = kind-2
-            (record {
-              numbers = p .numbers;
-              more = q .numbers;
-              point = u;
-              is = refl;
-              there = record { steps = v .steps; some = omega (arith, p .count, some-step u (v .steps) (v .walk .path)); named = p .names; path = v .walk .path };
-              back = record { steps = w .steps; some = omega (arith, q .count, some-back u (w .steps) (w .walk .path)); named = q .names; path = w .walk .path };
-              low = rw (v .sum, w .sum) (b .negative);
-            });
-        kind = sym d;
-        steps = λ z. absurd (omega arith);
-        few = λ _. omega (arith, p .count, q .count, v .count, w .count);
-        lowest = λ z. absurd (omega arith);
-        size = omega (arith, length-append (p .numbers) (q .numbers), p .count, q .count, v .count, w .count);
-      }
+      let d = kind-halves n ls e f in (
+        2 ∷ length (p .numbers) ∷ length (q .numbers) ∷ (p .numbers ++ q .numbers),
+        record {
+          refutes = kind-2
+              (record {
+                numbers = p .numbers;
+                more = q .numbers;
+                point = u;
+                is = refl;
+                there = record { steps = v .steps; some = omega (arith, p .count, some-step u (v .steps) (v .walk .path)); named = p .names; path = v .walk .path };
+                back = record { steps = w .steps; some = omega (arith, q .count, some-back u (w .steps) (w .walk .path)); named = q .names; path = w .walk .path };
+                low = rw (v .sum, w .sum) (b .negative);
+              });
+          kind = sym d;
+          few = λ _. omega (arith, p .count, q .count, v .count, w .count);
+          lowest = λ z. absurd (omega arith);
+          size = omega (arith, length-append (p .numbers) (q .numbers), p .count, q .count, v .count, w .count);
+        },
+      )
 
   -- a no is shown
-  pub due-refutation : verdictOf n ls ≡ false → Due n L
+  pub due-refutation : verdictOf n ls ≡ false → (R : List ℕ) × Due n L R
   unfolding verdictOf
   due-refutation = go (hasFalse ls) refl (noNegative (stepsOf ls) (2 * n)) refl (consistentHalves n ls) refl
     where
-      go : (a : Bool) → hasFalse ls ≡ a → (b : Bool) → noNegative (stepsOf ls) (2 * n) ≡ b → (c : Bool) → consistentHalves n ls ≡ c → (not a && (b && c)) ≡ false → Due n L
-      go true e b f c g z = due-false e
-      go false e false f c g z = due-negative e f
+      go : (a : Bool) → hasFalse ls ≡ a → (b : Bool) → noNegative (stepsOf ls) (2 * n) ≡ b → (c : Bool) → consistentHalves n ls ≡ c → (not a && (b && c)) ≡ false → (R : List ℕ) × Due n L R
+      go true e b f c g z = (_, due-false e)
+      go false e false f c g z = (_, due-negative e f)
       go false e true f false g z = due-halves e f g
       go false e true f true g z = never (cc)

@@ -37,6 +37,7 @@ use Rattle.answers.specs.Meaning.{computed-written, no-tie}
 use Rattle.answers.specs.Decided.{DueKind, lines-ok, yes-solvable, solvable-yes, unsolvable-no, due-accepted, kind-due}
 use Rattle.answers.specs.Unique.{written-model, written-bounds, written-groups}
 use Rattle.answers.specs.Longer.{no-stays, least-stays-or-rises, greatest-stays-or-falls, groups-kept, model-kept}
+use Rattle.answers.specs.Cases.{AllHold, cases, all-cases}
 use Rattle.c_interface.specs.Calls.{numberBytes, bytesValidity, modelOfBytes, refutationOfBytes, checkModel, checkRefutation}
 use Rattle.c_interface.specs.Laws.{model-bytes-below, refutation-bytes-below}
 use Rattle.c_interface.specs.Apart.{models-apart, refutations-apart, returned-yes}
@@ -80,13 +81,17 @@ model-is-small n m L v a = model-small n m (linesOf L) (lines-ok n L v) a
 pub the-due-kind : (n : ℕ) (L : List ℤ) → ValidFor n L → DueKind L (dueKind n (linesOf L))
 the-due-kind n L v = kind-due n L v
 
+-- The starred cases: one table, one statement over it.
+pub starred-cases : AllHold cases
+starred-cases = all-cases
+
 -- ---- demand 3: every no is shown, and nothing learned is unlearned when lines are added
 
 pub record NothingUnlearned (n : ℕ) (L M : List ℤ) : Type 0 where
   -- There is no solution exactly if the checker accepts some refutation.
   pub no-exactly-if-refuted : (Solvable (linesOf L) → ⊥) ↔ ((R : List ℕ) × Accepted n L R)
-  -- Then it accepts one of the due kind: of the lowest false line, or with at most 4n steps in all.
-  pub shown : (Solvable (linesOf L) → ⊥) → (R : Due n L) × Accepted n L (R .numbers)
+  -- Then it accepts one of the due kind: that of the lowest false line, or one with at most 4n steps in all.
+  pub shown : (Solvable (linesOf L) → ⊥) → (R : List ℕ) × Due n L R × Accepted n L R
   -- Accepted refutations stay accepted, unchanged.
   pub accepted-stays : (R : List ℕ) → Accepted n L R → Accepted n (L ++ M) R
   -- A no stays a no.
@@ -106,8 +111,8 @@ pub record NothingUnlearned (n : ℕ) (L M : List ℤ) : Type 0 where
 pub nothing-unlearned : (n : ℕ) (L M : List ℤ) → ValidFor n L → ValidFor n (L ++ M) → NothingUnlearned n L M
 nothing-unlearned n L M v u =
     record {
-      no-exactly-if-refuted = ((λ f. let d = due f in (d .numbers, due-accepted n L v d)), (λ r. answers-no-solvable n L (r .0) (r .1)));
-      shown = λ f. let d = due f in (d, due-accepted n L v d);
+      no-exactly-if-refuted = ((λ f. let r = due f in (r .0, due-accepted n L v (r .0) (r .1))), (λ r. answers-no-solvable n L (r .0) (r .1)));
+      shown = λ f. let r = due f in (r .0, r .1, due-accepted n L v (r .0) (r .1));
       accepted-stays = λ R. answers-longer n L M R u;
       no-stays-no = no-stays n L M v u;
       least = λ a b. least-stays-or-rises n L M v u _ _ _ _ _ _ (yes-writes n L v a) (yes-writes n (L ++ M) u b);
@@ -116,7 +121,7 @@ nothing-unlearned n L M v u =
       model = λ a b. model-kept n L M v u _ _ _ _ _ _ (yes-writes n L v a) (yes-writes n (L ++ M) u b);
     }
   where
-    due : (Solvable (linesOf L) → ⊥) → Due n L
+    due : (Solvable (linesOf L) → ⊥) → (R : List ℕ) × Due n L R
     due f = due-refutation n L (unsolvable-no n L v f)
 
 -- ---- the refutation checker
