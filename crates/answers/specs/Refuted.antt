@@ -35,15 +35,15 @@ pub record Due (n : ℕ) (L : List ℤ) (R : List ℕ) : Type 0 where
   pub few : (dueKind n (linesOf L) ≡ 3 → ⊥) → stepsIn R ≤ 4 * n
   pub size : length R ≤ 4 + 4 * n
 
-kind-false : (n : ℕ) (ls : List Line) → hasFalse ls ≡ true → dueKind n ls ≡ 3
+pub kind-false : (n : ℕ) (ls : List Line) → hasFalse ls ≡ true → dueKind n ls ≡ 3
 unfolding dueKind
 kind-false n ls e = rw e
 
-kind-negative : (n : ℕ) (ls : List Line) → hasFalse ls ≡ false → noNegative (stepsOf ls) (2 * n) ≡ false → dueKind n ls ≡ 1
+pub kind-negative : (n : ℕ) (ls : List Line) → hasFalse ls ≡ false → noNegative (stepsOf ls) (2 * n) ≡ false → dueKind n ls ≡ 1
 unfolding dueKind
 kind-negative n ls e f = rw (e, f)
 
-kind-halves : (n : ℕ) (ls : List Line) → hasFalse ls ≡ false → noNegative (stepsOf ls) (2 * n) ≡ true → dueKind n ls ≡ 2
+pub kind-halves : (n : ℕ) (ls : List Line) → hasFalse ls ≡ false → noNegative (stepsOf ls) (2 * n) ≡ true → dueKind n ls ≡ 2
 unfolding dueKind
 kind-halves n ls e f = rw (e, f)
 
@@ -58,7 +58,7 @@ module _ (n : ℕ) (L : List ℤ) where
       let a = at-line L (firstFalse 0 ls) (f .line) (f .at) in
       record { line = firstFalse 0 ls; is = refl; within = a .0; false-line = ap isFalse (a .1) ∙ f .false-line }
 
-  due-false : (e : hasFalse ls ≡ true) → Due n L (3 ∷ 1 ∷ 0 ∷ 2 * firstFalse 0 ls ∷ [])
+  pub due-false : (e : hasFalse ls ≡ true) → Due n L (3 ∷ 1 ∷ 0 ∷ 2 * firstFalse 0 ls ∷ [])
   due-false e =
       record {
         refutes = kind-3 (falsehood e);

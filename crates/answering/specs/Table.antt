@@ -1,0 +1,136 @@
+-- The stored table of a valid list holds the distances themselves: so the model, bounds and groups read off it are those of the definitions.
+use mathlib.Core.Path.{_≡_, sym, ap, ap₂, _∙_}
+use mathlib.Core.Bool.{true}
+use mathlib.Core.List.{List, [], _∷_, _++_}
+use Prim.Native.Nat.{ℕ, _+_, _*_, _<_, _≤_}
+use native.Mathlib.Nat.{mul-le-mul-right}
+use native.Mathlib.Omega.{arith}
+use lib.IntN.{ℤ, pos, negℤ, natAbs}
+use lib.ListN.{length, drop, replicate, length-replicate, List·getD-append}
+use lib.Seq.{drop-at, getD-drop}
+use Rattle.integers.specs.Integer.{_⩽_, Within}
+use Rattle.integers.specs.Linear.{ints}
+use Rattle.integers.specs.Sequence.{tabulate, tabulate-cong}
+use Rattle.lines.specs.declared.Line.{Line}
+use Rattle.lines.specs.declared.Validity.the-variants.{Valid}
+use Rattle.lines.specs.Limits.{maxVariables, maxConstant}
+use Rattle.lines.specs.Line.{number, linesOf, assignmentOf}
+use Rattle.lines.specs.Refusal.{validityOf}
+use Rattle.lines.specs.Valid.{LinesOk, AllOk, valid-list}
+use Rattle.steps.specs.declared.Step.{Step}
+use Rattle.steps.specs.Point.{opposite}
+use Rattle.steps.specs.Step.{stepsOf}
+use Rattle.walks.specs.Distance.{Distance, minD, _⊞_, halfD}
+use Rattle.walks.specs.Row.{best}
+use Rattle.bounds.specs.Points.{opposite-below}
+use Rattle.bounds.specs.Tight.{Table, halves, tight}
+use Rattle.bounds.specs.Range.{model-same}
+use Rattle.bounds.specs.Table.{tableModel}
+use Rattle.answers.specs.Answers.{modelOf, boundAt, boundsOf, groupAt, groupsOf}
+use Rattle.answers.specs.Verdict.{distances, verdictOf}
+use Rattle.answers.specs.Meaning.{model-is-model, model-value}
+use Rattle.answers.specs.Small.{AllAbove, model-small}
+use Rattle.answers.specs.Decided.{lines-ok}
+use Rattle.distances.specs.Stored.{stored}
+use Rattle.distances.specs.Read.{distanceOf, short-more}
+use Rattle.distances.specs.Table.{storedTable, tableStart, TableDone, table-length, table-entry, best-short}
+use Rattle.tables.specs.Sum.{read-back}
+use Rattle.tables.specs.Table.{tableOf, ShortTable}
+use Rattle.nearest.specs.Limit.{maxModel}
+use Rattle.outputs.specs.Agree.{Agree, bounds-same, groups-same}
+
+-- ---- one entry: the table is what lies behind a table's start, if zeros stand before it
+module _ (E : List Step) (m : ℕ) where
+  abbrev t : List ℤ
+  t = storedTable E m m
+
+  abbrev zeros : List ℤ
+  zeros = replicate (tableStart m) (pos 0)
+
+  abbrev behind : List ℤ
+  behind = drop (m * m) (drop (tableStart m) [])
+
+  done : TableDone E m [] (zeros ++ (t ++ behind))
+  done = record { is = drop-at zeros (t ++ behind) (tableStart m) (length-replicate (tableStart m) (pos 0)) }
+
+  pub stored-at : (u v : ℕ) → u < m → v < m → number (storedTable E m m) (u * m + v) ≡ stored (best E m u v)
+  stored-at u v hu hv =
+      let i : u * m + v < length t = omega (arith, table-length E m m, mul-le-mul-right m hu) in
+      sym (List·getD-append t behind (pos 0) (u * m + v) i)
+      ∙ sym (ap (λ (l : List ℤ). number l (u * m + v)) (done .is))
+      ∙ getD-drop (tableStart m) (zeros ++ (t ++ behind)) (u * m + v) (pos 0)
+      ∙ table-entry E m [] (zeros ++ (t ++ behind)) done u v hu hv
+
+-- ---- two tables with the same distances between the points of n variables have the same model
+module _ (n : ℕ) (D E : Table) (same : Agree (2 * n) D E) where
+  halves-same : (p : ℕ) → p < 2 * n → halves D p ≡ halves E p
+  unfolding halves
+  halves-same p h = ap halfD (same p (opposite p) h (opposite-below n p h))
+
+  tight-same : (i j : ℕ) → i < 2 * n → j < 2 * n → tight D i j ≡ tight E i j
+  unfolding tight
+  tight-same i j h k = ap₂ minD (same i j h k) (ap₂ (λ (a b : Distance). a ⊞ b) (halves-same i h) (halves-same (opposite j) (opposite-below n j k)))
+
+  pub table-model-same : (x : ℕ) → tableModel n D x ≡ tableModel n E x
+  unfolding tableModel
+  table-model-same = model-same n (tight D) (tight E) (halves D) (halves E) tight-same halves-same n (omega arith)
+
+-- ---- the stored table of a list
+abbrev pub tableFor : ℕ → List ℤ → List ℤ
+tableFor n L = storedTable (stepsOf (linesOf L)) (2 * n) (2 * n)
+
+module _ (n : ℕ) (L : List ℤ) (few : n ≤ maxVariables) (ok : LinesOk n L) where
+  abbrev D : Table
+  D = tableOf (2 * n) (tableFor n L)
+
+  pub agree : Agree (2 * n) (tableOf (2 * n) (tableFor n L)) (distances n (linesOf L))
+  agree u v hu hv =
+      ap distanceOf (stored-at (stepsOf (linesOf L)) (2 * n) u v hu hv)
+      ∙ read-back (best (stepsOf (linesOf L)) (2 * n) u v) (short-more (omega arith) (best-short n L few ok u v))
+
+  pub short-table : ShortTable n (tableFor n L)
+  short-table =
+      record {
+        variables = few;
+        size = table-length (stepsOf (linesOf L)) (2 * n) (2 * n);
+        short = λ u v hu hv. rw (agree u v hu hv) (best-short n L few ok u v);
+      }
+
+  pub model-agrees : tabulate n (tableModel n (tableOf (2 * n) (tableFor n L))) ≡ modelOf n (linesOf L)
+  unfolding modelOf
+  model-agrees = tabulate-cong n (tableModel n D) (tableModel n (distances n (linesOf L))) (λ x h. table-model-same n D (distances n (linesOf L)) agree x)
+
+  pub bounds-agree : tabulate (2 * n) (boundAt (tableOf (2 * n) (tableFor n L))) ≡ boundsOf n (linesOf L)
+  unfolding boundsOf
+  bounds-agree = bounds-same n D (distances n (linesOf L)) agree
+
+  pub groups-agree : tabulate n (groupAt (tableOf (2 * n) (tableFor n L))) ≡ groupsOf n (linesOf L)
+  unfolding groupsOf
+  groups-agree = groups-same n D (distances n (linesOf L)) agree
+
+-- ---- on a yes, the model's values are small
+all-above : (n : ℕ) (ls : List Line) → AllOk n ls → AllAbove maxConstant ls
+all-above n [] ok = tt
+all-above n (l ∷ ls) ok = (ok .0 .constant .low, all-above n ls (ok .1))
+
+small-within : (n : ℕ) (z : ℤ) → n ≤ maxVariables → natAbs z ≤ n * maxConstant → Within maxModel z
+small-within n z l h =
+    let k : natAbs z ≤ maxModel = omega (arith, mul-le-mul-right maxConstant l) in
+    record { low = low maxModel z k; high = high maxModel z k }
+  where
+    low : (m : ℕ) (z : ℤ) → natAbs z ≤ m → negℤ (pos m) ⩽ z
+    low m z = simp ints (omega arith)
+
+    high : (m : ℕ) (z : ℤ) → natAbs z ≤ m → z ⩽ pos m
+    high m z = simp ints (omega arith)
+
+module _ (n : ℕ) (L : List ℤ) (valid : validityOf n L ≡ Valid) (yes-verdict : verdictOf n (linesOf L) ≡ true) where
+  pub model-ready : (k : ℕ) → k < n → Within maxModel (tableModel n (tableOf (2 * n) (tableFor n L)) k)
+  model-ready k h =
+      let l = valid-list n L valid in
+      let a = lines-ok n L valid in
+      let e : tableModel n (tableOf (2 * n) (tableFor n L)) k ≡ tableModel n (distances n (linesOf L)) k =
+      table-model-same n (tableOf (2 * n) (tableFor n L)) (distances n (linesOf L)) (agree n L (l .variables) (l .lines)) k in
+      let b : natAbs (assignmentOf (modelOf n (linesOf L)) k) ≤ n * maxConstant =
+      model-small n maxConstant (linesOf L) a (all-above n (linesOf L) a) (assignmentOf (modelOf n (linesOf L))) (model-is-model n (linesOf L) a yes-verdict) k h in
+      rw e (small-within n _ (l .variables) (rw (model-value n (linesOf L) a yes-verdict k h) at b))

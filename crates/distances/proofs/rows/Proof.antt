@@ -1,0 +1,129 @@
+-- `distances::rows` meets its contract. The invariant: rows 0 to k stand one behind the other, and `from` is where row k begins.
+use mathlib.Core.Path.{_≡_, refl, ap, _∙_}
+use mathlib.Core.List.{List}
+use Prim.Native.Nat.{ℕ, suc, _+_, _*_, _-_, _<_, _≤_}
+use native.Mathlib.Omega.{arith}
+use borrow.Author.Needs.{needs}
+use denote.Ref.{now}
+use lib.IntN.{ℤ}
+use lib.ListN.{length}
+use Rattle.lines.specs.Line.{linesOf}
+use Rattle.steps.specs.declared.Step.{Step}
+use Rattle.steps.specs.Step.{stepsOf}
+use Rattle.walks.specs.Row.{rowAt}
+use Rattle.distances.specs.Read.{AllShort, maxDistance}
+use Rattle.distances.specs.Rows.{Turn, rows-short, rows-fit, turn-start, turn-short, turn-more, turn-same, turn-end}
+use Rattle.distances.proofs.rows.Statement.{statement}
+use Rattle.distances.proofs.rows.Tie as tie
+
+abbrev Inv-loop : tie.InvT-loop
+Inv-loop list n u work₀ size k₀ from₀ work k from = (length work ≡ length work₀) × Turn (stepsOf (linesOf list)) size u work₀ work k from
+
+abbrev μ-loop : tie.MeasureT-loop
+μ-loop list n u work₀ size k₀ from₀ work k from = size - k
+
+start-row-requires : tie.Need-start-row-requires Inv-loop μ-loop
+start-row-requires c κs = (c .before .pre .within, omega (arith, c .before .pre .room))
+
+-- after the start row
+module _ (a : tie.After-start-row Inv-loop μ-loop) where
+  abbrev start : tie.Start Inv-loop μ-loop
+  start = a .before .before
+
+  abbrev n : ℕ
+  n = start .args .n
+
+  abbrev u : ℕ
+  u = start .args .u
+
+  abbrev E : List Step
+  E = stepsOf (linesOf (now (start .args .list)))
+
+  abbrev w₁ : List ℤ
+  w₁ = now (start .args .work)
+
+  abbrev w₀ : List ℤ
+  w₀ = a .start-row .last .0
+
+  short : (k : ℕ) → k ≤ 2 * n → AllShort maxDistance (rowAt E (2 * n) u k)
+  short k h = rows-short n (now (start .args .list)) (start .pre .few) (start .pre .valid) u k h
+
+loop-holds : tie.Need-loop-holds Inv-loop μ-loop
+loop-holds c =
+    let a = c .before in
+    (refl, turn-start (E a) (2 * n a) (u a) (w₁ a) (w₀ a) (a .start-row .ensures))
+
+next-row-requires : tie.Need-next-row-requires Inv-loop μ-loop
+next-row-requires c κs =
+    let l = c .before .before in
+    let a = l .before .before in
+    let k : l .loop .k < 2 * n a = omega (arith, c .before .loop-test .taken) in
+    record {
+      few = start a .pre .few;
+      valid = start a .pre .valid;
+      room = omega (arith, l .loop .inv .0, l .loop .inv .1 .place, a .start-row .kept .0, start a .pre .room, rows-fit (l .loop .k) (2 * n a) k);
+      short = turn-short (E a) (2 * n a) (u a) (w₁ a) (w₀ a) (a .start-row .ensures) (l .loop .work) (l .loop .k) (l .loop .from) (l .loop .inv .1) (short a (l .loop .k) (omega (arith, k)));
+    }
+
+-- after one more row
+module _ (r : tie.After-next-row Inv-loop μ-loop) where
+  abbrev l : tie.At-loop Inv-loop μ-loop
+  l = r .before .before .before
+
+  abbrev a : tie.After-start-row Inv-loop μ-loop
+  a = l .before .before
+
+  low : l .loop .k < 2 * n a
+  low = omega (arith, r .before .before .loop-test .taken)
+
+  more : Turn (E a) (2 * n a) (u a) (w₀ a) (r .next-row .last .1 .1 .0) (l .loop .k + 1) (l .loop .from + 2 * n a)
+  more =
+      turn-more (E a) (2 * n a) (u a) (w₁ a) (w₀ a) (a .start-row .ensures) (l .loop .work) (l .loop .k) (l .loop .from) (l .loop .inv .1)
+      (short a (l .loop .k) (omega (arith, low))) (r .next-row .last .1 .1 .0) (r .next-row .result) (r .next-row .ensures) low
+
+add-from : tie.Need-add-from Inv-loop μ-loop
+add-from c =
+    let r = c .before in
+    let s = start (a r) in
+    record { fits = omega (arith, l r .loop .inv .1 .place, s .pre .room, s .good .1 .1 .1 .0 .0, rows-fit (l r .loop .k) (2 * n (a r)) (low r)) }
+
+returns : tie.Need-returns Inv-loop μ-loop
+returns c =
+    let r = c .before .before in
+    let b = a r in
+    let i = l r .loop in
+    let h = low r in
+    turn-end (E b) (2 * n b) (u b) (w₁ b) (w₀ b) (b .start-row .ensures) (r .next-row .last .1 .1 .0) (i .k + 1) (i .from + 2 * n b) (more r)
+    (turn-same (E b) (2 * n b) (u b) (w₁ b) (w₀ b) (b .start-row .ensures) (i .work) (i .k) (i .from) (i .inv .1) (short b (i .k) (omega (arith, h)))
+    (r .next-row .last .1 .1 .0) (r .next-row .result) (r .next-row .ensures) (short b (suc (i .k)) h) h (c .if1 .taken))
+
+loop-again : tie.Need-loop-again Inv-loop μ-loop
+loop-again c =
+    let r = c .before .before in
+    (r .next-row .kept .1 .1 .0 ∙ l r .loop .inv .0, more r)
+
+returns-2 : tie.Need-returns-2 Inv-loop μ-loop
+returns-2 c =
+    let i = c .before .loop in
+    let b = c .before .before .before in
+    let e : i .k ≡ 2 * n b = omega (arith, i .inv .1 .count, c .loop-test .left) in
+    turn-end (E b) (2 * n b) (u b) (w₁ b) (w₀ b) (b .start-row .ensures) (i .work) (i .k) (i .from) (i .inv .1) (ap (rowAt (E b) (2 * n b) (u b)) e)
+
+pub rows-spec : {M : Type 1} → statement M
+rows-spec =
+    tie.close
+    (tie.spec
+    Inv-loop
+    μ-loop
+    (search needs)
+    start-row-requires
+    loop-holds
+    next-row-requires
+    (search needs)
+    add-from
+    (search needs)
+    returns
+    (search needs)
+    loop-again
+    (search needs)
+    returns-2)

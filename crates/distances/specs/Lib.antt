@@ -1,0 +1,9 @@
+pub mod Stored
+pub mod Copy
+pub mod Read
+pub mod Numbers
+pub mod Relax
+pub mod Start
+pub mod Next
+pub mod Rows
+pub mod Table

@@ -1,0 +1,3 @@
+pub mod Limit
+pub mod Value
+pub mod Written

@@ -1,0 +1,99 @@
+-- The model written value by value: what the values so far are, and the next.
+use mathlib.Core.Path.{_≡_, sym, ap, ap₂, _∙_}
+use mathlib.Core.List.{List, [], _∷_, _++_}
+use Prim.Native.Nat.{ℕ, zero, suc, _+_, _*_, _<_, _≤_}
+use native.Mathlib.Decide.{ℕ-discrete}
+use native.Mathlib.Omega.{arith}
+use lib.IntN.{ℤ, pos}
+use lib.ListN.{length, set, take, drop}
+use lib.Seq.{take-at}
+use Rattle.integers.specs.Integer.{Within}
+use Rattle.integers.specs.Sequence.{tabulate, tabulate-add, length-tabulate, getD-tabulate, grow}
+use Rattle.lines.specs.Line.{Assignment, number, assignmentOf}
+use Rattle.steps.specs.Point.{point}
+use Rattle.walks.specs.Distance.{Distance}
+use Rattle.bounds.specs.Points.{assign-same, assign-other}
+use Rattle.bounds.specs.Tight.{Table, halves, tight}
+use Rattle.bounds.specs.Near.{near}
+use Rattle.bounds.specs.Extend.{below, below-lt, limit-cong, pick}
+use Rattle.bounds.specs.Model.{model}
+use Rattle.bounds.specs.Table.{tableModel}
+use Rattle.distances.specs.Read.{distanceOf}
+use Rattle.tables.specs.Table.{tableOf, ShortTable}
+use Rattle.nearest.specs.Limit.{maxModel, limitOf}
+
+-- the value of the next variable, given those of the first ones
+abbrev pub nextOf : Table → List ℤ → ℤ
+nextOf D values = pick (tight D) (halves D) (assignmentOf values) (below (length values)) (length values)
+
+pub record ModelReady (n : ℕ) (t m : List ℤ) : Type 0 where
+  pub table : ShortTable n t
+  pub room : n ≤ length m
+  pub small : (k : ℕ) → k < n → Within maxModel (tableModel n (tableOf (2 * n) t) k)
+
+-- ---- each value is picked, given those before
+module _ (T : Table) (h : ℕ → Distance) where
+  model-stays : (n x : ℕ) → x < n → model T h n x ≡ model T h (suc x) x
+  unfolding model
+  model-stays zero x l = absurd (omega arith)
+  model-stays (suc n) x l = go (model-stays n x) (ℕ-discrete x n)
+    where
+      go : (x < n → model T h n x ≡ model T h (suc x) x) → Dec (x ≡ n) → model T h (suc n) x ≡ model T h (suc x) x
+      go r (yes e) = ap (λ y. model T h (suc y) x) (sym e)
+      go r (no e) = assign-other (model T h n) n _ x e ∙ r (omega arith)
+
+  model-picks : (n k : ℕ) → k < n → model T h n k ≡ pick T h (model T h k) (below k) k
+  unfolding model
+  model-picks n k l = model-stays n k l ∙ assign-same (model T h k) k (pick T h (model T h k) (below k) k)
+
+  pick-cong : (s t : Assignment) (k : ℕ) → ((x : ℕ) → x < k → s x ≡ t x) → pick T h s (below k) k ≡ pick T h t (below k) k
+  unfolding pick
+  pick-cong s t k f =
+      ap₂ near (limit-cong T h s t (below k) (point k 0) (λ x i. f x (below-lt x k i))) (limit-cong T h s t (below k) (point k 1) (λ x i. f x (below-lt x k i)))
+
+  next-is : (n k : ℕ) → k < n → (s : Assignment) → ((x : ℕ) → x < k → s x ≡ model T h n x) → pick T h s (below k) k ≡ model T h n k
+  next-is n k l s f =
+      pick-cong s (model T h k) k (λ x i. f x i ∙ model-stays n x (omega arith) ∙ sym (model-stays k x i)) ∙ sym (model-picks n k l)
+
+-- the two ends that were read back
+pub pick-back : (D : Table) (values : List ℤ) (k : ℕ) (u l : ℤ) → distanceOf u ≡ limitOf D values k (point k 0) → distanceOf l ≡ limitOf D values k (point k 1)
+    → near (distanceOf u) (distanceOf l) ≡ pick (tight D) (halves D) (assignmentOf values) (below k) k
+unfolding pick
+pick-back D values k u l e f = ap₂ near e f
+
+-- ---- the loop, after k values
+module _ (n : ℕ) (t m : List ℤ) (ok : ModelReady n t m) where
+  abbrev D : Table
+  D = tableOf (2 * n) t
+
+  abbrev values : ℕ → List ℤ
+  values k = tabulate k (tableModel n D)
+
+  module _ (k : ℕ) (l : k < n) (w : List ℤ) (e : w ≡ values k ++ drop k m) where
+    pub part-is : take k w ≡ values k
+    part-is = ap (take k) e ∙ take-at (values k) (drop k m) k (length-tabulate k (tableModel n D))
+
+    pub part-length : length (take k w) ≡ k
+    part-length = ap length part-is ∙ length-tabulate k (tableModel n D)
+
+    part-at : (x : ℕ) → x < k → number (take k w) x ≡ tableModel n D x
+    part-at x h = ap (λ (v : List ℤ). number v x) part-is ∙ getD-tabulate k x (tableModel n D) (pos 0) h
+
+    pub part-small : (x : ℕ) → x < length (take k w) → Within maxModel (number (take k w) x)
+    part-small x h =
+        let i : x < k = rw part-length at h in
+        rw (part-at x i) (ok .small x (omega arith))
+
+    value-is : pick (tight D) (halves D) (assignmentOf (take k w)) (below k) k ≡ tableModel n D k
+    unfolding tableModel
+    value-is = next-is (tight D) (halves D) n k l (assignmentOf (take k w)) part-at
+
+    pub written-more : (v : ℤ) → v ≡ nextOf D (take k w) → set w k v ≡ values (k + 1) ++ drop (k + 1) m
+    written-more v q =
+        let a : v ≡ tableModel n D k = q ∙ ap (λ (j : ℕ). pick (tight D) (halves D) (assignmentOf (take k w)) (below j) j) part-length ∙ value-is in
+        ap₂ (λ (x : List ℤ) (y : ℤ). set x k y) e a
+        ∙ grow (values k) k (tableModel n D k) (pos 0) m (length-tabulate k (tableModel n D)) (omega (arith, ok .room))
+        ∙ ap (λ (x : List ℤ). x ++ drop (k + 1) m) (sym (tabulate-add k 1 (tableModel n D) ∙ ap (λ (j : ℕ). values k ++ tableModel n D j ∷ []) z))
+      where
+        z : k + 0 ≡ k
+        z = omega arith

@@ -1,0 +1,5 @@
+pub mod Fill
+pub mod Lowest
+pub mod Reading
+pub mod Bad
+pub mod Agree

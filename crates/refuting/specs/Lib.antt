@@ -1,0 +1,4 @@
+pub mod Copy
+pub mod Shortest
+pub mod Written
+pub mod Refutation

@@ -1,0 +1,2 @@
+pub mod False
+pub mod Negative

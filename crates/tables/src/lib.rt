@@ -1,0 +1,66 @@
+// A table of distances read: a point's half, and the tightened distance of two points.
+use integers::halved;
+use steps::opposite_of;
+ghost use mathlib.Core.Path.{_≡_};
+ghost use Prim.Native.Nat.{_+_, _*_, _<_};
+ghost use Rattle.lines.specs.Line.{number};
+ghost use Rattle.walks.specs.Distance.{minD, _⊞_};
+ghost use Rattle.bounds.specs.Tight.{halves, tight};
+ghost use Rattle.distances.specs.Stored.{stored};
+ghost use Rattle.distances.specs.Read.{distanceOf, Short};
+ghost use Rattle.tables.specs.Sum.{maxTight};
+ghost use Rattle.tables.specs.Table.{tableOf, ShortTable};
+
+// Stands for no walk, as in `distances`. In specs/ it is `stored none`.
+pub const NO_WALK: i64 = 9223372036854775807;
+
+// The smaller of two distances: NO_WALK is above every number.
+pub fn smaller(a: i64, b: i64) -> i64
+    ensures { λ r. ⌜ r ≡ stored (minD (distanceOf a) (distanceOf b)) ⌝ }
+{
+    if b < a { b } else { a }
+}
+
+// The sum of two distances, none where one of them is.
+pub fn sum(a: i64, b: i64) -> i64
+    requires { ⌜ Short maxTight (distanceOf a) × Short maxTight (distanceOf b) ⌝ }
+    ensures { λ r. ⌜ r ≡ stored (distanceOf a ⊞ distanceOf b) ⌝ }
+{
+    if a == NO_WALK {
+        return NO_WALK;
+    }
+    if b == NO_WALK {
+        return NO_WALK;
+    }
+    a + b
+}
+
+// The entry of the points u and v.
+pub fn entry_at(table: &[i64], n: usize, u: usize, v: usize) -> i64
+    requires { ⌜ ShortTable n (now table) × (u < 2 * n) × (v < 2 * n) ⌝ }
+    ensures { λ r. ⌜ r ≡ number (now (table .entry)) (u * (2 * n) + v) ⌝ }
+{
+    let at = u * (2 * n) + v;
+    table[at]
+}
+
+// The greatest value that the distance to its opposite leaves the point p.
+pub fn half_at(table: &[i64], n: usize, p: usize) -> i64
+    requires { ⌜ ShortTable n (now table) × (p < 2 * n) ⌝ }
+    ensures { λ r. ⌜ r ≡ stored (halves (tableOf (2 * n) (now (table .entry))) p) ⌝ }
+{
+    let distance = entry_at(table, n, p, opposite_of(p));
+    if distance == NO_WALK {
+        return NO_WALK;
+    }
+    halved(distance)
+}
+
+// The distance from i to j, or that of their halves where it is less.
+pub fn tight_at(table: &[i64], n: usize, i: usize, j: usize) -> i64
+    requires { ⌜ ShortTable n (now table) × (i < 2 * n) × (j < 2 * n) ⌝ }
+    ensures { λ r. ⌜ r ≡ stored (tight (tableOf (2 * n) (now (table .entry))) i j) ⌝ }
+{
+    let by_halves = sum(half_at(table, n, i), half_at(table, n, opposite_of(j)));
+    smaller(entry_at(table, n, i, j), by_halves)
+}
