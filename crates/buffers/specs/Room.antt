@@ -12,7 +12,6 @@ use Rattle.integers.specs.Sequence.{grow}
 use Rattle.lines.specs.Limits.{maxVariables}
 use Rattle.lines.specs.declared.Refusal.the-variants.{ShortOutput, ShortWorkArea}
 use Rattle.lines.specs.declared.Validity.{Validity}
-use Rattle.lines.specs.declared.Validity.the-variants.{Valid}
 use Rattle.lines.specs.Refusal.{_orElse_, refuseIf, validityOf}
 
 abbrev pub boundsRoom : ℕ → ℕ

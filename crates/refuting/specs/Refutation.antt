@@ -1,10 +1,10 @@
 -- Refutations of kinds 1 and 2, made of walks of least sum and written in front of what the buffer held.
 use mathlib.Core.Path.{_≡_, refl, sym, ap, ap₂, subst, _∙_}
 use mathlib.Core.List.{List, [], _∷_, _++_, append-assoc}
-use Prim.Native.Nat.{ℕ, zero, suc, _+_, _*_, _<_, _≤_}
+use Prim.Native.Nat.{ℕ, _+_, _*_, _<_, _≤_}
 use native.Mathlib.Omega.{arith}
 use lib.IntN.{ℤ, pos, _+ℤ_}
-use lib.ListN.{length, getD, take, drop, length-append, length-drop}
+use lib.ListN.{length, take, drop, length-append, length-drop}
 use lib.Seq.{take-at, drop-at, length-take-le, drop-drop}
 use Rattle.integers.specs.Integer.{_⋖_, half}
 use Rattle.integers.specs.Linear.{ints}
@@ -18,9 +18,9 @@ use Rattle.steps.specs.Walk.{Path, total, Names}
 use Rattle.walks.specs.Distance.{some}
 use Rattle.walks.specs.Row.{best, some-is}
 use Rattle.bounds.specs.Points.{opposite-below}
-use Rattle.soundness.specs.Refutes.{Walk, Closed, There-and-back, Refutes, kind-1, kind-2}
+use Rattle.soundness.specs.Refutes.{Refutes, kind-1, kind-2}
 use Rattle.answers.specs.Refuted.{kindOf, stepsIn}
-use Rattle.refuting.specs.Shortest.{walkStart, WalkReady}
+use Rattle.refuting.specs.Shortest.{walkStart}
 use Rattle.refuting.specs.Written.{WriteReady, WalkWritten}
 
 -- a refutation of a kind, with at most 4n steps, in front of what stood in the buffer

@@ -1,12 +1,12 @@
 -- A walk of least sum between two points, as its step numbers stand in the work area.
-use mathlib.Core.Path.{_≡_, refl, sym, ap, subst, _∙_}
-use mathlib.Core.List.{List, [], _∷_, _++_, map}
-use Prim.Native.Nat.{ℕ, zero, suc, _+_, _*_, _-_, _<_, _≤_}
+use mathlib.Core.Path.{_≡_, sym, ap, _∙_}
+use mathlib.Core.List.{List, _++_, map}
+use Prim.Native.Nat.{ℕ, suc, _+_, _*_, _-_, _<_, _≤_}
 use native.Mathlib.Nat.{mul-le-mul-right}
 use native.Mathlib.Omega.{arith}
 use lib.IntN.{ℤ, pos}
-use lib.ListN.{length, getD, take, drop, length-append, length-map, length-drop}
-use lib.Seq.{take-at, drop-at, drop-append-le, length-take-le, drop-drop}
+use lib.ListN.{length, take, drop, length-append, length-map, length-drop}
+use lib.Seq.{take-at, drop-at, length-take-le, drop-drop}
 use Rattle.lines.specs.Limits.{maxVariables}
 use Rattle.lines.specs.Line.{linesOf}
 use Rattle.lines.specs.Valid.{LinesOk}

@@ -1,22 +1,15 @@
 -- The step numbers of a walk of least sum, written into the refutation.
-use mathlib.Core.Path.{_≡_, refl, sym, ap, ap₂, subst, _∙_}
-use mathlib.Core.Bool.{Bool, true, false, cond}
+use mathlib.Core.Path.{_≡_, refl, sym, ap, ap₂, _∙_}
 use mathlib.Core.List.{List, [], _∷_, _++_, map}
-use Prim.Native.Nat.{ℕ, zero, suc, _+_, _*_, _/_, _%_, _-_, _<_, _≤_}
+use Prim.Native.Nat.{ℕ, zero, suc, _+_, _*_, _-_, _<_, _≤_}
 use native.Mathlib.Omega.{arith}
-use borrow.Author.Tests.{ltb-true}
-use lib.Dec.{ltb}
 use lib.IntN.{ℤ, pos, natAbs}
-use lib.ListN.{length, getD, take, drop, length-append, length-map, length-drop, List·getD-append}
-use lib.Seq.{take-at, drop-at, drop-drop, getD-drop}
-use Rattle.integers.specs.Laws.{never}
-use Rattle.lines.specs.Limits.{maxVariables, maxLines}
-use Rattle.lines.specs.Line.{number, lineAt, lineCount, linesOf}
-use Rattle.lines.specs.Valid.{LinesOk}
+use lib.ListN.{length, getD, take, drop, length-map, List·getD-append}
+use lib.Seq.{drop-at, drop-drop, getD-drop}
+use Rattle.lines.specs.Limits.{maxLines}
+use Rattle.lines.specs.Line.{number, lineCount, linesOf}
 use Rattle.steps.specs.declared.Step.{Step}
-use Rattle.steps.specs.declared.NamedStep.{NamedStep}
-use Rattle.steps.specs.declared.NamedStep.the-variants.{Found, Nothing}
-use Rattle.steps.specs.Step.{stepOf, stepNumbered, stepsOf}
+use Rattle.steps.specs.Step.{stepsOf}
 use Rattle.steps.specs.Walk.{Path, total, Names}
 use Rattle.walks.specs.Distance.{some}
 use Rattle.walks.specs.Row.{best}

@@ -1,0 +1,191 @@
+-- What deciding answers and leaves in the lent buffers, for every input: document 01's promise.
+use mathlib.Core.Path.{_≡_, refl, sym, ap, subst, _∙_}
+use mathlib.Core.Bool.{Bool, true, false, cond}
+use mathlib.Core.List.{List, _++_}
+use Prim.Native.Nat.{ℕ, _+_, _*_, _-_, _^_, _<_, _≤_}
+use native.Mathlib.Omega.{arith}
+use borrow.Author.Tests.{ltb-false}
+use lib.Dec.{ltb}
+use lib.IntN.{ℤ, pos}
+use lib.ListN.{length, drop, replicate}
+use lib.Seq.{drop-drop}
+use Rattle.lines.specs.declared.Refusal.{Refusal}
+use Rattle.lines.specs.declared.Validity.{Validity}
+use Rattle.lines.specs.declared.Validity.the-variants.{Valid}
+use Rattle.lines.specs.declared.Validity.the-variants as validity
+use Rattle.integers.specs.Sequence.{tabulate}
+use Rattle.lines.specs.Line.{linesOf}
+use Rattle.lines.specs.Limits.{maxVariables}
+use Rattle.distances.specs.Table.{tableStart}
+use Rattle.lines.specs.Refusal.{refuseIf, validityOf}
+use Rattle.lines.specs.Valid.{ListOk, or-valid, not-refused, valid-list}
+use Rattle.bounds.specs.Table.{tableModel}
+use Rattle.tables.specs.Table.{tableOf}
+use Rattle.answering.specs.Table.{tableFor, short-table, model-agrees, bounds-agree, groups-agree, model-ready}
+use Rattle.answering.specs.Ready.{AnswersReady}
+use Rattle.answers.specs.Verdict.{verdictOf}
+use Rattle.answers.specs.Answers.{modelOf, boundsOf, groupsOf, boundAt, groupAt}
+use Rattle.answers.specs.Refuted.{Due}
+use Rattle.buffers.specs.Room.{workRoom, outputsValidity, decideValidity, square-small}
+use Rattle.decide.specs.declared.Answer.{Answer}
+use Rattle.decide.specs.declared.Answer.the-variants.{Yes, No, Refused}
+use Rattle.decide.specs.Searched.{usedRoom, SearchReady, Searched, tableIn}
+
+-- ---- the answer
+-- a refusal goes first
+abbrev pub unlessRefused : Validity → Answer → Answer
+unlessRefused Valid a = a
+unlessRefused (validity.Refused r) a = Refused r
+
+-- buffers are given by their lengths
+unfoldable pub decideAnswer : ℕ → List ℤ → ℕ → ℕ → ℕ → ℕ → ℕ → Answer
+decideAnswer n L model bounds groups refutation work = unlessRefused (decideValidity n L model bounds groups refutation work) (cond (verdictOf n (linesOf L)) Yes No)
+
+-- ---- the lent buffers
+pub record Lent : Type 0 where
+  pub model : List ℤ
+  pub bounds : List ℤ
+  pub groups : List ℕ
+  pub refutation : List ℕ
+  pub work : List ℤ
+
+-- the work area with zeros in its named part
+abbrev pub cleared : ℕ → List ℤ → List ℤ
+cleared n w = replicate (workRoom n) (pos 0) ++ drop (workRoom n) w
+
+pub record OnYes (n : ℕ) (L : List ℤ) (b a : Lent) : Type 0 where
+  pub model : a .model ≡ modelOf n (linesOf L) ++ drop n (b .model)
+  pub bounds : a .bounds ≡ boundsOf n (linesOf L) ++ drop (2 * n) (b .bounds)
+  pub groups : a .groups ≡ groupsOf n (linesOf L) ++ drop n (b .groups)
+  pub refutation : a .refutation ≡ b .refutation
+  pub work : a .work ≡ cleared n (b .work)
+
+-- of a refutation of kind 1 or 2 only the walks are free
+pub record OnNo (n : ℕ) (L : List ℤ) (b a : Lent) : Type 0 where
+  pub numbers : List ℕ
+  pub due : Due n L numbers
+  pub refutation : a .refutation ≡ numbers ++ drop (length numbers) (b .refutation)
+  pub model : a .model ≡ b .model
+  pub bounds : a .bounds ≡ b .bounds
+  pub groups : a .groups ≡ b .groups
+  pub work : a .work ≡ cleared n (b .work)
+
+-- b is what the buffers held before, a what they hold after
+abbrev pub Leaves : ℕ → List ℤ → Answer → Lent → Lent → Type 0
+Leaves n L Yes b a = OnYes n L b a
+Leaves n L No b a = OnNo n L b a
+Leaves n L (Refused r) b a = a ≡ b
+
+pub record Decided (n : ℕ) (L : List ℤ) (answer : Answer) (b a : Lent) : Type 0 where
+  pub is : answer ≡ decideAnswer n L (length (b .model)) (length (b .bounds)) (length (b .groups)) (length (b .refutation)) (length (b .work))
+  pub leaves : Leaves n L answer b a
+
+-- ---- the room is enough
+pub used-room : (n : ℕ) → usedRoom n ≤ workRoom n
+used-room n = omega arith
+
+-- ---- nothing is refused
+pub record DecideOk (n : ℕ) (L : List ℤ) (b : Lent) : Type 0 where
+  pub list : validityOf n L ≡ Valid
+  pub model : n ≤ length (b .model)
+  pub bounds : 2 * n ≤ length (b .bounds)
+  pub groups : n ≤ length (b .groups)
+  pub refutation : 4 + 4 * n ≤ length (b .refutation)
+  pub work : workRoom n ≤ length (b .work)
+
+abbrev pub validityFor : ℕ → List ℤ → Lent → Validity
+validityFor n L b = decideValidity n L (length (b .model)) (length (b .bounds)) (length (b .groups)) (length (b .refutation)) (length (b .work))
+
+room-of : (a b : ℕ) (r : Refusal) → refuseIf (ltb a b) r ≡ Valid → b ≤ a
+room-of a b r e = ltb-false a b (not-refused (ltb a b) r e)
+
+pub decide-ok : (n : ℕ) (L : List ℤ) (b : Lent) → validityFor n L b ≡ Valid → DecideOk n L b
+unfolding decideValidity outputsValidity
+decide-ok n L b e =
+    let p = or-valid (validityOf n L) _ e in
+    let q = or-valid (outputsValidity n (length (b .model)) (length (b .bounds)) (length (b .groups)) (length (b .refutation))) _ (p .1) in
+    let r = or-valid _ _ (q .0) in
+    let s = or-valid _ _ (r .1) in
+    let t = or-valid _ _ (s .1) in
+    record { list = p .0; model = room-of _ _ _ (r .0); bounds = room-of _ _ _ (s .0); groups = room-of _ _ _ (t .0); refutation = room-of _ _ _ (t .1); work = room-of _ _ _ (q .1) }
+
+module _ (n : ℕ) (L : List ℤ) (b : Lent) where
+  pub refused : (r : Refusal) → validityFor n L b ≡ validity.Refused r → Decided n L (Refused r) b b
+  unfolding decideAnswer
+  refused r e = record { is = sym (ap (λ (v : Validity). unlessRefused v (cond (verdictOf n (linesOf L)) Yes No)) e); leaves = refl }
+
+  module _ (e : validityFor n L b ≡ Valid) where
+    answer-yes : verdictOf n (linesOf L) ≡ true → Yes ≡ decideAnswer n L (length (b .model)) (length (b .bounds)) (length (b .groups)) (length (b .refutation)) (length (b .work))
+    unfolding decideAnswer
+    answer-yes v = sym (rw (e, v))
+
+    answer-no : verdictOf n (linesOf L) ≡ false → No ≡ decideAnswer n L (length (b .model)) (length (b .bounds)) (length (b .groups)) (length (b .refutation)) (length (b .work))
+    unfolding decideAnswer
+    answer-no v = sym (rw (e, v))
+
+    pub search-ready : SearchReady n L (b .refutation) (b .work)
+    search-ready = let o = decide-ok n L b e in record { valid = o .list; room = o .refutation; work-room = omega (arith, used-room n, o .work) }
+
+    pub room-left : {R₁ : List ℕ} {w₁ : List ℤ} {r : Bool} → Searched n L (b .refutation) (b .work) R₁ w₁ r → workRoom n ≤ length w₁
+    room-left k = omega (arith, k .same-length, decide-ok n L b e .work)
+
+    pub few : n ≤ maxVariables
+    few = valid-list n L (decide-ok n L b e .list) .variables
+
+    -- where the table ends is in the work area, and no index comes near 64 bits
+    pub table-fits : {R₁ : List ℕ} {w₁ : List ℤ} {r : Bool} → Searched n L (b .refutation) (b .work) R₁ w₁ r → tableStart (2 * n) + 2 * n * (2 * n) ≤ length w₁
+    table-fits k = omega (arith, room-left k, used-room n)
+
+    pub start-small : tableStart (2 * n) * 8 < 2 ^ 32
+    start-small = omega (arith, used-room n, square-small n few, few)
+
+    behind-room : (w₁ : List ℤ) → drop (usedRoom n) w₁ ≡ drop (usedRoom n) (b .work) → drop (workRoom n) w₁ ≡ drop (workRoom n) (b .work)
+    behind-room w₁ k =
+        let i : workRoom n ≡ usedRoom n + (workRoom n - usedRoom n) = omega (arith, used-room n) in
+        ap (λ (j : ℕ). drop j w₁) i ∙ sym (drop-drop (workRoom n - usedRoom n) (usedRoom n) w₁) ∙ ap (drop (workRoom n - usedRoom n)) k
+        ∙ drop-drop (workRoom n - usedRoom n) (usedRoom n) (b .work) ∙ ap (λ (j : ℕ). drop j (b .work)) (sym i)
+
+    cleared-is : (w₁ w₂ : List ℤ) → drop (usedRoom n) w₁ ≡ drop (usedRoom n) (b .work) → w₂ ≡ replicate (workRoom n) (pos 0) ++ drop (workRoom n) w₁ → w₂ ≡ cleared n (b .work)
+    cleared-is w₁ w₂ k z = z ∙ ap (λ (x : List ℤ). replicate (workRoom n) (pos 0) ++ x) (behind-room w₁ k)
+
+    module _ (R₁ : List ℕ) (w₁ : List ℤ) where
+      pub decided-no : Searched n L (b .refutation) (b .work) R₁ w₁ true → (w₂ : List ℤ) → w₂ ≡ replicate (workRoom n) (pos 0) ++ drop (workRoom n) w₁
+          → Decided n L No b (record { model = b .model; bounds = b .bounds; groups = b .groups; refutation = R₁; work = w₂ })
+      decided-no k w₂ z =
+          let r = k .on-no refl in
+          record {
+            is = answer-no (k .verdict);
+            leaves = record { numbers = r .0; due = r .1; refutation = r .2; model = refl; bounds = refl; groups = refl; work = cleared-is w₁ w₂ (k .behind) z };
+          }
+
+      module _ (k : Searched n L (b .refutation) (b .work) R₁ w₁ false) where
+        ok : ListOk n L
+        ok = valid-list n L (decide-ok n L b e .list)
+
+        table-is : tableIn n w₁ ≡ tableFor n L
+        table-is = k .on-yes refl .1
+
+        pub answers-ready : AnswersReady n (tableIn n w₁) (b .model) (b .bounds) (b .groups)
+        answers-ready =
+            let o = decide-ok n L b e in
+            subst (λ (t : List ℤ). AnswersReady n t (b .model) (b .bounds) (b .groups)) (sym table-is)
+            (record { table = short-table n L (ok .variables) (ok .lines); small = model-ready n L (o .list) (k .verdict); model-room = o .model; bounds-room = o .bounds; groups-room = o .groups })
+
+        pub decided-yes : (m bs : List ℤ) (g : List ℕ)
+            → (m ≡ tabulate n (tableModel n (tableOf (2 * n) (tableIn n w₁))) ++ drop n (b .model))
+            × (bs ≡ tabulate (2 * n) (boundAt (tableOf (2 * n) (tableIn n w₁))) ++ drop (2 * n) (b .bounds))
+            × (g ≡ tabulate n (groupAt (tableOf (2 * n) (tableIn n w₁))) ++ drop n (b .groups))
+            → (w₂ : List ℤ) → w₂ ≡ replicate (workRoom n) (pos 0) ++ drop (workRoom n) w₁
+            → Decided n L Yes b (record { model = m; bounds = bs; groups = g; refutation = R₁; work = w₂ })
+        decided-yes m bs g h w₂ z =
+            record {
+              is = answer-yes (k .verdict);
+              leaves =
+                  record {
+                    model = h .0 ∙ ap (λ (x : List ℤ). x ++ drop n (b .model)) (ap (λ (q : List ℤ). tabulate n (tableModel n (tableOf (2 * n) q))) table-is ∙ model-agrees n L (ok .variables) (ok .lines));
+                    bounds = h .1 ∙ ap (λ (x : List ℤ). x ++ drop (2 * n) (b .bounds)) (ap (λ (q : List ℤ). tabulate (2 * n) (boundAt (tableOf (2 * n) q))) table-is ∙ bounds-agree n L (ok .variables) (ok .lines));
+                    groups = h .2 ∙ ap (λ (x : List ℕ). x ++ drop n (b .groups)) (ap (λ (q : List ℤ). tabulate n (groupAt (tableOf (2 * n) q))) table-is ∙ groups-agree n L (ok .variables) (ok .lines));
+                    refutation = k .on-yes refl .0;
+                    work = cleared-is w₁ w₂ (k .behind) z;
+                  };
+            }

@@ -1,0 +1,268 @@
+-- The search for a refutation: what it asks, what it leaves, and why that is right in each of its ways out.
+use mathlib.Core.Path.{_≡_, refl, sym, ap, ap₂, subst, _∙_}
+use mathlib.Core.Bool.{Bool, true, false, not}
+use mathlib.Core.List.{List, [], _∷_, _++_}
+use Prim.Native.Nat.{ℕ, _+_, _*_, _-_, _<_, _≤_}
+use native.Mathlib.Decide.{decLt}
+use native.Mathlib.Nat.{mul-le-mul-right}
+use native.Mathlib.Omega.{arith}
+use lib.IntN.{ℤ, pos, _+ℤ_}
+use lib.ListN.{length, take, drop, length-append, length-drop}
+use lib.Seq.{take-at, drop-drop}
+use Rattle.integers.specs.Integer.{_⋖_, half}
+use Rattle.integers.specs.Laws.{never}
+use Rattle.integers.specs.Table.{allBelow}
+use Rattle.lines.specs.declared.Line.{Line}
+use Rattle.lines.specs.declared.Validity.the-variants.{Valid}
+use Rattle.lines.specs.Line.{lineCount, linesOf}
+use Rattle.lines.specs.Refusal.{validityOf}
+use Rattle.lines.specs.Valid.{ListOk, valid-list}
+use Rattle.steps.specs.declared.Step.{Step}
+use Rattle.steps.specs.Point.{opposite}
+use Rattle.steps.specs.Step.{stepsOf}
+use Rattle.walks.specs.Distance.{Distance, none, some, _⊞_, halfD}
+use Rattle.walks.specs.Row.{best, some-is}
+use Rattle.walks.specs.Negative.{notBelow0, noNegative, is-below}
+use Rattle.answers.specs.Verdict.{hasFalse, firstFalse, distances, halvesOk, consistentHalves, verdictOf, dueKind}
+use Rattle.answers.specs.Refuted.{Due, due-false, kind-negative, kind-halves}
+use Rattle.distances.specs.Table.{tableStart, storedTable, TableReady, TableDone, table-length, table-behind}
+use Rattle.tables.specs.Table.{tableOf, ShortTable}
+use Rattle.outputs.specs.Agree.{Agree, ok-same, all-ok-same}
+use Rattle.outputs.specs.Bad.{firstBad, none-bad, first-bad}
+use Rattle.searching.specs.False.{false-none}
+use Rattle.searching.specs.Negative.{firstNegative, none-negative, first-negative, negative-same}
+use Rattle.answering.specs.Table.{agree, short-table}
+use Rattle.refuting.specs.Shortest.{walkStart}
+use Rattle.refuting.specs.Refutation.{ClosedReady, HalvesReady, RefutationWritten}
+
+-- behind rows, table and walks
+abbrev pub usedRoom : ℕ → ℕ
+usedRoom n = walkStart (2 * n) + 2 * n
+
+pub record SearchReady (n : ℕ) (L : List ℤ) (R : List ℕ) (w : List ℤ) : Type 0 where
+  pub valid : validityOf n L ≡ Valid
+  pub room : 4 + 4 * n ≤ length R
+  pub work-room : usedRoom n ≤ length w
+
+-- what stands in the work area where there is no refutation
+abbrev pub tableIn : ℕ → List ℤ → List ℤ
+tableIn n w = take (2 * n * (2 * n)) (drop (tableStart (2 * n)) w)
+
+pub record Searched (n : ℕ) (L : List ℤ) (R : List ℕ) (w : List ℤ) (R′ : List ℕ) (w′ : List ℤ) (refuted : Bool) : Type 0 where
+  pub verdict : verdictOf n (linesOf L) ≡ not refuted
+  pub on-no : refuted ≡ true → (N : List ℕ) × Due n L N × (R′ ≡ N ++ drop (length N) R)
+  pub on-yes : refuted ≡ false → (R′ ≡ R) × (tableIn n w′ ≡ storedTable (stepsOf (linesOf L)) (2 * n) (2 * n))
+  pub same-length : length w′ ≡ length w
+  pub behind : drop (usedRoom n) w′ ≡ drop (usedRoom n) w
+
+-- ---- the verdict, by its parts
+module _ (n : ℕ) (ls : List Line) where
+  pub no-by-false : hasFalse ls ≡ true → verdictOf n ls ≡ false
+  unfolding verdictOf
+  no-by-false e = rw e
+
+  pub no-by-walk : hasFalse ls ≡ false → noNegative (stepsOf ls) (2 * n) ≡ false → verdictOf n ls ≡ false
+  unfolding verdictOf
+  no-by-walk e f = rw (e, f)
+
+  pub no-by-halves : hasFalse ls ≡ false → noNegative (stepsOf ls) (2 * n) ≡ true → consistentHalves n ls ≡ false → verdictOf n ls ≡ false
+  unfolding verdictOf
+  no-by-halves e f g = rw (e, f, g)
+
+  pub yes-by-all : hasFalse ls ≡ false → noNegative (stepsOf ls) (2 * n) ≡ true → consistentHalves n ls ≡ true → verdictOf n ls ≡ true
+  unfolding verdictOf
+  yes-by-all e f g = rw (e, f, g)
+
+-- ---- a written refutation of the due kind
+module _ (n : ℕ) (L : List ℤ) (R : List ℕ) (w : List ℤ) (R′ : List ℕ) (w′ : List ℤ) where
+  pub due-written : (kind : ℕ) → (kind ≡ 3 → ⊥) → dueKind n (linesOf L) ≡ kind → RefutationWritten n L kind R w R′ w′ → (N : List ℕ) × Due n L N × (R′ ≡ N ++ drop (length N) R)
+  due-written kind other due k = (
+    k .numbers,
+    record {
+      refutes = k .refutes;
+      kind = k .kind-is ∙ sym due;
+      lowest = λ e. absurd (other (sym due ∙ e));
+      few = λ _. k .few;
+      size = omega (arith, k .size);
+    },
+    k .is,
+  )
+
+-- ---- the table leaves the work area's length
+table-lengths : (E : List Step) (m : ℕ) (w w₁ : List ℤ) → tableStart m + m * m ≤ length w → TableDone E m w w₁ → length w₁ ≡ length w
+table-lengths E m w w₁ room d = go (decLt 0 m)
+  where
+    sizes : length w₁ - tableStart m ≡ m * m + (length w - tableStart m - m * m)
+    sizes =
+        sym (length-drop (tableStart m) w₁) ∙ ap length (d .is) ∙ length-append (storedTable E m m) _
+        ∙ ap₂ (λ (x y : ℕ). x + y) (table-length E m m) (length-drop (m * m) (drop (tableStart m) w) ∙ ap (λ (x : ℕ). x - m * m) (length-drop (tableStart m) w))
+
+    go : Dec (0 < m) → length w₁ ≡ length w
+    go (yes h) = let k : 1 * m ≤ m * m = mul-le-mul-right m h in omega (arith, sizes, room, k)
+    go (no h) = let z : m ≡ 0 = omega arith in let t : tableStart m ≡ 0 = ap tableStart z in omega (arith, sizes, room, t, ap (λ (x : ℕ). x * x) z)
+
+-- ---- with the table
+module _ (n : ℕ) (L : List ℤ) (R : List ℕ) (w : List ℤ) (a : SearchReady n L R w) where
+  abbrev E : List Step
+  E = stepsOf (linesOf L)
+
+  abbrev m : ℕ
+  m = 2 * n
+
+  ok : ListOk n L
+  ok = valid-list n L (a .valid)
+
+  pub table-ready : TableReady n L w
+  table-ready = record { few = ok .variables; valid = ok .lines; room = omega (arith, a .work-room) }
+
+  -- a false line
+  pub by-false : (k : ℕ) → k ≡ firstFalse 0 (linesOf L) → k < lineCount L → (R′ : List ℕ) → R′ ≡ 3 ∷ 1 ∷ 0 ∷ 2 * k ∷ drop 4 R → Searched n L R w R′ w true
+  by-false k e h R′ i =
+      record {
+        verdict = no-by-false n (linesOf L) f;
+        on-no = λ _. (3 ∷ 1 ∷ 0 ∷ 2 * firstFalse 0 (linesOf L) ∷ [], due-false n L f, i ∙ ap (λ (j : ℕ). 3 ∷ 1 ∷ 0 ∷ 2 * j ∷ drop 4 R) e);
+        on-yes = λ z. never (cc);
+        same-length = refl;
+        behind = refl;
+      }
+    where
+      f : hasFalse (linesOf L) ≡ true
+      f = go (hasFalse (linesOf L)) refl
+        where
+          go : (b : Bool) → hasFalse (linesOf L) ≡ b → b ≡ true
+          go true z = refl
+          go false z = absurd (omega (arith, false-none L z, e))
+
+  module _ (clear : hasFalse (linesOf L) ≡ false) (w₁ : List ℤ) (d : TableDone E m w w₁) where
+    pub lengths : length w₁ ≡ length w
+    lengths = table-lengths E m w w₁ (omega (arith, a .work-room)) d
+
+    pub table-is : tableIn n w₁ ≡ storedTable E m m
+    table-is = ap (take (m * m)) (d .is) ∙ take-at (storedTable E m m) (drop (m * m) (drop (tableStart m) w)) (m * m) (table-length E m m)
+
+    same : Agree m (tableOf m (tableIn n w₁)) (distances n (linesOf L))
+    same = subst (λ (t : List ℤ). Agree m (tableOf m t) (distances n (linesOf L))) (sym table-is) (agree n L (ok .variables) (ok .lines))
+
+    pub short : ShortTable n (tableIn n w₁)
+    short = subst (ShortTable n) (sym table-is) (short-table n L (ok .variables) (ok .lines))
+
+    behind-table : drop (usedRoom n) w₁ ≡ drop (usedRoom n) w
+    behind-table =
+        let i : usedRoom n ≡ tableStart m + m * m + m = refl in
+        sym (drop-drop m (tableStart m + m * m) w₁) ∙ ap (drop m) (table-behind E m w w₁ d) ∙ drop-drop m (tableStart m + m * m) w
+
+    diagonal : allBelow m (λ u. notBelow0 (tableOf m (tableIn n w₁) u u)) ≡ noNegative E m
+    unfolding noNegative
+    diagonal = negative-same m _ _ same .0
+
+    consistent : allBelow m (halvesOk (tableOf m (tableIn n w₁))) ≡ consistentHalves n (linesOf L)
+    unfolding consistentHalves
+    consistent = all-ok-same n _ _ same
+
+    -- a closed walk of negative sum
+    module _ (u : ℕ) (e : u ≡ firstNegative m (tableOf m (tableIn n w₁))) where
+      module _ (h : u < m) where
+        negative : noNegative E m ≡ false
+        negative = go (noNegative E m) refl
+          where
+            go : (b : Bool) → noNegative E m ≡ b → b ≡ false
+            go true z = absurd (omega (arith, none-negative m (tableOf m (tableIn n w₁)) .1 (diagonal ∙ z), e))
+            go false z = refl
+
+        low : notBelow0 (best E m u u) ≡ false
+        low =
+            let f = first-negative m (tableOf m (tableIn n w₁)) (diagonal ∙ negative) in
+            subst (λ (x : ℕ). notBelow0 (best E m x x) ≡ false) (sym e) (ap notBelow0 (sym (same _ _ (f .0) (f .0))) ∙ f .1)
+
+        pub closed-ready : ClosedReady n L u R w₁
+        closed-ready =
+            let z = is-below (best E m u u) low in
+            record {
+              ready = record { ready = record { few = ok .variables; valid = ok .lines; within = h; room = omega (arith, a .work-room, lengths); value = z .0; reached = z .1 }; lines = ok .count; room = omega (arith, a .room) };
+              negative = z .2;
+            }
+
+        pub by-walk : (R′ : List ℕ) (w₂ : List ℤ) → RefutationWritten n L 1 R w₁ R′ w₂ → Searched n L R w R′ w₂ true
+        by-walk R′ w₂ k =
+            record {
+              verdict = no-by-walk n (linesOf L) clear negative;
+              on-no = λ _. due-written n L R w₁ R′ w₂ 1 (λ z. omega arith) (kind-negative n (linesOf L) clear negative) k;
+              on-yes = λ z. never (cc);
+              same-length = k .same-length ∙ lengths;
+              behind = k .behind ∙ behind-table;
+            }
+
+      -- two walks whose halves sum below 0
+      module _ (h : u < m → ⊥) (p : ℕ) (q : p ≡ firstBad m (tableOf m (tableIn n w₁))) where
+        not-negative : noNegative E m ≡ true
+        not-negative = go (noNegative E m) refl
+          where
+            go : (b : Bool) → noNegative E m ≡ b → b ≡ true
+            go true z = refl
+            go false z = absurd (h (subst (λ (x : ℕ). x < m) (sym e) (first-negative m (tableOf m (tableIn n w₁)) (diagonal ∙ z) .0)))
+
+        module _ (l : p < m) where
+          bad : consistentHalves n (linesOf L) ≡ false
+          bad = go (consistentHalves n (linesOf L)) refl
+            where
+              go : (b : Bool) → consistentHalves n (linesOf L) ≡ b → b ≡ false
+              go true z = absurd (omega (arith, none-bad m (tableOf m (tableIn n w₁)) .1 (consistent ∙ z), q))
+              go false z = refl
+
+          low-halves : halvesOk (distances n (linesOf L)) p ≡ false
+          low-halves =
+              let f = first-bad m (tableOf m (tableIn n w₁)) (consistent ∙ bad) in
+              subst (λ (x : ℕ). halvesOk (distances n (linesOf L)) x ≡ false) (sym q) (sym (ok-same n _ _ same _ (f .below)) ∙ f .bad)
+
+          pub halves-ready : HalvesReady n L p R w₁
+          halves-ready = go (best E m p (opposite p)) refl (best E m (opposite p) p) refl low-halves
+            where
+              go : (x : Distance) → best E m p (opposite p) ≡ x → (y : Distance) → best E m (opposite p) p ≡ y → notBelow0 (halfD x ⊞ halfD y) ≡ false → HalvesReady n L p R w₁
+              go none i y j z = never (cc)
+              go (some x) i none j z = never (cc)
+              go (some x) i (some y) j z =
+                  let r = is-below (some (half x +ℤ half y)) z in
+                  record {
+                    few = ok .variables;
+                    valid = ok .lines;
+                    lines = ok .count;
+                    within = l;
+                    work-room = omega (arith, a .work-room, lengths);
+                    room = omega (arith, a .room);
+                    there = x;
+                    back = y;
+                    there-is = i;
+                    back-is = j;
+                    negative = subst (λ (v : ℤ). v ⋖ pos 0) (some-is (sym (r .1))) (r .2);
+                  }
+
+          pub by-halves : (R′ : List ℕ) (w₂ : List ℤ) → RefutationWritten n L 2 R w₁ R′ w₂ → Searched n L R w R′ w₂ true
+          by-halves R′ w₂ k =
+              record {
+                verdict = no-by-halves n (linesOf L) clear not-negative bad;
+                on-no = λ _. due-written n L R w₁ R′ w₂ 2 (λ z. omega arith) (kind-halves n (linesOf L) clear not-negative) k;
+                on-yes = λ z. never (cc);
+                same-length = k .same-length ∙ lengths;
+                behind = k .behind ∙ behind-table;
+              }
+
+        pub by-none : (p < m → ⊥) → Searched n L R w R w₁ false
+        by-none l =
+            record {
+              verdict = yes-by-all n (linesOf L) clear not-negative good;
+              on-no = λ z. never (cc);
+              on-yes = λ _. (refl, table-is);
+              same-length = lengths;
+              behind = behind-table;
+            }
+          where
+            good : consistentHalves n (linesOf L) ≡ true
+            good = go (consistentHalves n (linesOf L)) refl
+              where
+                go : (b : Bool) → consistentHalves n (linesOf L) ≡ b → b ≡ true
+                go true z = refl
+                go false z = absurd (l (subst (λ (x : ℕ). x < m) (sym q) (first-bad m (tableOf m (tableIn n w₁)) (consistent ∙ z) .below)))
+
+-- the part from the table's start to its end is the table
+pub part-is : (n : ℕ) (w : List ℤ) → take (tableStart (2 * n) + 2 * n * (2 * n) - tableStart (2 * n)) (drop (tableStart (2 * n)) w) ≡ tableIn n w
+part-is n w = let e : tableStart (2 * n) + 2 * n * (2 * n) - tableStart (2 * n) ≡ 2 * n * (2 * n) = omega arith in ap (λ (k : ℕ). take k (drop (tableStart (2 * n)) w)) e

@@ -1,0 +1,101 @@
+// Deciding a list: a refutation if there is one, else the model, the bounds and the groups.
+use answering::write_answers;
+use buffers::clear;
+use buffers::decide_validity;
+use buffers::work_room;
+use distances::distance_table;
+use lines::Refusal;
+use lines::Validity;
+use lines::limits::LINE_SIZE;
+use outputs::first_bad;
+use refuting::write_closed;
+use refuting::write_false;
+use refuting::write_halves;
+use searching::first_false;
+use searching::first_negative;
+ghost use mathlib.Core.Path.{_≡_};
+ghost use mathlib.Core.Bool.{false};
+ghost use Rattle.lines.specs.Line.{linesOf};
+ghost use Rattle.answers.specs.Verdict.{hasFalse};
+ghost use Rattle.decide.specs.Searched.{SearchReady, Searched};
+ghost use Rattle.decide.specs.Decided.{Decided};
+
+// Yes, no, or a refusal.
+pub enum Answer {
+    Yes,
+    No,
+    Refused(Refusal),
+}
+
+// Whether walks refute the list: a closed walk of negative sum, else two between a point and its opposite. If so, the
+// refutation is written; else the table of distances stands in the work area.
+fn refuted_by_walks(list: &[i32], n: usize, refutation: &mut [u32], work: &mut [i64]) -> bool
+    requires { ⌜ SearchReady n (now list) (now refutation) (now work) × (hasFalse (linesOf (now list)) ≡ false) ⌝ }
+    ensures { λ r. ⌜ Searched n (now (list .entry)) (now (refutation .entry)) (now (work .entry)) (now (refutation .exit)) (now (work .exit)) r ⌝ }
+{
+    let size = 2 * n;
+    let start = (size + 1) * size;
+    distance_table(list, n, work);
+    let u = first_negative(&work[start..start + size * size], n);
+    if u < size {
+        write_closed(list, n, u, refutation, work);
+        return true;
+    }
+    let p = first_bad(&work[start..start + size * size], n);
+    if p < size {
+        write_halves(list, n, p, refutation, work);
+        return true;
+    }
+    false
+}
+
+// Whether the list is refuted: by its lowest false line, else by walks.
+fn refuted(list: &[i32], n: usize, refutation: &mut [u32], work: &mut [i64]) -> bool
+    requires { ⌜ SearchReady n (now list) (now refutation) (now work) ⌝ }
+    ensures { λ r. ⌜ Searched n (now (list .entry)) (now (refutation .entry)) (now (work .entry)) (now (refutation .exit)) (now (work .exit)) r ⌝ }
+{
+    let line = first_false(list);
+    if line < list.len() / LINE_SIZE {
+        write_false(refutation, line);
+        return true;
+    }
+    refuted_by_walks(list, n, refutation, work)
+}
+
+// Decides a list for n variables.
+pub fn decide(
+    n: usize,
+    list: &[i32],
+    model: &mut [i64],
+    bounds: &mut [i64],
+    groups: &mut [u32],
+    refutation: &mut [u32],
+    work: &mut [i64],
+) -> Answer
+    ensures { λ r. ⌜ Decided n (now (list .entry)) r
+        (record { model = now (model .entry); bounds = now (bounds .entry); groups = now (groups .entry); refutation = now (refutation .entry); work = now (work .entry) })
+        (record { model = now (model .exit); bounds = now (bounds .exit); groups = now (groups .exit); refutation = now (refutation .exit); work = now (work .exit) }) ⌝ }
+{
+    let found = decide_validity(
+        n,
+        list,
+        model.len(),
+        bounds.len(),
+        groups.len(),
+        refutation.len(),
+        work.len(),
+    );
+    if let Validity::Refused(r) = found {
+        return Answer::Refused(r);
+    }
+    let room = work_room(n);
+    if refuted(list, n, refutation, work) {
+        clear(work, room);
+        return Answer::No;
+    }
+    let size = 2 * n;
+    let start = (size + 1) * size;
+    write_answers(&work[start..start + size * size], n, model, bounds, groups);
+    clear(work, room);
+    Answer::Yes
+}
