@@ -1,9 +1,12 @@
-/* The C interface: two functions that check a proposed model of a list, and a
- * proposed refutation of a list, given as bytes.
+/* The C interface: a function that decides a list, and two that check a proposed
+ * model of a list, and a proposed refutation of a list.
+ *
+ * Deciding takes and writes numbers, as the machine holds them. The two checks
+ * take bytes, the lowest byte of each number first.
  *
  * A LIST has n variables, numbered 0 to n-1, each standing for a whole number,
  * and lines of the form  a*x + b*y <= d.  A line is five signed 32-bit numbers,
- * each as four bytes, the lowest byte first:
+ * for the checks each as four bytes:
  *
  *     a   the first coefficient: -1, 0 or 1
  *     x   the number of its variable; 0 where a is 0
@@ -11,17 +14,17 @@
  *     y   the number of its variable; 0 where b is 0
  *     d   the bound, from -1,000,000 to 1,000,000
  *
- * So a line takes 20 bytes, and a list of k lines 20*k bytes. x and y may be
- * the same variable. A line on one variable may use either place. With both
- * coefficients 0 the line says 0 <= d. At most 64 variables and 512 lines.
+ * So a list of k lines is 5*k numbers, or 20*k bytes. x and y may be the same
+ * variable. A line on one variable may use either place. With both coefficients
+ * 0 the line says 0 <= d. At most 64 variables and 512 lines.
  *
- * A MODEL is one value for each variable, in order, each a signed 64-bit number
- * as eight bytes, the lowest byte first. It is a yes if it meets every line.
+ * A MODEL is one value for each variable, in order, each a signed 64-bit number,
+ * for the checks as eight bytes. It is a yes if it meets every line.
  *
  * A REFUTATION shows that no whole numbers meet all lines. It is a row of
- * unsigned 32-bit numbers, each as four bytes, the lowest byte first: the kind,
- * a first count p, a second count q, then p + q step numbers and nothing more.
- * Bytes that are no multiple of four are not a refutation: a no.
+ * unsigned 32-bit numbers, for the checks each as four bytes: the kind, a first
+ * count p, a second count q, then p + q step numbers and nothing more. Bytes
+ * that are no multiple of four are not a refutation: a no.
  * Each variable x has two points: x+ stands for x and x- for -x. A step leads
  * from one point to another and has a weight. Its number is twice the number
  * of its line, plus its side:
@@ -57,24 +60,93 @@
 extern "C" {
 #endif
 
-/* Both functions return one number:
+/* The three functions return one number:
  *
  *     0                              yes
  *     1,000,000 + k                  no. For a model, k is the first line that
  *                                    it does not meet, counted from 0. For a
- *                                    refutation, k is always 0.
+ *                                    refutation, and for deciding, k is always
+ *                                    0.
  *     -(refusal * 100,000 + place)   a refusal: there is no answer. The refusal
  *                                    is one of the numbers below; the place is
- *                                    a line or an index where the table says
- *                                    so, counted from 0, and else 0.
+ *                                    a line, an index or a buffer where the
+ *                                    table says so, and else 0. Lines and
+ *                                    indexes count from 0.
  *
- * Lengths are in bytes. Each pointer must point to at least as many readable
- * bytes as its length says, at any alignment. It may be NULL only where the
- * length is 0, and even there NULL is best avoided: pass a pointer to anything.
- * The bytes must not change during the call. The functions only read: they
- * write to nothing, keep nothing from one call to the next, and may be called
- * from several threads at once, on the same bytes too.
+ * A pointer may be NULL only where its length is 0, and even there NULL is best
+ * avoided: pass a pointer to anything. The functions keep nothing from one call
+ * to the next and may be called from several threads at once.
  */
+
+/* The most variables and the most lines that a list may have. */
+#define UTVPI_MOST_VARIABLES 64
+#define UTVPI_MOST_LINES 512
+
+/* The room that deciding a list of n variables needs, in numbers, for n up to
+ * UTVPI_MOST_VARIABLES. With a constant n these are constants, fit for the
+ * length of an array; but for n = 0 the first three are 0, which no array may
+ * have. A list with n above UTVPI_MOST_VARIABLES is refused before any room is
+ * looked at: for it, lend whatever there is. */
+#define UTVPI_MODEL_ROOM(n) ((size_t)(n))
+#define UTVPI_BOUNDS_ROOM(n) ((size_t)2 * (size_t)(n))
+#define UTVPI_GROUPS_ROOM(n) ((size_t)(n))
+#define UTVPI_REFUTATION_ROOM(n) ((size_t)4 + (size_t)4 * (size_t)(n))
+#define UTVPI_WORK_ROOM(n) \
+    ((size_t)16 * (size_t)(n) * (size_t)(n) + (size_t)64 * (size_t)(n) + (size_t)64)
+
+/* In the bounds: a variable that has no least value, and one that has no
+ * greatest. */
+#define UTVPI_NO_LEAST INT64_MIN
+#define UTVPI_NO_GREATEST INT64_MAX
+
+/* Are there whole numbers that meet every line of this list of n variables?
+ *
+ * Lengths are in numbers, not bytes. Each pointer must point to at least as
+ * many numbers as its length says, at the alignment of its type. The list is
+ * only read. The five buffers are lent for writing: no two of them may overlap,
+ * and none may overlap the list. Nobody else may use them during the call, nor
+ * change the list. What they hold before the call does not matter. Each may be
+ * longer than the room it needs; what lies beyond that room is left as it was.
+ *
+ *     buffer       room                        what for
+ *     model        UTVPI_MODEL_ROOM(n)         n values
+ *     bounds       UTVPI_BOUNDS_ROOM(n)        n times a least, then a greatest
+ *     groups       UTVPI_GROUPS_ROOM(n)        n variable numbers
+ *     refutation   UTVPI_REFUTATION_ROOM(n)    kind, p, q and the steps
+ *     work         UTVPI_WORK_ROOM(n)          nothing that lasts
+ *
+ * On a yes, the model, the bounds and the groups are written, and the refutation
+ * is left as it was:
+ *
+ *     model    The variables in the order of their numbers. Each has the value
+ *              nearest 0 among those that it can have beside the values chosen
+ *              before it.
+ *     bounds   For variable v, bounds[2*v] is the least and bounds[2*v + 1] the
+ *              greatest value that it has among all the ways to meet the list.
+ *              Where there is none, UTVPI_NO_LEAST and UTVPI_NO_GREATEST.
+ *     groups   For variable v, groups[v] is the lowest variable that has the
+ *              same value as v in every way to meet the list; v itself where
+ *              there is no lower one.
+ *
+ * On a no, the refutation is written, and the model, the bounds and the groups
+ * are left as they were. It has 3 + p + q numbers, where p is refutation[1] and
+ * q is refutation[2]; what lies beyond them is left as it was. It is of kind 3,
+ * for the lowest line 0 <= d with d below 0, if there is such a line; else of
+ * kind 1, if there is one of kind 1; else of kind 2. In kinds 1 and 2, p + q is
+ * at most 4*n. Of several such walks, any may be given.
+ *
+ * On a yes and on a no, the first UTVPI_WORK_ROOM(n) numbers of the work area
+ * are 0 after the call. On a refusal, every buffer is left as it was. */
+int64_t utvpi_decide(uint64_t n, const int32_t *list, size_t list_len,
+                     int64_t *model, size_t model_len, int64_t *bounds, size_t bounds_len,
+                     uint32_t *groups, size_t groups_len,
+                     uint32_t *refutation, size_t refutation_len,
+                     int64_t *work, size_t work_len);
+
+/* The two checks. Lengths are in bytes. Each pointer must point to at least as
+ * many readable bytes as its length says, at any alignment. The bytes must not
+ * change during the call. The checks only read: they write to nothing, and may
+ * be called from several threads at once on the same bytes too. */
 
 /* Does this model meet every line of this list of n variables? */
 int64_t utvpi_check_model(uint64_t n, const uint8_t *list, size_t list_len,
@@ -89,7 +161,8 @@ int64_t utvpi_check_refutation(uint64_t n, const uint8_t *list, size_t list_len,
 #define UTVPI_IS_NO(result) ((result) >= 1000000)
 #define UTVPI_IS_REFUSAL(result) ((result) < 0)
 
-/* Of a no: the first line that a model does not meet; 0 for a refutation. */
+/* Of a no: the first line that a model does not meet; 0 for a refutation and for
+ * deciding. */
 #define UTVPI_NO_LINE(result) ((int)((result) - 1000000))
 
 /* Of a refusal: its number, and its place. */
@@ -97,15 +170,16 @@ int64_t utvpi_check_refutation(uint64_t n, const uint8_t *list, size_t list_len,
 #define UTVPI_REFUSAL_PLACE(result) ((int)(-(result) % 100000))
 
 /* The refusals. Where several apply, the one given is the first of: 1, 2, 3;
- * then line by line from the first, in each line 4, 5, 6; then 9 and 10 for a
- * model, 11 for a refutation.
+ * then line by line from the first, in each line 4, 5, 6; then 7 and 8 for
+ * deciding, 9 and 10 for a model, 11 for a refutation.
  */
 enum utvpi_refusal {
     /* n is above 64: use fewer variables. */
     UTVPI_TOO_MANY_VARIABLES = 1,
 
-    /* The list's bytes are no multiple of 20: look for a cut or added part, or
-     * for numbers that are not four bytes each. */
+    /* The list's numbers are no multiple of 5, or its bytes no multiple of 20:
+     * look for a cut or added part, for numbers that are not four bytes each, or
+     * for a length in bytes where one in numbers is asked for. */
     UTVPI_BROKEN_LIST_LENGTH = 2,
 
     /* The list has more than 512 lines: leave out lines that add nothing. */
@@ -123,12 +197,12 @@ enum utvpi_refusal {
      * 1,000,000: choose a coarser unit, or an origin nearer to the values. */
     UTVPI_BAD_BOUND = 6,
 
-    /* A buffer for output is too short: lend a longer one. The functions
-     * declared here have no output buffers and never give this. */
+    /* A buffer for output is too short: lend a longer one. The place is the
+     * first that is short, one of enum utvpi_output. Only deciding gives this. */
     UTVPI_SHORT_OUTPUT = 7,
 
-    /* The work area is too short: lend a longer one. The functions declared
-     * here have no work area and never give this. */
+    /* The work area is too short: lend one of UTVPI_WORK_ROOM(n) numbers. Only
+     * deciding gives this. */
     UTVPI_SHORT_WORK_AREA = 8,
 
     /* The model is not exactly 8*n bytes: give one value for each variable. */
@@ -142,6 +216,14 @@ enum utvpi_refusal {
      * shorter one. A list that no whole numbers meet always has one of at most
      * 4*n + 4 numbers. */
     UTVPI_LONG_REFUTATION = 11
+};
+
+/* The places of UTVPI_SHORT_OUTPUT. */
+enum utvpi_output {
+    UTVPI_OUTPUT_MODEL = 1,
+    UTVPI_OUTPUT_BOUNDS = 2,
+    UTVPI_OUTPUT_GROUPS = 3,
+    UTVPI_OUTPUT_REFUTATION = 4
 };
 
 #ifdef __cplusplus

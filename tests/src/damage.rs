@@ -135,3 +135,53 @@ fn swap(bytes: &mut [u8], one: usize, other: usize, width: usize) {
         bytes.swap(one + at, other + at);
     }
 }
+
+/// A list and its n with one damage, at times several. The numbers of a list
+/// that is lent as numbers are whole; lengths, values and n are not safe.
+pub fn damaged_list(chance: &mut Chance, n: u64, list: &[i32]) -> (u64, Vec<i32>) {
+    let (mut n, mut list) = (n, list.to_vec());
+    loop {
+        match chance.below(8) {
+            0 => n = other_count(chance, n),
+            1 => damage_length(chance, &mut list),
+            _ => damage_number(chance, n, &mut list),
+        }
+        if !chance.one_in(4) {
+            return (n, list);
+        }
+    }
+}
+
+/// Cuts a list, adds to it, or makes it as long as is let in, or longer.
+fn damage_length(chance: &mut Chance, list: &mut Vec<i32>) {
+    match chance.below(6) {
+        0 => list.truncate(list.len().saturating_sub(chance.between(1, 6) as usize)),
+        1 => list.extend((0..chance.between(1, 6)).map(|at| at as i32 % 2)),
+        2 => drop(list.drain(..chance.below(list.len().min(6) + 1))),
+        3 => list.insert(chance.below(list.len() + 1), 0),
+        // A length that is too long and broken is refused for being broken.
+        4 => list.resize(chance.pick(&[2_559, 2_561, 2_564, 2_566]), 0),
+        _ => list.resize(chance.pick(&[2_555, 2_560, 2_565, 5_120]), 0),
+    }
+}
+
+/// Changes one number or two, in a place where the change is most likely wrong.
+fn damage_number(chance: &mut Chance, n: u64, list: &mut [i32]) {
+    if list.len() < 5 {
+        return;
+    }
+    let line = 5 * chance.below(list.len() / 5);
+    let (coefficient, variable) = chance.pick(&[(line, line + 1), (line + 2, line + 3)]);
+    let n = n as i32;
+    match chance.below(9) {
+        0 => list[coefficient] = chance.pick(&[2, -2, 3, 255, 257, 65_537, i32::MIN, i32::MAX]),
+        1 => list[variable] = chance.pick(&[n, n.wrapping_add(1), -1, 64, 99, 256, 65_536]),
+        2 => list[variable] = chance.pick(&[i32::MIN, i32::MAX, 1 << 24, -1 << 16]),
+        3 => list[coefficient] = 0,
+        4 => (list[coefficient], list[variable]) = (0, chance.pick(&[1, -1, n, i32::MIN])),
+        5 => list[line + 4] = chance.pick(&[-1_000_001, -1_000_000, 1_000_000, 1_000_001]),
+        6 => list[line + 4] = chance.pick(&[i32::MIN, i32::MAX, 1 << 30, -1 << 24]),
+        7 => list[chance.below(5) + line] ^= 1 << chance.below(32),
+        _ => list.swap(line + chance.below(5), chance.below(list.len())),
+    }
+}

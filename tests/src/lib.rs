@@ -1,11 +1,16 @@
 //! What the tests share: the library under test, a second implementation to
 //! hold it to, and the means to make input for both and to damage it.
 
+pub mod brute;
+pub mod buffers;
 pub mod bytes;
 pub mod chance;
+pub mod closure;
 pub mod damage;
+pub mod decision;
 pub mod library;
 pub mod make;
+pub mod make_lists;
 pub mod second;
 
 use second::Answer;

@@ -1,4 +1,4 @@
-//! The library under test: its two C functions, and safe functions over them.
+//! The library under test: its three C functions, and safe functions over them.
 
 extern "C" {
     fn utvpi_check_model(
@@ -16,9 +16,25 @@ extern "C" {
         refutation: *const u8,
         refutation_len: usize,
     ) -> i64;
+
+    fn utvpi_decide(
+        n: u64,
+        list: *const i32,
+        list_len: usize,
+        model: *mut i64,
+        model_len: usize,
+        bounds: *mut i64,
+        bounds_len: usize,
+        groups: *mut u32,
+        groups_len: usize,
+        refutation: *mut u32,
+        refutation_len: usize,
+        work: *mut i64,
+        work_len: usize,
+    ) -> i64;
 }
 
-/// One of the two functions: n, list and what is proposed in, the result out.
+/// One of the two checkers: n, list and what is proposed in, the result out.
 pub type Check = fn(u64, &[u8], &[u8]) -> i64;
 
 /// The result of `utvpi_check_model`.
@@ -37,6 +53,37 @@ pub fn check_refutation(n: u64, list: &[u8], refutation: &[u8]) -> i64 {
             list.len(),
             refutation.as_ptr(),
             refutation.len(),
+        )
+    }
+}
+
+/// The buffers that deciding is lent.
+pub struct Lent<'a> {
+    pub model: &'a mut [i64],
+    pub bounds: &'a mut [i64],
+    pub groups: &'a mut [u32],
+    pub refutation: &'a mut [u32],
+    pub work: &'a mut [i64],
+}
+
+/// The result of `utvpi_decide`.
+pub fn decide(n: u64, list: &[i32], lent: Lent) -> i64 {
+    // The function stays within the lengths and keeps no pointer.
+    unsafe {
+        utvpi_decide(
+            n,
+            list.as_ptr(),
+            list.len(),
+            lent.model.as_mut_ptr(),
+            lent.model.len(),
+            lent.bounds.as_mut_ptr(),
+            lent.bounds.len(),
+            lent.groups.as_mut_ptr(),
+            lent.groups.len(),
+            lent.refutation.as_mut_ptr(),
+            lent.refutation.len(),
+            lent.work.as_mut_ptr(),
+            lent.work.len(),
         )
     }
 }

@@ -1,6 +1,7 @@
-//! A second implementation of both checkers, written from the description of
-//! lists, models and refutations alone and sharing nothing with the library.
-//! It reads the bytes into vectors first and then looks at them rule by rule.
+//! A second implementation of both checkers and of the refusals of deciding,
+//! written from the description of lists, models and refutations alone and
+//! sharing nothing with the library. It reads the bytes into vectors first and
+//! then looks at them rule by rule.
 
 const MOST_VARIABLES: u64 = 64;
 const MOST_LINES: usize = 512;
@@ -198,6 +199,25 @@ pub fn check_refutation(n: u64, list: &[u8], refutation: &[u8]) -> Answer {
     } else {
         Answer::No(0)
     }
+}
+
+/// What `utvpi_decide` is to refuse this list with, if it is to: the lengths are
+/// those of model, bounds, groups, refutation and work area.
+pub fn decide_refusal(n: u64, list: &[i32], lengths: [usize; 5]) -> Option<Answer> {
+    let bytes: Vec<u8> = list
+        .iter()
+        .flat_map(|number| number.to_le_bytes())
+        .collect();
+    if let Err(refused) = read_list(n, &bytes) {
+        return Some(refused);
+    }
+    let n = n as usize;
+    let outputs = [n, 2 * n, n, 4 + 4 * n];
+    if let Some(short) = (0..4).find(|&at| lengths[at] < outputs[at]) {
+        return Some(Answer::Refused(7, short + 1));
+    }
+    let work = 16 * n * n + 64 * n + 64;
+    (lengths[4] < work).then_some(Answer::Refused(8, 0))
 }
 
 fn is_refutation(lines: &[Line], bytes: &[u8]) -> bool {

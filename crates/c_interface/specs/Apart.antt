@@ -26,7 +26,10 @@ use Rattle.refutation.specs.declared.RefutationAnswer.{RefutationAnswer}
 use Rattle.refutation.specs.declared.RefutationAnswer.the-variants as answer
 use Rattle.refutation.specs.Answer.{unlessRefused, refutationAnswer}
 use Rattle.refutation.specs.Places as refutation
-use Rattle.c_interface.specs.Codes.{noCode, refusalUnit, refusalCode, modelCode, refutationCode}
+use Rattle.decide.specs.declared.Answer.{Answer}
+use Rattle.decide.specs.declared.Answer.the-variants as decision
+use Rattle.decide.specs.Places as decide
+use Rattle.c_interface.specs.Codes.{noCode, refusalUnit, refusalCode, modelCode, refutationCode, decideCode}
 use Rattle.c_interface.specs.Calls.{numberBytes, bytesValidity, refutationOfNumbers, refutationOfBytes, checkRefutation}
 
 -- ---- a refusal is known by its number and place
@@ -114,6 +117,17 @@ refutations-apart answer.No (answer.Refused s) h k e = absurd (no-refusal noCode
 refutations-apart (answer.Refused r) answer.Yes h k e = absurd (no-refusal 0 r (sym e))
 refutations-apart (answer.Refused r) answer.No h k e = absurd (no-refusal noCode r (sym e))
 refutations-apart (answer.Refused r) (answer.Refused s) h k e = ap answer.Refused (refusals-apart r s h k e)
+
+pub decisions-apart : (a b : Answer) → decide.Below refusalUnit a → decide.Below refusalUnit b → decideCode a ≡ decideCode b → a ≡ b
+decisions-apart decision.Yes decision.Yes h k e = refl
+decisions-apart decision.Yes decision.No h k e = let q : 0 ≡ noCode = same-pos _ _ e in absurd (omega arith)
+decisions-apart decision.Yes (decision.Refused s) h k e = absurd (no-refusal 0 s e)
+decisions-apart decision.No decision.Yes h k e = let q : noCode ≡ 0 = same-pos _ _ e in absurd (omega arith)
+decisions-apart decision.No decision.No h k e = refl
+decisions-apart decision.No (decision.Refused s) h k e = absurd (no-refusal noCode s e)
+decisions-apart (decision.Refused r) decision.Yes h k e = absurd (no-refusal 0 r (sym e))
+decisions-apart (decision.Refused r) decision.No h k e = absurd (no-refusal noCode r (sym e))
+decisions-apart (decision.Refused r) (decision.Refused s) h k e = ap decision.Refused (refusals-apart r s h k e)
 
 -- ---- a returned yes is the checker's yes on the numbers
 module _ (n : ℕ) (b r : List ℕ) where

@@ -1,4 +1,5 @@
--- What the exported functions answer on bytes: document 01's byte rules, then the answer on numbers.
+-- What the exported functions return: of the two checks, document 01's byte rules and then the answer on numbers; of deciding, the answer.
+use mathlib.Core.Path.{_≡_}
 use mathlib.Core.Bool.{not, cond}
 use mathlib.Core.List.{List}
 use Prim.Native.Nat.{ℕ, _*_, _%_}
@@ -17,7 +18,8 @@ use Rattle.refutation.specs.declared.RefutationAnswer.{RefutationAnswer}
 use Rattle.refutation.specs.declared.RefutationAnswer.the-variants.{No}
 use Rattle.refutation.specs.Answer as refutation
 use Rattle.refutation.specs.Answer.{refutationAnswer}
-use Rattle.c_interface.specs.Codes.{modelCode, refutationCode}
+use Rattle.decide.specs.Decided.{Lent, answerFor, Leaves}
+use Rattle.c_interface.specs.Codes.{modelCode, refutationCode, decideCode}
 
 -- the bytes of a number of a list or of a refutation, and of a value of a model
 abbrev pub numberBytes : ℕ
@@ -56,3 +58,8 @@ checkModel n b m = modelCode (modelOfBytes n b m)
 
 abbrev pub checkRefutation : ℕ → List ℕ → List ℕ → ℤ
 checkRefutation n b r = refutationCode (refutationOfBytes n b r)
+
+-- deciding: b is what the buffers held before, a what they hold after
+pub record DecideReturns (n : ℕ) (L : List ℤ) (returned : ℤ) (b a : Lent) : Type 0 where
+  pub is : returned ≡ decideCode (answerFor n L b)
+  pub leaves : Leaves n L (answerFor n L b) b a

@@ -9,6 +9,8 @@ use Rattle.model.specs.declared.ModelAnswer.{ModelAnswer}
 use Rattle.model.specs.declared.ModelAnswer.the-variants.{Yes, No, Refused}
 use Rattle.refutation.specs.declared.RefutationAnswer.{RefutationAnswer}
 use Rattle.refutation.specs.declared.RefutationAnswer.the-variants.{Yes as yes′, No as no′, Refused as refused′}
+use Rattle.decide.specs.declared.Answer.{Answer}
+use Rattle.decide.specs.declared.Answer.the-variants as decide
 
 -- a no is this and, of a model, the number of the line that fails
 abbrev pub noCode : ℕ
@@ -30,6 +32,11 @@ abbrev pub refutationCode : RefutationAnswer → ℤ
 refutationCode yes′ = pos 0
 refutationCode no′ = pos noCode
 refutationCode (refused′ r) = refusalCode r
+
+abbrev pub decideCode : Answer → ℤ
+decideCode decide.Yes = pos 0
+decideCode decide.No = pos noCode
+decideCode (decide.Refused r) = refusalCode r
 
 pub number-small : (r : Refusal) → numberOf r < 12
 number-small TooManyVariables = omega arith

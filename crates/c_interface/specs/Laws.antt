@@ -1,5 +1,5 @@
--- What the code uses of the calls on bytes: the numbers that were decoded, and that the places in an answer are small.
-use mathlib.Core.Path.{_≡_, refl, sym, ap, _∙_}
+-- What the code uses of the calls: the numbers that were decoded, that the places in an answer are small, and what deciding returns.
+use mathlib.Core.Path.{_≡_, refl, sym, ap, subst, _∙_}
 use mathlib.Core.Bool.{Bool, true, false, not, cond}
 use mathlib.Core.List.{List, [], _∷_}
 use Prim.Native.Nat.{ℕ, _+_, _*_, _/_, _%_, _<_, _≤_}
@@ -23,8 +23,11 @@ use Rattle.refutation.specs.declared.RefutationAnswer.{RefutationAnswer}
 use Rattle.refutation.specs.declared.RefutationAnswer.the-variants.{No}
 use Rattle.refutation.specs.Answer.{refutationAnswer}
 use Rattle.refutation.specs.Places as refutation
-use Rattle.c_interface.specs.Codes.{refusalUnit}
-use Rattle.c_interface.specs.Calls.{numberBytes, valueBytes, bytesValidity, modelOfValues, refutationOfNumbers, modelOfBytes, refutationOfBytes}
+use Rattle.decide.specs.declared.Answer.{Answer}
+use Rattle.decide.specs.Decided.{Lent, answerFor, Leaves, Decided}
+use Rattle.decide.specs.Places as decide
+use Rattle.c_interface.specs.Codes.{refusalUnit, decideCode}
+use Rattle.c_interface.specs.Calls.{numberBytes, valueBytes, bytesValidity, modelOfValues, refutationOfNumbers, modelOfBytes, refutationOfBytes, DecideReturns}
 
 -- the answer on a list in bytes, and its numbers where it is valid
 pub record Decoded (n : ℕ) (b : List ℕ) (out : List ℤ) (r : Validity) : Type 0 where
@@ -89,3 +92,14 @@ model-bytes-below n b m = model.below-unless refusalUnit _ _ (bytes-placed n b) 
 pub refutation-bytes-below : (n : ℕ) (b r : List ℕ) → refutation.Below refusalUnit (refutationOfBytes n b r)
 unfolding refutationOfBytes
 refutation-bytes-below n b r = refutation.below-unless refusalUnit _ _ (bytes-placed n b) (refutation-below n (int32s b) r)
+
+-- ---- deciding
+module _ {n : ℕ} {L : List ℤ} {answer : Answer} {b a : Lent} (d : Decided n L answer b a) where
+  pub decided-below : decide.Below refusalUnit answer
+  decided-below = decide.decided-below refusalUnit (omega arith) (omega arith) d
+
+  pub decide-returns : (returned : ℤ) → returned ≡ decideCode answer → DecideReturns n L returned b a
+  decide-returns returned e = record { is = e ∙ ap decideCode (d .is); leaves = subst (λ (x : Answer). Leaves n L x b a) (d .is) (d .leaves) }
+
+pub decision-below : (n : ℕ) (L : List ℤ) (b : Lent) → decide.Below refusalUnit (answerFor n L b)
+decision-below = decide.answer-below refusalUnit (omega arith) (omega arith)

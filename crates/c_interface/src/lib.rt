@@ -1,5 +1,7 @@
 // The exported functions, on numbers and byte slices: four little-endian bytes to a number of a list or a refutation,
 // eight to a value of a model. Each answers one number.
+use decide::Answer;
+use decide::decide;
 use lines::Refusal;
 use lines::Validity;
 use lines::limits::LINE_SIZE;
@@ -21,8 +23,9 @@ ghost use Rattle.lines.specs.Limits.{lineSize, maxVariables, maxLines};
 ghost use Rattle.lines.specs.Refusal.{numberOf, placeOf};
 ghost use Rattle.model.specs.Places as model;
 ghost use Rattle.refutation.specs.Places as refutation;
-ghost use Rattle.c_interface.specs.Codes.{refusalUnit, refusalCode, modelCode, refutationCode};
-ghost use Rattle.c_interface.specs.Calls.{modelOfValues, refutationOfNumbers, checkModel, checkRefutation};
+ghost use Rattle.decide.specs.Places as deciding;
+ghost use Rattle.c_interface.specs.Codes.{refusalUnit, refusalCode, modelCode, refutationCode, decideCode};
+ghost use Rattle.c_interface.specs.Calls.{modelOfValues, refutationOfNumbers, checkModel, checkRefutation, DecideReturns};
 ghost use Rattle.c_interface.specs.Laws.{Decoded};
 
 // The answer no is this and, of a model, the number of the line that fails.
@@ -109,6 +112,18 @@ fn refutation_code(a: RefutationAnswer) -> i64
     }
 }
 
+// The number that an answer on a list is returned as.
+fn decide_code(a: Answer) -> i64
+    requires { ⌜ deciding.Below refusalUnit a ⌝ }
+    ensures { λ k. ⌜ k ≡ decideCode a ⌝ }
+{
+    match a {
+        Answer::Yes => 0,
+        Answer::No => NO as i64,
+        Answer::Refused(r) => refusal_code(r),
+    }
+}
+
 // Refusals 1 to 6 of a list in bytes. Where none applies, its numbers are written.
 fn decode_list(n: usize, list: &[u8], numbers: &mut [i32]) -> Validity
     requires { ⌜ lineSize * maxLines ≤ length (now numbers) ⌝ }
@@ -185,4 +200,22 @@ pub extern "C" fn utvpi_check_refutation(n: u64, list: &[u8], refutation: &[u8])
     }
     let count = list.len() / NUMBER_BYTES;
     refutation_code(refutation_of_numbers(variables, &numbers[0..count], refutation))
+}
+
+// Are there whole numbers that meet every line of this list of n variables? The lent buffers take what shows it.
+#[no_mangle]
+pub extern "C" fn utvpi_decide(
+    n: u64,
+    list: &[i32],
+    model: &mut [i64],
+    bounds: &mut [i64],
+    groups: &mut [u32],
+    refutation: &mut [u32],
+    work: &mut [i64],
+) -> i64
+    ensures { λ r. ⌜ DecideReturns n (now (list .entry)) r
+        (record { model = now (model .entry); bounds = now (bounds .entry); groups = now (groups .entry); refutation = now (refutation .entry); work = now (work .entry) })
+        (record { model = now (model .exit); bounds = now (bounds .exit); groups = now (groups .exit); refutation = now (refutation .exit); work = now (work .exit) }) ⌝ }
+{
+    decide_code(decide(n as usize, list, model, bounds, groups, refutation, work))
 }

@@ -26,7 +26,7 @@ use Rattle.answering.specs.Ready.{AnswersReady}
 use Rattle.answers.specs.Verdict.{verdictOf}
 use Rattle.answers.specs.Answers.{modelOf, boundsOf, groupsOf, boundAt, groupAt}
 use Rattle.answers.specs.Refuted.{Due}
-use Rattle.buffers.specs.Room.{workRoom, outputsValidity, decideValidity, square-small}
+use Rattle.buffers.specs.Room.{boundsRoom, refutationRoom, workRoom, outputsValidity, decideValidity, square-small}
 use Rattle.decide.specs.declared.Answer.{Answer}
 use Rattle.decide.specs.declared.Answer.the-variants.{Yes, No, Refused}
 use Rattle.decide.specs.Searched.{usedRoom, SearchReady, Searched, tableIn}
@@ -55,7 +55,7 @@ cleared n w = replicate (workRoom n) (pos 0) ++ drop (workRoom n) w
 
 pub record OnYes (n : ℕ) (L : List ℤ) (b a : Lent) : Type 0 where
   pub model : a .model ≡ modelOf n (linesOf L) ++ drop n (b .model)
-  pub bounds : a .bounds ≡ boundsOf n (linesOf L) ++ drop (2 * n) (b .bounds)
+  pub bounds : a .bounds ≡ boundsOf n (linesOf L) ++ drop (boundsRoom n) (b .bounds)
   pub groups : a .groups ≡ groupsOf n (linesOf L) ++ drop n (b .groups)
   pub refutation : a .refutation ≡ b .refutation
   pub work : a .work ≡ cleared n (b .work)
@@ -76,8 +76,12 @@ Leaves n L Yes b a = OnYes n L b a
 Leaves n L No b a = OnNo n L b a
 Leaves n L (Refused r) b a = a ≡ b
 
+-- the answer, by what is lent
+abbrev pub answerFor : ℕ → List ℤ → Lent → Answer
+answerFor n L b = decideAnswer n L (length (b .model)) (length (b .bounds)) (length (b .groups)) (length (b .refutation)) (length (b .work))
+
 pub record Decided (n : ℕ) (L : List ℤ) (answer : Answer) (b a : Lent) : Type 0 where
-  pub is : answer ≡ decideAnswer n L (length (b .model)) (length (b .bounds)) (length (b .groups)) (length (b .refutation)) (length (b .work))
+  pub is : answer ≡ answerFor n L b
   pub leaves : Leaves n L answer b a
 
 -- ---- the room is enough
@@ -88,9 +92,9 @@ used-room n = omega arith
 pub record DecideOk (n : ℕ) (L : List ℤ) (b : Lent) : Type 0 where
   pub list : validityOf n L ≡ Valid
   pub model : n ≤ length (b .model)
-  pub bounds : 2 * n ≤ length (b .bounds)
+  pub bounds : boundsRoom n ≤ length (b .bounds)
   pub groups : n ≤ length (b .groups)
-  pub refutation : 4 + 4 * n ≤ length (b .refutation)
+  pub refutation : refutationRoom n ≤ length (b .refutation)
   pub work : workRoom n ≤ length (b .work)
 
 abbrev pub validityFor : ℕ → List ℤ → Lent → Validity
@@ -115,11 +119,11 @@ module _ (n : ℕ) (L : List ℤ) (b : Lent) where
   refused r e = record { is = sym (ap (λ (v : Validity). unlessRefused v (cond (verdictOf n (linesOf L)) Yes No)) e); leaves = refl }
 
   module _ (e : validityFor n L b ≡ Valid) where
-    answer-yes : verdictOf n (linesOf L) ≡ true → Yes ≡ decideAnswer n L (length (b .model)) (length (b .bounds)) (length (b .groups)) (length (b .refutation)) (length (b .work))
+    answer-yes : verdictOf n (linesOf L) ≡ true → Yes ≡ answerFor n L b
     unfolding decideAnswer
     answer-yes v = sym (rw (e, v))
 
-    answer-no : verdictOf n (linesOf L) ≡ false → No ≡ decideAnswer n L (length (b .model)) (length (b .bounds)) (length (b .groups)) (length (b .refutation)) (length (b .work))
+    answer-no : verdictOf n (linesOf L) ≡ false → No ≡ answerFor n L b
     unfolding decideAnswer
     answer-no v = sym (rw (e, v))
 

@@ -29,9 +29,11 @@ use Rattle.distances.specs.Table.{tableStart, storedTable, TableReady, TableDon
 use Rattle.tables.specs.Table.{tableOf, ShortTable}
 use Rattle.outputs.specs.Agree.{Agree, ok-same, all-ok-same}
 use Rattle.outputs.specs.Bad.{firstBad, none-bad, first-bad}
+use Rattle.buffers.specs.Room.{refutationRoom}
 use Rattle.searching.specs.False.{false-none}
 use Rattle.searching.specs.Negative.{firstNegative, none-negative, first-negative, negative-same}
 use Rattle.answering.specs.Table.{agree, short-table}
+use Rattle.refutation.specs.Progress.{headSize}
 use Rattle.refuting.specs.Shortest.{walkStart}
 use Rattle.refuting.specs.Refutation.{ClosedReady, HalvesReady, RefutationWritten}
 
@@ -41,7 +43,7 @@ usedRoom n = walkStart (2 * n) + 2 * n
 
 pub record SearchReady (n : ℕ) (L : List ℤ) (R : List ℕ) (w : List ℤ) : Type 0 where
   pub valid : validityOf n L ≡ Valid
-  pub room : 4 + 4 * n ≤ length R
+  pub room : refutationRoom n ≤ length R
   pub work-room : usedRoom n ≤ length w
 
 -- what stands in the work area where there is no refutation
@@ -116,11 +118,11 @@ module _ (n : ℕ) (L : List ℤ) (R : List ℕ) (w : List ℤ) (a : SearchReady
   table-ready = record { few = ok .variables; valid = ok .lines; room = omega (arith, a .work-room) }
 
   -- a false line
-  pub by-false : (k : ℕ) → k ≡ firstFalse 0 (linesOf L) → k < lineCount L → (R′ : List ℕ) → R′ ≡ 3 ∷ 1 ∷ 0 ∷ 2 * k ∷ drop 4 R → Searched n L R w R′ w true
+  pub by-false : (k : ℕ) → k ≡ firstFalse 0 (linesOf L) → k < lineCount L → (R′ : List ℕ) → R′ ≡ 3 ∷ 1 ∷ 0 ∷ 2 * k ∷ drop (headSize + 1) R → Searched n L R w R′ w true
   by-false k e h R′ i =
       record {
         verdict = no-by-false n (linesOf L) f;
-        on-no = λ _. (3 ∷ 1 ∷ 0 ∷ 2 * firstFalse 0 (linesOf L) ∷ [], due-false n L f, i ∙ ap (λ (j : ℕ). 3 ∷ 1 ∷ 0 ∷ 2 * j ∷ drop 4 R) e);
+        on-no = λ _. (3 ∷ 1 ∷ 0 ∷ 2 * firstFalse 0 (linesOf L) ∷ [], due-false n L f, i ∙ ap (λ (j : ℕ). 3 ∷ 1 ∷ 0 ∷ 2 * j ∷ drop (headSize + 1) R) e);
         on-yes = λ z. never (cc);
         same-length = refl;
         behind = refl;

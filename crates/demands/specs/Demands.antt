@@ -1,25 +1,26 @@
--- What was demanded, in document 01's words, each statement proved by citing the rest: of the answers and of the checkers.
+-- What was demanded, in document 01's words, each statement proved by citing the rest: of deciding, of the answers and of the checkers.
 --
 -- A reader has to believe the meaning of the words (`Solves`, `Written` in answers/specs/Semantics.antt, `Refutes` in soundness/specs/Refutes.antt)
--- and nothing of how the answers are computed.
+-- and what a call is (`Call` in Calls.antt), and nothing of how the answers are computed.
 --
--- The promises of the code are equations: `check_model` answers `modelAnswer`, `check_refutation` answers `refutationAnswer`, and the exported
--- functions return `checkModel` and `checkRefutation`, for every input. src/lib.rt calls each of them on buffers that could be written, and
--- proves that every buffer is left as it was: both checkers only read.
-use mathlib.Core.Path.{_≡_}
+-- The promises of the code are equations, for every input: `decide` promises `Decided` (decide/specs/Decided.antt), `check_model` answers
+-- `modelAnswer`, `check_refutation` answers `refutationAnswer`, and the exported functions return `DecideReturns`, `checkModel` and
+-- `checkRefutation`. src/lib.rt calls both checkers on buffers that could be written, and proves that every buffer is left as it was.
+use mathlib.Core.Path.{_≡_, sym, ap, subst, _∙_}
 use mathlib.Core.Logic.{_↔_}
 use mathlib.Core.Bool.{true, false}
 use mathlib.Core.List.{List, _++_}
 use Prim.Native.Nat.{ℕ, _+_, _*_, _%_, _<_, _≤_}
 use lib.IntN.{ℤ, pos, natAbs}
-use lib.ListN.{length, getD}
+use lib.ListN.{length, drop, getD}
 use Rattle.integers.specs.Integer.{_⩽_}
 use Rattle.lines.specs.declared.Refusal.{Refusal}
 use Rattle.lines.specs.declared.Validity.the-variants.{Valid}
 use Rattle.lines.specs.declared.Validity.the-variants as validity
 use Rattle.lines.specs.Limits.{maxRefutation}
-use Rattle.lines.specs.Line.{Assignment, Solves, Solvable, linesOf, assignmentOf}
+use Rattle.lines.specs.Line.{Assignment, Solves, Solvable, lineAt, lineCount, linesOf, assignmentOf}
 use Rattle.lines.specs.Refusal.{validityOf}
+use Rattle.lines.specs.Valid.{LineOk, valid-list}
 use Rattle.little_endian.specs.Bytes.{int32s, nat32s}
 use Rattle.model.specs.declared.ModelAnswer.the-variants as model
 use Rattle.model.specs.Model.{modelValidity, modelAnswer}
@@ -32,15 +33,21 @@ use Rattle.answers.specs.Semantics.{Agrees, IsModel, Written}
 use Rattle.answers.specs.Verdict.{verdictOf, dueKind}
 use Rattle.answers.specs.Answers.{modelOf, boundsOf, groupsOf}
 use Rattle.answers.specs.Small.{AllAbove, model-small}
-use Rattle.answers.specs.Refuted.{Due, due-refutation}
+use Rattle.answers.specs.Refuted.{Due}
 use Rattle.answers.specs.Meaning.{computed-written, no-tie}
-use Rattle.answers.specs.Decided.{DueKind, lines-ok, yes-solvable, solvable-yes, unsolvable-no, due-accepted, kind-due}
+use Rattle.answers.specs.Decided.{DueKind, lines-ok, yes-solvable, no-unsolvable, solvable-yes, unsolvable-no, due-accepted, accepted-no, kind-due}
 use Rattle.answers.specs.Unique.{written-model, written-bounds, written-groups}
 use Rattle.answers.specs.Longer.{no-stays, least-stays-or-rises, greatest-stays-or-falls, groups-kept, model-kept}
 use Rattle.answers.specs.Cases.{AllHold, cases, all-cases}
+use Rattle.buffers.specs.Room.{boundsRoom}
+use Rattle.decide.specs.declared.Answer.{Answer}
+use Rattle.decide.specs.declared.Answer.the-variants as decide
+use Rattle.decide.specs.Decided.{Lent, cleared, answerFor, Decided, validityFor}
+use Rattle.demands.specs.Calls.{Call, modelIn, boundsIn, groupsIn, refutationIn, refutation-in, refused-when, call-valid, yes-verdict, no-verdict, verdict-yes, verdict-no, on-yes, on-no, call-written, call-work, beyond-model, beyond-bounds, beyond-groups}
+use Rattle.c_interface.specs.Codes.{decideCode}
 use Rattle.c_interface.specs.Calls.{numberBytes, bytesValidity, modelOfBytes, refutationOfBytes, checkModel, checkRefutation}
-use Rattle.c_interface.specs.Laws.{model-bytes-below, refutation-bytes-below}
-use Rattle.c_interface.specs.Apart.{models-apart, refutations-apart, returned-yes}
+use Rattle.c_interface.specs.Laws.{model-bytes-below, refutation-bytes-below, decision-below}
+use Rattle.c_interface.specs.Apart.{models-apart, refutations-apart, decisions-apart, returned-yes}
 
 -- A list is valid for its n if no refusal of the list itself applies.
 abbrev pub ValidFor : ℕ → List ℤ → Type 0
@@ -50,7 +57,100 @@ ValidFor n L = validityOf n L ≡ Valid
 abbrev pub Accepted : ℕ → List ℤ → List ℕ → Type 0
 Accepted n L R = refutationAnswer n L R ≡ Yes
 
--- ---- the answer
+-- ---- demand 1: any list gets an answer or a numbered refusal, and a refusal changes no lent buffer
+
+-- A call answers by the first refusal that applies, and by yes or no exactly if none does. That it ends is part of every promise.
+pub refused-exactly-if : (n : ℕ) (L : List ℤ) (answer : Answer) (before after : Lent) → Decided n L answer before after
+    → (r : Refusal) → (answer ≡ decide.Refused r) ↔ (validityFor n L before ≡ validity.Refused r)
+refused-exactly-if n L answer before after d r = refused-when d r
+
+-- A refusal leaves every lent buffer as it was.
+pub refusal-changes-nothing : (n : ℕ) (L : List ℤ) (r : Refusal) (before after : Lent) → Decided n L (decide.Refused r) before after → after ≡ before
+refusal-changes-nothing n L r before after d = d .leaves
+
+-- No number of a variable is masked or folded: where a line is not refused, a variable with a coefficient is named by its own number, below n.
+pub names-its-variables : (n : ℕ) (L : List ℤ) → ValidFor n L → (k : ℕ) → k < lineCount L → LineOk n (lineAt L k)
+names-its-variables n L v = valid-list n L v .lines
+
+-- ---- demand 2: the answer is yes exactly if whole numbers exist that meet every line
+
+pub record RightAnswer (n : ℕ) (L : List ℤ) (c : Call n L) : Type 0 where
+  pub yes-exactly : (c .answer ≡ decide.Yes) ↔ Solvable (linesOf L)
+  pub no-exactly : (c .answer ≡ decide.No) ↔ (Solvable (linesOf L) → ⊥)
+  -- On a yes the one model, the tightest bounds and the groups are written; what lies beyond them, and the refutation, is untouched.
+  pub written : c .answer ≡ decide.Yes → Written n (linesOf L) (modelIn n (c .after)) (boundsIn n (c .after)) (groupsIn n (c .after))
+  pub beyond-model : drop n (c .after .model) ≡ drop n (c .before .model)
+  pub beyond-bounds : drop (boundsRoom n) (c .after .bounds) ≡ drop (boundsRoom n) (c .before .bounds)
+  pub beyond-groups : drop n (c .after .groups) ≡ drop n (c .before .groups)
+  pub no-refutation : c .answer ≡ decide.Yes → c .after .refutation ≡ c .before .refutation
+  -- On a no the refutation is written and nothing else, and only as many numbers as it has.
+  pub no-model : c .answer ≡ decide.No → (c .after .model ≡ c .before .model) × (c .after .bounds ≡ c .before .bounds) × (c .after .groups ≡ c .before .groups)
+  pub refutation-only : c .answer ≡ decide.No → c .after .refutation ≡ refutationIn (c .after) ++ drop (length (refutationIn (c .after))) (c .before .refutation)
+  -- The named part of the work area is all zeros, and the rest is untouched.
+  pub work : c .after .work ≡ cleared n (c .before .work)
+
+pub right-answer : (n : ℕ) (L : List ℤ) (c : Call n L) → RightAnswer n L c
+right-answer n L c =
+    let v = call-valid c in
+    record {
+      yes-exactly = ((λ e. yes-solvable n L v (yes-verdict c e)), (λ s. verdict-yes c (solvable-yes n L v s)));
+      no-exactly = ((λ e. no-unsolvable n L v (no-verdict c e)), (λ f. verdict-no c (unsolvable-no n L v f)));
+      written = λ e. call-written c e;
+      beyond-model = beyond-model c;
+      beyond-bounds = beyond-bounds c;
+      beyond-groups = beyond-groups c;
+      no-refutation = λ e. on-yes c e .refutation;
+      no-model = λ e. let w = on-no c e in (w .model, w .bounds, w .groups);
+      refutation-only = λ e. let w = on-no c e in w .refutation ∙ ap (λ (R : List ℕ). R ++ drop (length R) (c .before .refutation)) (sym (refutation-in w));
+      work = call-work c;
+    }
+
+-- ---- demand 3: every no is shown, and nothing learned is unlearned when lines are added
+
+-- One claim over any two calls that were not refused, on a list and on one that begins with all its lines.
+pub record NothingUnlearned (n : ℕ) (L M : List ℤ) (c : Call n L) (d : Call n (L ++ M)) : Type 0 where
+  -- A no hands over a refutation of the due kind, that of the lowest false line or one with at most 4n steps in all, and the checker accepts it.
+  pub shown : c .answer ≡ decide.No → Due n L (refutationIn (c .after)) × Accepted n L (refutationIn (c .after))
+  -- The answer is no exactly if the checker accepts some refutation, whoever proposed it.
+  pub no-exactly-if-refuted : (c .answer ≡ decide.No) ↔ ((R : List ℕ) × Accepted n L R)
+  -- Accepted refutations stay accepted, unchanged.
+  pub accepted-stays : (R : List ℕ) → Accepted n L R → Accepted n (L ++ M) R
+  -- A no stays a no.
+  pub no-stays-no : c .answer ≡ decide.No → d .answer ≡ decide.No
+  -- Where both are a yes: least values stay or rise and greatest stay or fall, as the numbers written, absent ones included.
+  pub least : c .answer ≡ decide.Yes → d .answer ≡ decide.Yes → (x : ℕ) → x < n
+      → getD (boundsIn n (c .after)) (2 * x) (pos 0) ⩽ getD (boundsIn n (d .after)) (2 * x) (pos 0)
+  pub greatest : c .answer ≡ decide.Yes → d .answer ≡ decide.Yes → (x : ℕ) → x < n
+      → getD (boundsIn n (d .after)) (2 * x + 1) (pos 0) ⩽ getD (boundsIn n (c .after)) (2 * x + 1) (pos 0)
+  -- Two events in one group stay in one group.
+  pub groups : c .answer ≡ decide.Yes → d .answer ≡ decide.Yes → (x y : ℕ) → x < n → y < n
+      → getD (groupsIn n (c .after)) x 0 ≡ getD (groupsIn n (c .after)) y 0 → getD (groupsIn n (d .after)) x 0 ≡ getD (groupsIn n (d .after)) y 0
+  -- The model is the same exactly if the shorter list's model meets every added line.
+  pub model : c .answer ≡ decide.Yes → d .answer ≡ decide.Yes
+      → (modelIn n (d .after) ≡ modelIn n (c .after)) ↔ Solves (linesOf M) (assignmentOf (modelIn n (c .after)))
+
+pub nothing-unlearned : (n : ℕ) (L M : List ℤ) (c : Call n L) (d : Call n (L ++ M)) → NothingUnlearned n L M c d
+nothing-unlearned n L M c d =
+    let v = call-valid c in
+    let u = call-valid d in
+    record {
+      shown = shown;
+      no-exactly-if-refuted = ((λ e. (refutationIn (c .after), shown e .1)), (λ r. verdict-no c (accepted-no n L v (r .0) (r .1))));
+      accepted-stays = λ R. answers-longer n L M R u;
+      no-stays-no = λ e. verdict-no d (no-stays n L M v u (no-verdict c e));
+      least = λ a b. least-stays-or-rises n L M v u _ _ _ _ _ _ (call-written c a) (call-written d b);
+      greatest = λ a b. greatest-stays-or-falls n L M v u _ _ _ _ _ _ (call-written c a) (call-written d b);
+      groups = λ a b. groups-kept n L M v u _ _ _ _ _ _ (call-written c a) (call-written d b);
+      model = λ a b. model-kept n L M v u _ _ _ _ _ _ (call-written c a) (call-written d b);
+    }
+  where
+    shown : c .answer ≡ decide.No → Due n L (refutationIn (c .after)) × Accepted n L (refutationIn (c .after))
+    shown e =
+        let w = on-no c e in
+        let k : Due n L (refutationIn (c .after)) = subst (Due n L) (sym (refutation-in w)) (w .due) in
+        (k, due-accepted n L (call-valid c) (refutationIn (c .after)) k)
+
+-- ---- what the answers mean
 
 -- The answer is yes exactly if whole numbers exist that meet every line.
 pub yes-exactly-if-solvable : (n : ℕ) (L : List ℤ) → ValidFor n L → (verdictOf n (linesOf L) ≡ true) ↔ Solvable (linesOf L)
@@ -84,45 +184,6 @@ the-due-kind n L v = kind-due n L v
 -- The starred cases: one table, one statement over it.
 pub starred-cases : AllHold cases
 starred-cases = all-cases
-
--- ---- demand 3: every no is shown, and nothing learned is unlearned when lines are added
-
-pub record NothingUnlearned (n : ℕ) (L M : List ℤ) : Type 0 where
-  -- There is no solution exactly if the checker accepts some refutation.
-  pub no-exactly-if-refuted : (Solvable (linesOf L) → ⊥) ↔ ((R : List ℕ) × Accepted n L R)
-  -- Then it accepts one of the due kind: that of the lowest false line, or one with at most 4n steps in all.
-  pub shown : (Solvable (linesOf L) → ⊥) → (R : List ℕ) × Due n L R × Accepted n L R
-  -- Accepted refutations stay accepted, unchanged.
-  pub accepted-stays : (R : List ℕ) → Accepted n L R → Accepted n (L ++ M) R
-  -- A no stays a no.
-  pub no-stays-no : verdictOf n (linesOf L) ≡ false → verdictOf n (linesOf (L ++ M)) ≡ false
-  -- Where both are a yes: least values stay or rise and greatest stay or fall, as the numbers written, absent ones included.
-  pub least : verdictOf n (linesOf L) ≡ true → verdictOf n (linesOf (L ++ M)) ≡ true → (x : ℕ) → x < n
-      → getD (boundsOf n (linesOf L)) (2 * x) (pos 0) ⩽ getD (boundsOf n (linesOf (L ++ M))) (2 * x) (pos 0)
-  pub greatest : verdictOf n (linesOf L) ≡ true → verdictOf n (linesOf (L ++ M)) ≡ true → (x : ℕ) → x < n
-      → getD (boundsOf n (linesOf (L ++ M))) (2 * x + 1) (pos 0) ⩽ getD (boundsOf n (linesOf L)) (2 * x + 1) (pos 0)
-  -- Two events in one group stay in one group.
-  pub groups : verdictOf n (linesOf L) ≡ true → verdictOf n (linesOf (L ++ M)) ≡ true → (x y : ℕ) → x < n → y < n
-      → getD (groupsOf n (linesOf L)) x 0 ≡ getD (groupsOf n (linesOf L)) y 0 → getD (groupsOf n (linesOf (L ++ M))) x 0 ≡ getD (groupsOf n (linesOf (L ++ M))) y 0
-  -- The model is the same exactly if the shorter list's model meets every added line.
-  pub model : verdictOf n (linesOf L) ≡ true → verdictOf n (linesOf (L ++ M)) ≡ true
-      → (modelOf n (linesOf (L ++ M)) ≡ modelOf n (linesOf L)) ↔ Solves (linesOf M) (assignmentOf (modelOf n (linesOf L)))
-
-pub nothing-unlearned : (n : ℕ) (L M : List ℤ) → ValidFor n L → ValidFor n (L ++ M) → NothingUnlearned n L M
-nothing-unlearned n L M v u =
-    record {
-      no-exactly-if-refuted = ((λ f. let r = due f in (r .0, due-accepted n L v (r .0) (r .1))), (λ r. answers-no-solvable n L (r .0) (r .1)));
-      shown = λ f. let r = due f in (r .0, r .1, due-accepted n L v (r .0) (r .1));
-      accepted-stays = λ R. answers-longer n L M R u;
-      no-stays-no = no-stays n L M v u;
-      least = λ a b. least-stays-or-rises n L M v u _ _ _ _ _ _ (yes-writes n L v a) (yes-writes n (L ++ M) u b);
-      greatest = λ a b. greatest-stays-or-falls n L M v u _ _ _ _ _ _ (yes-writes n L v a) (yes-writes n (L ++ M) u b);
-      groups = λ a b. groups-kept n L M v u _ _ _ _ _ _ (yes-writes n L v a) (yes-writes n (L ++ M) u b);
-      model = λ a b. model-kept n L M v u _ _ _ _ _ _ (yes-writes n L v a) (yes-writes n (L ++ M) u b);
-    }
-  where
-    due : (Solvable (linesOf L) → ⊥) → (R : List ℕ) × Due n L R
-    due f = due-refutation n L (unsolvable-no n L v f)
 
 -- ---- the refutation checker
 
@@ -169,3 +230,6 @@ model-answers-apart n k b c m l = models-apart _ _ (model-bytes-below n b m) (mo
 
 pub refutation-answers-apart : (n k : ℕ) (b c r s : List ℕ) → checkRefutation n b r ≡ checkRefutation k c s → refutationOfBytes n b r ≡ refutationOfBytes k c s
 refutation-answers-apart n k b c r s = refutations-apart _ _ (refutation-bytes-below n b r) (refutation-bytes-below k c s)
+
+pub decisions-returned-apart : (n k : ℕ) (L M : List ℤ) (b c : Lent) → decideCode (answerFor n L b) ≡ decideCode (answerFor k M c) → answerFor n L b ≡ answerFor k M c
+decisions-returned-apart n k L M b c = decisions-apart _ _ (decision-below n L b) (decision-below k M c)

@@ -1,2 +1,4 @@
+pub mod Calls
 pub mod Demands
 pub mod Versions
+pub mod DecideVersions

@@ -21,14 +21,14 @@ abbrev KeepsRefutation : (ℕ → List ℤ → List ℕ → RefutationAnswer) �
 KeepsRefutation f = (n : ℕ) (L : List ℤ) (R : List ℕ) → f n L R ≡ refutationAnswer n L R
 
 -- case 3: the line 0 ≤ -1, and its refutation
-falseList : List ℤ
+abbrev pub falseList : List ℤ
 falseList = pos 0 ∷ pos 0 ∷ pos 0 ∷ pos 0 ∷ negℤ (pos 1) ∷ []
 
 falseRefutation : List ℕ
 falseRefutation = 3 ∷ 1 ∷ 0 ∷ 0 ∷ []
 
 case-3 : refutationAnswer 0 falseList falseRefutation ≡ Yes
-unfolding refutationAnswer refutationValidity validityOf linesValidity coefficientsOk variableOk variablesOk constantOk lineAt isFalse falseList falseRefutation countsOk isFalseStep headOn advance run closes accepted accepts
+unfolding refutationAnswer refutationValidity validityOf linesValidity coefficientsOk variableOk variablesOk constantOk lineAt isFalse falseRefutation countsOk isFalseStep headOn advance run closes accepted accepts
 case-3 = refl
 
 -- no numbers are no refutation, of no lines
@@ -41,7 +41,7 @@ pub acceptsNothing : ℕ → List ℤ → List ℕ → RefutationAnswer
 acceptsNothing n L R = unlessRefused (refutationValidity n L R) No
 
 pub accepts-nothing-breaks : KeepsRefutation acceptsNothing → ⊥
-unfolding acceptsNothing refutationValidity validityOf linesValidity coefficientsOk variableOk variablesOk constantOk lineAt falseList falseRefutation
+unfolding acceptsNothing refutationValidity validityOf linesValidity coefficientsOk variableOk variablesOk constantOk lineAt falseRefutation
 accepts-nothing-breaks k = let e : No ≡ Yes = k 0 falseList falseRefutation ∙ case-3 in never (cc)
 
 -- it accepts everything that is not refused
@@ -66,7 +66,7 @@ KeepsModel f = (n : ℕ) (L m : List ℤ) → f n L m ≡ modelAnswer n L m
 
 -- no values for no variables fail line 0, 0 ≤ -1
 first-line-fails : modelAnswer 0 falseList [] ≡ model.No 0
-unfolding modelAnswer modelValidity validityOf linesValidity coefficientsOk variableOk variablesOk constantOk lineAt leftSide falseList valuesValidity firstFailing
+unfolding modelAnswer modelValidity validityOf linesValidity coefficientsOk variableOk variablesOk constantOk lineAt leftSide valuesValidity firstFailing
 first-line-fails = refl
 
 no-lines-met : modelAnswer 0 [] [] ≡ model.Yes
@@ -78,7 +78,7 @@ pub saysYes : ℕ → List ℤ → List ℤ → ModelAnswer
 saysYes n L m = model-check.unlessRefused (modelValidity n L m) model.Yes
 
 pub says-yes-breaks : KeepsModel saysYes → ⊥
-unfolding saysYes modelValidity validityOf linesValidity coefficientsOk variableOk variablesOk constantOk lineAt falseList valuesValidity
+unfolding saysYes modelValidity validityOf linesValidity coefficientsOk variableOk variablesOk constantOk lineAt valuesValidity
 says-yes-breaks k = let e : model.Yes ≡ model.No 0 = k 0 falseList [] ∙ first-line-fails in never (cc)
 
 -- it says no to every model, at the first line

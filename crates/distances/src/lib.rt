@@ -19,7 +19,7 @@ ghost use Rattle.distances.specs.Rows.{RowsReady, RowsDone};
 ghost use Rattle.distances.specs.Table.{TableReady, TableRow, TableDone};
 
 // Stands for no walk; no sum gets near it. In specs/ it is `stored none`.
-const NO_WALK: i64 = 9223372036854775807;
+pub const NO_WALK: i64 = 9223372036854775807;
 
 // The size numbers at `from` copied to `to`, behind them.
 fn copy_row(work: &mut [i64], from: usize, to: usize, size: usize)

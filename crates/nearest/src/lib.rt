@@ -1,5 +1,5 @@
 // The model of a table of distances: variables in number order, each the possible value nearest zero, given those before.
-use tables::NO_WALK;
+use distances::NO_WALK;
 use tables::half_at;
 use tables::smaller;
 use tables::sum;

@@ -1,5 +1,6 @@
 // What deciding writes on a yes, read off the table of distances: bounds and groups; and the first point whose halves
 // are not consistent.
+use distances::NO_WALK;
 use steps::opposite_of;
 use tables::half_at;
 use tables::sum;
@@ -16,12 +17,10 @@ ghost use Rattle.answers.specs.Verdict.{halvesOk};
 ghost use Rattle.tables.specs.Table.{tableOf, ShortTable};
 ghost use Rattle.outputs.specs.Bad.{firstBad};
 
-// Written for a greatest value that is absent; the table has the same number where there is no walk.
-const ABSENT_GREATEST: i64 = 9223372036854775807;
 // Written for a least value that is absent.
 const ABSENT_LEAST: i64 = -9223372036854775808;
 
-// The greatest value of x.
+// The greatest value of x. An absent one is written as the number that stands for no walk.
 fn greatest_at(table: &[i64], n: usize, x: usize) -> i64
     requires { ⌜ ShortTable n (now table) × (x < n) ⌝ }
     ensures { λ r. ⌜ r ≡ greatestOf (halves (tableOf (2 * n) (now (table .entry))) (point x 0)) ⌝ }
@@ -35,7 +34,7 @@ fn least_at(table: &[i64], n: usize, x: usize) -> i64
     ensures { λ r. ⌜ r ≡ leastOf (halves (tableOf (2 * n) (now (table .entry))) (point x 1)) ⌝ }
 {
     let half = half_at(table, n, 2 * x + 1);
-    if half == ABSENT_GREATEST {
+    if half == NO_WALK {
         return ABSENT_LEAST;
     }
     -half

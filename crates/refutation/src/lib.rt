@@ -25,7 +25,7 @@ ghost use Rattle.refutation.specs.Small.{Small};
 ghost use Rattle.refutation.specs.Answer.{refutationAnswer};
 
 // The numbers before the steps: kind, first count, second count.
-const HEAD_SIZE: usize = 3;
+pub const HEAD_SIZE: usize = 3;
 
 // What is kept between two numbers: how many were read; the head; where the first walk began and where the walk is; the
 // sums of the first and of the second walk; and whether nothing was wrong so far. In kind 2 the second walk goes on

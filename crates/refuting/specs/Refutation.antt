@@ -20,6 +20,7 @@ use Rattle.walks.specs.Row.{best, some-is}
 use Rattle.bounds.specs.Points.{opposite-below}
 use Rattle.soundness.specs.Refutes.{Refutes, kind-1, kind-2}
 use Rattle.answers.specs.Refuted.{kindOf, stepsIn}
+use Rattle.refutation.specs.Progress.{headSize}
 use Rattle.refuting.specs.Shortest.{walkStart}
 use Rattle.refuting.specs.Written.{WriteReady, WalkWritten}
 
@@ -29,7 +30,7 @@ pub record RefutationWritten (n : ℕ) (L : List ℤ) (kind : ℕ) (R : List ℕ
   pub refutes : Refutes L numbers
   pub kind-is : kindOf numbers ≡ kind
   pub few : stepsIn numbers ≤ 4 * n
-  pub size : length numbers ≤ 3 + 4 * n
+  pub size : length numbers ≤ headSize + 4 * n
   pub is : R′ ≡ numbers ++ drop (length numbers) R
   pub same-length : length w′ ≡ length w
   pub behind : drop (walkStart (2 * n) + 2 * n) w′ ≡ drop (walkStart (2 * n) + 2 * n) w
@@ -67,11 +68,11 @@ module _ (R : List ℕ) (place r : ℕ) (ks : List ℕ) (room : place ≤ length
 
 -- ---- kind 1
 pub record ClosedReady (n : ℕ) (L : List ℤ) (u : ℕ) (R : List ℕ) (w : List ℤ) : Type 0 where
-  pub ready : WriteReady n L u u R 3 w
+  pub ready : WriteReady n L u u R headSize w
   pub negative : ready .ready .value ⋖ pos 0
 
-pub closed-written : (n : ℕ) (L : List ℤ) (u : ℕ) (R : List ℕ) (w : List ℤ) → ClosedReady n L u R w → (R₁ : List ℕ) (w′ : List ℤ) (r : ℕ) → WalkWritten n L u u R 3 w R₁ w′ r
-    → (R′ : List ℕ) → R′ ≡ 1 ∷ r ∷ 0 ∷ drop 3 R₁ → RefutationWritten n L 1 R w R′ w′
+pub closed-written : (n : ℕ) (L : List ℤ) (u : ℕ) (R : List ℕ) (w : List ℤ) → ClosedReady n L u R w → (R₁ : List ℕ) (w′ : List ℤ) (r : ℕ) → WalkWritten n L u u R headSize w R₁ w′ r
+    → (R′ : List ℕ) → R′ ≡ 1 ∷ r ∷ 0 ∷ drop headSize R₁ → RefutationWritten n L 1 R w R′ w′
 closed-written n L u R w a R₁ w′ r k R′ e =
     record {
       numbers = 1 ∷ length (k .numbers) ∷ 0 ∷ k .numbers;
@@ -80,7 +81,7 @@ closed-written n L u R w a R₁ w′ r k R′ e =
       few = omega (arith, k .count, k .few);
       size = omega (arith, k .count, k .few);
       is =
-          e ∙ ap₂ (λ (i : ℕ) (l : List ℕ). 1 ∷ i ∷ 0 ∷ l) (sym (k .count)) (ap (drop 3) (k .is) ∙ behind-place R 3 r (k .numbers) (omega (arith, a .ready .room)))
+          e ∙ ap₂ (λ (i : ℕ) (l : List ℕ). 1 ∷ i ∷ 0 ∷ l) (sym (k .count)) (ap (drop headSize) (k .is) ∙ behind-place R headSize r (k .numbers) (omega (arith, a .ready .room)))
           ∙ ap (λ (i : ℕ). 1 ∷ length (k .numbers) ∷ 0 ∷ (k .numbers ++ drop i R)) last;
       same-length = k .same-length;
       behind = k .behind;
@@ -89,7 +90,7 @@ closed-written n L u R w a R₁ w′ r k R′ e =
     low : total (k .steps) ⋖ pos 0
     low = subst (λ (z : ℤ). z ⋖ pos 0) (some-is (sym (a .ready .ready .reached) ∙ k .sum)) (a .negative)
 
-    last : 3 + r ≡ length (1 ∷ length (k .numbers) ∷ 0 ∷ k .numbers)
+    last : headSize + r ≡ length (1 ∷ length (k .numbers) ∷ 0 ∷ k .numbers)
     last = omega (arith, k .count)
 
 -- ---- kind 2
@@ -99,7 +100,7 @@ pub record HalvesReady (n : ℕ) (L : List ℤ) (p : ℕ) (R : List ℕ) (w : Li
   pub lines : lineCount L ≤ maxLines
   pub within : p < 2 * n
   pub work-room : walkStart (2 * n) + 2 * n ≤ length w
-  pub room : 3 + 4 * n ≤ length R
+  pub room : headSize + 4 * n ≤ length R
   pub there : ℤ
   pub back : ℤ
   pub there-is : best (stepsOf (linesOf L)) (2 * n) p (opposite p) ≡ some there
@@ -107,16 +108,16 @@ pub record HalvesReady (n : ℕ) (L : List ℤ) (p : ℕ) (R : List ℕ) (w : Li
   pub negative : half there +ℤ half back ⋖ pos 0
 
 module _ (n : ℕ) (L : List ℤ) (p : ℕ) (R : List ℕ) (w : List ℤ) (a : HalvesReady n L p R w) where
-  pub first-ready : WriteReady n L p (opposite p) R 3 w
+  pub first-ready : WriteReady n L p (opposite p) R headSize w
   first-ready = record { ready = record { few = a .few; valid = a .valid; within = a .within; room = a .work-room; value = a .there; reached = a .there-is }; lines = a .lines; room = omega (arith, a .room) }
 
-  module _ (R₁ : List ℕ) (w₁ : List ℤ) (r : ℕ) (k : WalkWritten n L p (opposite p) R 3 w R₁ w₁ r) where
+  module _ (R₁ : List ℕ) (w₁ : List ℤ) (r : ℕ) (k : WalkWritten n L p (opposite p) R headSize w R₁ w₁ r) where
     first-length : length R₁ ≡ length R
     first-length =
-        ap length (k .is) ∙ length-append (take 3 R ++ k .numbers) (drop (3 + r) R)
-        ∙ omega (arith, length-append (take 3 R) (k .numbers), length-take-le 3 R (omega (arith, a .room)), length-drop (3 + r) R, k .count, k .few, a .room)
+        ap length (k .is) ∙ length-append (take headSize R ++ k .numbers) (drop (headSize + r) R)
+        ∙ omega (arith, length-append (take headSize R) (k .numbers), length-take-le headSize R (omega (arith, a .room)), length-drop (headSize + r) R, k .count, k .few, a .room)
 
-    pub second-ready : WriteReady n L (opposite p) p R₁ (3 + r) w₁
+    pub second-ready : WriteReady n L (opposite p) p R₁ (headSize + r) w₁
     second-ready =
         record {
           ready = record { few = a .few; valid = a .valid; within = opposite-below n p (a .within); room = omega (arith, a .work-room, k .same-length); value = a .back; reached = a .back-is };
@@ -124,7 +125,7 @@ module _ (n : ℕ) (L : List ℤ) (p : ℕ) (R : List ℕ) (w : List ℤ) (a : H
           room = omega (arith, a .room, first-length, k .few);
         }
 
-    pub halves-written : (R₂ : List ℕ) (w₂ : List ℤ) (s : ℕ) → WalkWritten n L (opposite p) p R₁ (3 + r) w₁ R₂ w₂ s → (R′ : List ℕ) → R′ ≡ 2 ∷ r ∷ s ∷ drop 3 R₂ → RefutationWritten n L 2 R w R′ w₂
+    pub halves-written : (R₂ : List ℕ) (w₂ : List ℤ) (s : ℕ) → WalkWritten n L (opposite p) p R₁ (headSize + r) w₁ R₂ w₂ s → (R′ : List ℕ) → R′ ≡ 2 ∷ r ∷ s ∷ drop headSize R₂ → RefutationWritten n L 2 R w R′ w₂
     halves-written R₂ w₂ s j R′ e =
         record {
           numbers = 2 ∷ length (k .numbers) ∷ length (j .numbers) ∷ ((k .numbers) ++ (j .numbers));
@@ -143,7 +144,7 @@ module _ (n : ℕ) (L : List ℤ) (p : ℕ) (R : List ℕ) (w : List ℤ) (a : H
           few = omega (arith, k .count, k .few, j .count, j .few);
           size = omega (arith, length-append (k .numbers) (j .numbers), k .count, k .few, j .count, j .few);
           is =
-              e ∙ ap₂ (λ (x y : ℕ). 2 ∷ x ∷ y ∷ drop 3 R₂) (sym (k .count)) (sym (j .count))
+              e ∙ ap₂ (λ (x y : ℕ). 2 ∷ x ∷ y ∷ drop headSize R₂) (sym (k .count)) (sym (j .count))
               ∙ ap (λ (l : List ℕ). 2 ∷ length (k .numbers) ∷ length (j .numbers) ∷ l) body;
           same-length = j .same-length ∙ k .same-length;
           behind = j .behind ∙ k .behind;
@@ -155,25 +156,25 @@ module _ (n : ℕ) (L : List ℤ) (p : ℕ) (R : List ℕ) (w : List ℤ) (a : H
         back-sum : a .back ≡ total (j .steps)
         back-sum = some-is (sym (a .back-is) ∙ j .sum)
 
-        three : 3 ≤ length R
-        three = omega (arith, a .room)
+        head-room : headSize ≤ length R
+        head-room = omega (arith, a .room)
 
-        head-size : length (take 3 R ++ (k .numbers)) ≡ 3 + r
-        head-size = length-append (take 3 R) (k .numbers) ∙ omega (arith, length-take-le 3 R three, k .count)
+        head-size : length (take headSize R ++ (k .numbers)) ≡ headSize + r
+        head-size = length-append (take headSize R) (k .numbers) ∙ omega (arith, length-take-le headSize R head-room, k .count)
 
-        head : take (3 + r) R₁ ≡ take 3 R ++ (k .numbers)
-        head = ap (take (3 + r)) (k .is) ∙ take-at (take 3 R ++ (k .numbers)) (drop (3 + r) R) (3 + r) head-size
+        head : take (headSize + r) R₁ ≡ take headSize R ++ (k .numbers)
+        head = ap (take (headSize + r)) (k .is) ∙ take-at (take headSize R ++ (k .numbers)) (drop (headSize + r) R) (headSize + r) head-size
 
-        rest : drop (3 + r + s) R₁ ≡ drop (length (2 ∷ length (k .numbers) ∷ length (j .numbers) ∷ ((k .numbers) ++ (j .numbers)))) R
+        rest : drop (headSize + r + s) R₁ ≡ drop (length (2 ∷ length (k .numbers) ∷ length (j .numbers) ∷ ((k .numbers) ++ (j .numbers)))) R
         rest =
-            let i : 3 + r + s ≡ s + (3 + r) = omega arith in
-            let z : s + (3 + r) ≡ length (2 ∷ length (k .numbers) ∷ length (j .numbers) ∷ ((k .numbers) ++ (j .numbers))) = omega (arith, length-append (k .numbers) (j .numbers), k .count, j .count) in
-            sym (drop-drop s (3 + r) R₁) ∙ ap (drop s) (ap (drop (3 + r)) (k .is) ∙ drop-at (take 3 R ++ (k .numbers)) (drop (3 + r) R) (3 + r) head-size)
-            ∙ drop-drop s (3 + r) R ∙ ap (λ (x : ℕ). drop x R) (i ∙ z)
+            let i : headSize + r + s ≡ s + (headSize + r) = omega arith in
+            let z : s + (headSize + r) ≡ length (2 ∷ length (k .numbers) ∷ length (j .numbers) ∷ ((k .numbers) ++ (j .numbers))) = omega (arith, length-append (k .numbers) (j .numbers), k .count, j .count) in
+            sym (drop-drop s (headSize + r) R₁) ∙ ap (drop s) (ap (drop (headSize + r)) (k .is) ∙ drop-at (take headSize R ++ (k .numbers)) (drop (headSize + r) R) (headSize + r) head-size)
+            ∙ drop-drop s (headSize + r) R ∙ ap (λ (x : ℕ). drop x R) (i ∙ z)
 
-        body : drop 3 R₂ ≡ ((k .numbers) ++ (j .numbers)) ++ drop (length (2 ∷ length (k .numbers) ∷ length (j .numbers) ∷ ((k .numbers) ++ (j .numbers)))) R
+        body : drop headSize R₂ ≡ ((k .numbers) ++ (j .numbers)) ++ drop (length (2 ∷ length (k .numbers) ∷ length (j .numbers) ∷ ((k .numbers) ++ (j .numbers)))) R
         body =
-            ap (drop 3) (j .is ∙ ap₂ (λ (x y : List ℕ). (x ++ (j .numbers)) ++ y) head rest)
-            ∙ ap (drop 3) (append-assoc (take 3 R ++ (k .numbers)) (j .numbers) _ ∙ append-assoc (take 3 R) (k .numbers) _)
-            ∙ drop-at (take 3 R) _ 3 (length-take-le 3 R three)
+            ap (drop headSize) (j .is ∙ ap₂ (λ (x y : List ℕ). (x ++ (j .numbers)) ++ y) head rest)
+            ∙ ap (drop headSize) (append-assoc (take headSize R ++ (k .numbers)) (j .numbers) _ ∙ append-assoc (take headSize R) (k .numbers) _)
+            ∙ drop-at (take headSize R) _ headSize (length-take-le headSize R head-room)
             ∙ sym (append-assoc (k .numbers) (j .numbers) _)

@@ -1,5 +1,6 @@
 // The refutation that deciding hands over: its head, and the step numbers of its walks.
 use distances::rows;
+use refutation::HEAD_SIZE;
 use steps::opposite_of;
 use walkback::walk_back;
 ghost use mathlib.Core.Path.{_≡_};
@@ -7,6 +8,7 @@ ghost use mathlib.Core.List.{List, [], _∷_, _++_};
 ghost use Prim.Native.Nat.{_+_, _*_, _<_, _≤_};
 ghost use lib.ListN.{length, drop};
 ghost use Rattle.lines.specs.Limits.{maxLines};
+ghost use Rattle.refutation.specs.Progress.{headSize};
 ghost use Rattle.refuting.specs.Copy.{StepNumbers, copiedTo};
 ghost use Rattle.refuting.specs.Shortest.{WalkReady, WalkFound};
 ghost use Rattle.refuting.specs.Written.{WriteReady, WalkWritten};
@@ -26,8 +28,8 @@ pub fn copy_numbers(work: &[i64], from: usize, count: usize, refutation: &mut [u
 
 // The kind and the two counts.
 pub fn write_head(refutation: &mut [u32], kind: u32, p: usize, q: usize)
-    requires { ⌜ (3 ≤ length (now refutation)) × (p < 2 * maxLines) × (q < 2 * maxLines) ⌝ }
-    ensures { λ _. ⌜ now (refutation .exit) ≡ kind ∷ p ∷ q ∷ drop 3 (now (refutation .entry)) ⌝ }
+    requires { ⌜ (headSize ≤ length (now refutation)) × (p < 2 * maxLines) × (q < 2 * maxLines) ⌝ }
+    ensures { λ _. ⌜ now (refutation .exit) ≡ kind ∷ p ∷ q ∷ drop headSize (now (refutation .entry)) ⌝ }
 {
     refutation[0] = kind;
     refutation[1] = p as u32;
@@ -36,11 +38,11 @@ pub fn write_head(refutation: &mut [u32], kind: u32, p: usize, q: usize)
 
 // The refutation of a false line.
 pub fn write_false(refutation: &mut [u32], line: usize)
-    requires { ⌜ (4 ≤ length (now refutation)) × (line < maxLines) ⌝ }
-    ensures { λ _. ⌜ now (refutation .exit) ≡ 3 ∷ 1 ∷ 0 ∷ 2 * line ∷ drop 4 (now (refutation .entry)) ⌝ }
+    requires { ⌜ (headSize < length (now refutation)) × (line < maxLines) ⌝ }
+    ensures { λ _. ⌜ now (refutation .exit) ≡ 3 ∷ 1 ∷ 0 ∷ 2 * line ∷ drop (headSize + 1) (now (refutation .entry)) ⌝ }
 {
     write_head(refutation, 3, 1, 0);
-    refutation[3] = (2 * line) as u32;
+    refutation[HEAD_SIZE] = (2 * line) as u32;
 }
 
 // A walk of least sum from u to v: how many steps it has. Their numbers stand in the work area, the last of them before the
@@ -80,7 +82,7 @@ pub fn write_closed(list: &[i32], n: usize, u: usize, refutation: &mut [u32], wo
     requires { ⌜ ClosedReady n (now list) u (now refutation) (now work) ⌝ }
     ensures { λ _. ⌜ RefutationWritten n (now (list .entry)) 1 (now (refutation .entry)) (now (work .entry)) (now (refutation .exit)) (now (work .exit)) ⌝ }
 {
-    let count = write_walk(list, n, u, u, refutation, 3, work);
+    let count = write_walk(list, n, u, u, refutation, HEAD_SIZE, work);
     write_head(refutation, 1, count, 0);
 }
 
@@ -90,7 +92,7 @@ pub fn write_halves(list: &[i32], n: usize, p: usize, refutation: &mut [u32], wo
     ensures { λ _. ⌜ RefutationWritten n (now (list .entry)) 2 (now (refutation .entry)) (now (work .entry)) (now (refutation .exit)) (now (work .exit)) ⌝ }
 {
     let q = opposite_of(p);
-    let first = write_walk(list, n, p, q, refutation, 3, work);
-    let second = write_walk(list, n, q, p, refutation, 3 + first, work);
+    let first = write_walk(list, n, p, q, refutation, HEAD_SIZE, work);
+    let second = write_walk(list, n, q, p, refutation, HEAD_SIZE + first, work);
     write_head(refutation, 2, first, second);
 }

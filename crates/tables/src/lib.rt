@@ -1,4 +1,5 @@
 // A table of distances read: a point's half, and the tightened distance of two points.
+use distances::NO_WALK;
 use integers::halved;
 use steps::opposite_of;
 ghost use mathlib.Core.Path.{_≡_};
@@ -10,9 +11,6 @@ ghost use Rattle.distances.specs.Stored.{stored};
 ghost use Rattle.distances.specs.Read.{distanceOf, Short};
 ghost use Rattle.tables.specs.Sum.{maxTight};
 ghost use Rattle.tables.specs.Table.{tableOf, ShortTable};
-
-// Stands for no walk, as in `distances`. In specs/ it is `stored none`.
-pub const NO_WALK: i64 = 9223372036854775807;
 
 // The smaller of two distances: NO_WALK is above every number.
 pub fn smaller(a: i64, b: i64) -> i64

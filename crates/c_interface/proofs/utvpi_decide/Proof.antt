@@ -1,0 +1,31 @@
+-- `c_interface::utvpi_decide` meets its contract.
+use mathlib.Core.Path.{_≡_, _∙_}
+use borrow.Author.Needs.{needs}
+use mir.Syntax.{w64}
+use Rattle.integers.specs.Bits.{kept}
+use Rattle.c_interface.specs.Laws.{decided-below, decide-returns}
+use Rattle.c_interface.proofs.utvpi_decide.Statement.{statement}
+use Rattle.c_interface.proofs.utvpi_decide.Tie as tie
+
+-- what deciding promised, seen from the end
+abbrev decided : tie.After-work → tie.After-decide
+decided c = c .before .before .before .before .before .before .before
+
+decide-code-requires : tie.Need-decide-code-requires
+decide-code-requires c κs = decided-below (decided c .decide .ensures)
+
+returns : tie.Need-returns
+returns c = decide-returns (decided (c .before) .decide .ensures) _ (kept w64 (c .decide-code .result) (c .decide-code .ok) ∙ c .decide-code .ensures)
+
+pub utvpi-decide-spec : {M : Type 1} → statement M
+utvpi-decide-spec =
+    tie.close
+    (tie.spec
+    (search needs)
+    decide-code-requires
+    (search needs)
+    (search needs)
+    (search needs)
+    (search needs)
+    (search needs)
+    returns)

@@ -1,0 +1,163 @@
+-- A call of deciding, as the demands speak of it: what it answered, and what it wrote into the lent buffers.
+use mathlib.Core.Path.{_≡_, refl, sym, ap, subst, _∙_}
+use mathlib.Core.Logic.{_↔_}
+use mathlib.Core.Bool.{Bool, true, false, cond}
+use mathlib.Core.List.{List, _∷_, _++_}
+use Prim.Native.Nat.{ℕ, _+_, _*_, _≤_}
+use native.Mathlib.Omega.{arith}
+use lib.IntN.{ℤ}
+use lib.ListN.{length, take, drop, getD, length-append}
+use lib.Seq.{take-at, drop-at}
+use Rattle.integers.specs.Laws.{never}
+use Rattle.integers.specs.Sequence.{length-tabulate}
+use Rattle.lines.specs.declared.Refusal.{Refusal}
+use Rattle.lines.specs.declared.Validity.{Validity}
+use Rattle.lines.specs.declared.Validity.the-variants.{Valid}
+use Rattle.lines.specs.declared.Validity.the-variants as validity
+use Rattle.lines.specs.Line.{linesOf}
+use Rattle.lines.specs.Refusal.{validityOf}
+use Rattle.refutation.specs.Progress.{headSize}
+use Rattle.soundness.specs.Refutes.{Refutes, kind-1, kind-2, kind-3}
+use Rattle.answers.specs.Semantics.{Written}
+use Rattle.answers.specs.Meaning.{computed-written}
+use Rattle.answers.specs.Decided.{lines-ok}
+use Rattle.answers.specs.Verdict.{verdictOf}
+use Rattle.answers.specs.Answers.{modelOf, boundsOf, groupsOf}
+use Rattle.answers.specs.Refuted.{Due, stepsIn}
+use Rattle.buffers.specs.Room.{boundsRoom}
+use Rattle.decide.specs.declared.Answer.{Answer}
+use Rattle.decide.specs.declared.Answer.the-variants.{Yes, No, Refused}
+use Rattle.decide.specs.Decided.{Lent, unlessRefused, decideAnswer, cleared, OnYes, OnNo, Leaves, Decided, validityFor, decide-ok}
+
+-- A call of `decide` that was not refused, whatever stood in the lent buffers before.
+pub record Call (n : ℕ) (L : List ℤ) : Type 0 where
+  pub answer : Answer
+  pub before : Lent
+  pub after : Lent
+  pub decided : Decided n L answer before after
+  pub not-refused : (r : Refusal) → answer ≡ Refused r → ⊥
+
+-- The parts that are written: of a refutation, the 3 + p + q numbers that its counts tell.
+abbrev pub modelIn : ℕ → Lent → List ℤ
+modelIn n a = take n (a .model)
+
+abbrev pub boundsIn : ℕ → Lent → List ℤ
+boundsIn n a = take (boundsRoom n) (a .bounds)
+
+abbrev pub groupsIn : ℕ → Lent → List ℕ
+groupsIn n a = take n (a .groups)
+
+abbrev pub refutationIn : Lent → List ℕ
+refutationIn a = take (headSize + stepsIn (a .refutation)) (a .refutation)
+
+-- ---- the written part is the refutation
+stated-length : (L : List ℤ) (R : List ℕ) → Refutes L R → (rest : List ℕ) → length R ≡ headSize + stepsIn (R ++ rest)
+stated-length L R (kind-1 c) rest = rw (c .is) (omega arith)
+stated-length L R (kind-2 c) rest = rw (c .is) (omega (arith, length-append (c .numbers) (c .more)))
+stated-length L R (kind-3 c) rest = rw (c .is) refl
+
+module _ {n : ℕ} {L : List ℤ} {b a : Lent} where
+  pub model-in : OnYes n L b a → modelIn n a ≡ modelOf n (linesOf L)
+  unfolding modelOf
+  model-in w = ap (take n) (w .model) ∙ take-at (modelOf n (linesOf L)) _ n (length-tabulate n _)
+
+  pub bounds-in : OnYes n L b a → boundsIn n a ≡ boundsOf n (linesOf L)
+  unfolding boundsOf
+  bounds-in w = ap (take (boundsRoom n)) (w .bounds) ∙ take-at (boundsOf n (linesOf L)) _ (boundsRoom n) (length-tabulate (boundsRoom n) _)
+
+  pub groups-in : OnYes n L b a → groupsIn n a ≡ groupsOf n (linesOf L)
+  unfolding groupsOf
+  groups-in w = ap (take n) (w .groups) ∙ take-at (groupsOf n (linesOf L)) _ n (length-tabulate n _)
+
+  pub refutation-in : (w : OnNo n L b a) → refutationIn a ≡ w .numbers
+  refutation-in w =
+      let size = stated-length L (w .numbers) (w .due .refutes) (drop (length (w .numbers)) (b .refutation)) in
+      ap (λ (R : List ℕ). take (headSize + stepsIn R) R) (w .refutation) ∙ take-at (w .numbers) _ _ size
+
+-- ---- a refusal is answered exactly if it is the first that applies
+pub refused-when : {n : ℕ} {L : List ℤ} {answer : Answer} {b a : Lent} → Decided n L answer b a
+    → (r : Refusal) → (answer ≡ Refused r) ↔ (validityFor n L b ≡ validity.Refused r)
+unfolding decideAnswer
+refused-when {n} {L} {answer} {b} {a} d r = (
+  (λ e. go (validityFor n L b) (verdictOf n (linesOf L)) (sym (d .is) ∙ e)),
+  (λ e. d .is ∙ ap (λ (v : Validity). unlessRefused v (cond (verdictOf n (linesOf L)) Yes No)) e),
+)
+  where
+    go : (v : Validity) (t : Bool) → unlessRefused v (cond t Yes No) ≡ Refused r → v ≡ validity.Refused r
+    go Valid true e = never (cc)
+    go Valid false e = never (cc)
+    go (validity.Refused s) t e = ap validity.Refused (same e)
+      where
+        same : Refused s ≡ Refused r → s ≡ r
+        same e = cc
+
+-- ---- what follows from the call alone
+module _ {n : ℕ} {L : List ℤ} (c : Call n L) where
+  all-valid : validityFor n L (c .before) ≡ Valid
+  unfolding decideAnswer
+  all-valid = go (validityFor n L (c .before)) refl
+    where
+      go : (v : Validity) → validityFor n L (c .before) ≡ v → v ≡ Valid
+      go Valid e = refl
+      go (validity.Refused r) e = absurd (c .not-refused r (c .decided .is ∙ ap (λ (v : Validity). unlessRefused v (cond (verdictOf n (linesOf L)) Yes No)) e))
+
+  pub call-valid : validityOf n L ≡ Valid
+  call-valid = decide-ok n L (c .before) all-valid .list
+
+  answer-is : c .answer ≡ cond (verdictOf n (linesOf L)) Yes No
+  unfolding decideAnswer
+  answer-is = c .decided .is ∙ ap (λ (v : Validity). unlessRefused v (cond (verdictOf n (linesOf L)) Yes No)) all-valid
+
+  pub yes-verdict : c .answer ≡ Yes → verdictOf n (linesOf L) ≡ true
+  yes-verdict e = go (verdictOf n (linesOf L)) (sym answer-is ∙ e)
+    where
+      go : (t : Bool) → cond t Yes No ≡ Yes → t ≡ true
+      go true z = refl
+      go false z = never (cc)
+
+  pub no-verdict : c .answer ≡ No → verdictOf n (linesOf L) ≡ false
+  no-verdict e = go (verdictOf n (linesOf L)) (sym answer-is ∙ e)
+    where
+      go : (t : Bool) → cond t Yes No ≡ No → t ≡ false
+      go true z = never (cc)
+      go false z = refl
+
+  pub verdict-yes : verdictOf n (linesOf L) ≡ true → c .answer ≡ Yes
+  verdict-yes e = answer-is ∙ ap (λ (t : Bool). cond t Yes No) e
+
+  pub verdict-no : verdictOf n (linesOf L) ≡ false → c .answer ≡ No
+  verdict-no e = answer-is ∙ ap (λ (t : Bool). cond t Yes No) e
+
+  pub on-yes : c .answer ≡ Yes → OnYes n L (c .before) (c .after)
+  on-yes e = subst (λ (x : Answer). Leaves n L x (c .before) (c .after)) e (c .decided .leaves)
+
+  pub on-no : c .answer ≡ No → OnNo n L (c .before) (c .after)
+  on-no e = subst (λ (x : Answer). Leaves n L x (c .before) (c .after)) e (c .decided .leaves)
+
+  pub call-written : c .answer ≡ Yes → Written n (linesOf L) (modelIn n (c .after)) (boundsIn n (c .after)) (groupsIn n (c .after))
+  call-written e =
+      let w = on-yes e in
+      rw (model-in w, bounds-in w, groups-in w) (computed-written n (linesOf L) (lines-ok n L call-valid) (yes-verdict e))
+
+  -- ---- what either answer leaves
+  either : {P : Type 0} → (c .answer ≡ Yes → P) → (c .answer ≡ No → P) → P
+  either {P} f g = go (verdictOf n (linesOf L)) refl
+    where
+      go : (t : Bool) → verdictOf n (linesOf L) ≡ t → P
+      go true e = f (verdict-yes e)
+      go false e = g (verdict-no e)
+
+  pub call-work : c .after .work ≡ cleared n (c .before .work)
+  call-work = either (λ e. on-yes e .work) (λ e. on-no e .work)
+
+  pub beyond-model : drop n (c .after .model) ≡ drop n (c .before .model)
+  unfolding modelOf
+  beyond-model = either (λ e. ap (drop n) (on-yes e .model) ∙ drop-at (modelOf n (linesOf L)) _ n (length-tabulate n _)) (λ e. ap (drop n) (on-no e .model))
+
+  pub beyond-bounds : drop (boundsRoom n) (c .after .bounds) ≡ drop (boundsRoom n) (c .before .bounds)
+  unfolding boundsOf
+  beyond-bounds = either (λ e. ap (drop (boundsRoom n)) (on-yes e .bounds) ∙ drop-at (boundsOf n (linesOf L)) _ (boundsRoom n) (length-tabulate (boundsRoom n) _)) (λ e. ap (drop (boundsRoom n)) (on-no e .bounds))
+
+  pub beyond-groups : drop n (c .after .groups) ≡ drop n (c .before .groups)
+  unfolding groupsOf
+  beyond-groups = either (λ e. ap (drop n) (on-yes e .groups) ∙ drop-at (groupsOf n (linesOf L)) _ n (length-tabulate n _)) (λ e. ap (drop n) (on-no e .groups))

@@ -1,0 +1,296 @@
+-- Versions of deciding that answer idly or by guessing, each a definition, and at a named input what breaks the promise.
+use mathlib.Core.Path.{_≡_, refl, sym, ap, subst, _∙_}
+use mathlib.Core.Bool.{Bool, true, false, cond}
+use mathlib.Core.List.{List, [], _∷_, _++_}
+use Prim.Native.Nat.{ℕ, zero, suc, _<_}
+use native.Mathlib.Omega.{arith}
+use lib.IntN.{ℤ, pos, negℤ}
+use lib.ListN.{length, getD, take, drop, replicate}
+use Rattle.integers.specs.Laws.{never}
+use Rattle.integers.specs.Sequence.{tabulate}
+use Rattle.lines.specs.declared.Refusal.the-variants.{TooManyVariables}
+use Rattle.lines.specs.declared.Validity.{Validity}
+use Rattle.lines.specs.declared.Validity.the-variants.{Valid}
+use Rattle.lines.specs.declared.Validity.the-variants as validity
+use Rattle.lines.specs.Line.{lineAt, linesOf, isFalse}
+use Rattle.lines.specs.Refusal.{coefficientsOk, variableOk, variablesOk, constantOk, linesValidity, validityOf}
+use Rattle.steps.specs.declared.Step.{Step}
+use Rattle.steps.specs.declared.NamedStep.the-variants.{Found, Nothing}
+use Rattle.steps.specs.Point.{opposite}
+use Rattle.steps.specs.Table.{entry, digit}
+use Rattle.steps.specs.Step.{stepOf, stepNumbered, stepsOf}
+use Rattle.steps.specs.Walk.{Names}
+use Rattle.refutation.specs.Progress.{headSize}
+use Rattle.soundness.specs.Refutes.{Refutes, kind-1, kind-2, kind-3}
+use Rattle.walks.specs.Row.{relaxRow, startRow, rounds, rowAt, best}
+use Rattle.walks.specs.Negative.{noNegative}
+use Rattle.bounds.specs.Tight.{halves, tight}
+use Rattle.answers.specs.Semantics.{absentLeast, absentGreatest}
+use Rattle.answers.specs.Verdict.{hasFalse, consistentHalves, verdictOf, dueKind}
+use Rattle.answers.specs.Answers.{modelOf, boundsOf, groupsOf}
+use Rattle.answers.specs.Refuted.{Due, kindOf, due-refutation}
+use Rattle.answers.specs.Cases.{list-8}
+use Rattle.buffers.specs.Room.{boundsRoom, refutationRoom, workRoom, outputsValidity, decideValidity}
+use Rattle.decide.specs.declared.Answer.{Answer}
+use Rattle.decide.specs.declared.Answer.the-variants.{Yes, No, Refused}
+use Rattle.decide.specs.Decided.{Lent, OnYes, OnNo, Leaves, Decided, cleared, unlessRefused, decideAnswer, answerFor, validityFor}
+use Rattle.demands.specs.Versions.{falseList}
+
+-- what a call gives back: its answer, and what the lent buffers hold after
+pub record Outcome : Type 0 where
+  pub answer : Answer
+  pub after : Lent
+
+abbrev pub Version : Type 0
+Version = ℕ → List ℤ → Lent → Outcome
+
+-- the promise of deciding, of any version of it
+abbrev pub Keeps : Version → Type 0
+Keeps f = (n : ℕ) (L : List ℤ) (b : Lent) → Decided n L (f n L b .answer) b (f n L b .after)
+
+-- ---- what is left
+-- on a yes: a model, bounds and groups in front, and a cleared work area
+abbrev written : ℕ → List ℤ → List ℤ → List ℕ → Lent → Lent
+written n model bounds groups b =
+    record {
+      model = model ++ drop n (b .model);
+      bounds = bounds ++ drop (boundsRoom n) (b .bounds);
+      groups = groups ++ drop n (b .groups);
+      refutation = b .refutation;
+      work = cleared n (b .work);
+    }
+
+-- on a no: a refutation in front, and a cleared work area
+abbrev refuted : ℕ → List ℕ → Lent → Lent
+refuted n R b = record { model = b .model; bounds = b .bounds; groups = b .groups; refutation = R ++ drop (length R) (b .refutation); work = cleared n (b .work) }
+
+-- by the answer; a refusal leaves everything as it was
+abbrev leftBy : Answer → (before onYes onNo : Lent) → Lent
+leftBy Yes b y m = y
+leftBy No b y m = m
+leftBy (Refused r) b y m = b
+
+abbrev outcome : Answer → (before onYes onNo : Lent) → Outcome
+outcome a b y m = record { answer = a; after = leftBy a b y m }
+
+-- the right answer, and by it what these two say
+abbrev Left : Type 0
+Left = ℕ → List ℤ → Lent → Lent
+
+abbrev leaving : (onYes onNo : Left) → Version
+leaving y m n L b = outcome (answerFor n L b) b (y n L b) (m n L b)
+
+-- ---- a version that keeps the promise, so that those below break it only by what they do otherwise
+-- a due refutation, where one is due
+abbrev numbersBy : (n : ℕ) (L : List ℤ) (v : Bool) → verdictOf n (linesOf L) ≡ v → List ℕ
+numbersBy n L true e = []
+numbersBy n L false e = due-refutation n L e .0
+
+dueNumbers : ℕ → List ℤ → List ℕ
+dueNumbers n L = numbersBy n L (verdictOf n (linesOf L)) refl
+
+due-numbers : (n : ℕ) (L : List ℤ) → verdictOf n (linesOf L) ≡ false → Due n L (dueNumbers n L)
+unfolding dueNumbers
+due-numbers n L = go (verdictOf n (linesOf L)) refl
+  where
+    go : (v : Bool) (e : verdictOf n (linesOf L) ≡ v) → v ≡ false → Due n L (numbersBy n L v e)
+    go true e z = never (cc)
+    go false e z = due-refutation n L e .1
+
+abbrev rightYes : Left
+rightYes n L = written n (modelOf n (linesOf L)) (boundsOf n (linesOf L)) (groupsOf n (linesOf L))
+
+abbrev rightNo : Left
+rightNo n L = refuted n (dueNumbers n L)
+
+pub right : Version
+right = leaving rightYes rightNo
+
+no-verdict : (n : ℕ) (L : List ℤ) (b : Lent) → answerFor n L b ≡ No → verdictOf n (linesOf L) ≡ false
+unfolding decideAnswer
+no-verdict n L b = go (validityFor n L b) (verdictOf n (linesOf L))
+  where
+    go : (v : Validity) (w : Bool) → unlessRefused v (cond w Yes No) ≡ No → w ≡ false
+    go (validity.Refused r) w e = never (cc)
+    go Valid true e = never (cc)
+    go Valid false e = refl
+
+pub right-keeps : Keeps right
+unfolding right
+right-keeps n L b = record { is = refl; leaves = go (answerFor n L b) refl }
+  where
+    go : (a : Answer) → answerFor n L b ≡ a → Leaves n L a b (leftBy a b (rightYes n L b) (rightNo n L b))
+    go Yes e = record { model = refl; bounds = refl; groups = refl; refutation = refl; work = refl }
+    go No e = record { numbers = dueNumbers n L; due = due-numbers n L (no-verdict n L b e); refutation = refl; model = refl; bounds = refl; groups = refl; work = refl }
+    go (Refused r) e = refl
+
+-- ---- what the promise says of a version with the right answer
+on-yes : (y m : Left) → Keeps (leaving y m) → (n : ℕ) (L : List ℤ) (b : Lent) → answerFor n L b ≡ Yes → OnYes n L b (y n L b)
+on-yes y m k n L b e = subst (λ (a : Answer). Leaves n L a b (leftBy a b (y n L b) (m n L b))) e (k n L b .leaves)
+
+on-no : (y m : Left) → Keeps (leaving y m) → (n : ℕ) (L : List ℤ) (b : Lent) → answerFor n L b ≡ No → OnNo n L b (m n L b)
+on-no y m k n L b e = subst (λ (a : Answer). Leaves n L a b (leftBy a b (y n L b) (m n L b))) e (k n L b .leaves)
+
+-- ---- the inputs
+-- buffers of exactly the room needed, all zeros, but for the refutation buffer, which holds r everywhere
+abbrev roomWith : ℕ → ℕ → Lent
+roomWith n r =
+    record {
+      model = replicate n (pos 0);
+      bounds = replicate (boundsRoom n) (pos 0);
+      groups = replicate n 0;
+      refutation = replicate (refutationRoom n) r;
+      work = replicate (workRoom n) (pos 0);
+    }
+
+abbrev room : ℕ → Lent
+room n = roomWith n 0
+
+-- x at most 5
+abbrev atMost5 : List ℤ
+atMost5 = pos 1 ∷ pos 0 ∷ pos 0 ∷ pos 0 ∷ pos 5 ∷ []
+
+-- x and y equal
+abbrev equalPair : List ℤ
+equalPair =
+    pos 1 ∷ pos 0 ∷ negℤ (pos 1) ∷ pos 1 ∷ pos 0
+    ∷ negℤ (pos 1) ∷ pos 0 ∷ pos 1 ∷ pos 1 ∷ pos 0
+    ∷ []
+
+no-lines-yes : answerFor 0 [] (room 0) ≡ Yes
+unfolding decideAnswer decideValidity outputsValidity validityOf linesValidity verdictOf hasFalse noNegative consistentHalves
+no-lines-yes = refl
+
+false-list-no : answerFor 0 falseList (room 0) ≡ No
+unfolding decideAnswer decideValidity outputsValidity validityOf linesValidity coefficientsOk variableOk variablesOk constantOk lineAt isFalse verdictOf hasFalse
+false-list-no = refl
+
+list-8-no : answerFor 1 list-8 (roomWith 1 9) ≡ No
+unfolding decideAnswer decideValidity outputsValidity validityOf linesValidity coefficientsOk variableOk variablesOk constantOk lineAt isFalse verdictOf hasFalse noNegative
+    entry digit stepOf stepsOf relaxRow startRow rounds rowAt best
+list-8-no = refl
+
+no-step-9 : stepNumbered list-8 9 ≡ Nothing
+unfolding stepNumbered
+no-step-9 = refl
+
+-- ---- versions that are caught by their answer
+-- it refuses every list
+pub refusesEvery : Version
+refusesEvery n L b = record { answer = Refused TooManyVariables; after = b }
+
+pub refuses-every-breaks : Keeps refusesEvery → ⊥
+unfolding refusesEvery
+refuses-every-breaks k = let e : Refused TooManyVariables ≡ Yes = k 0 [] (room 0) .is ∙ no-lines-yes in never (cc)
+
+-- it says yes to every list, with a model of zeros
+pub yesWithZeros : Version
+yesWithZeros n L b = outcome (unlessRefused (validityFor n L b) Yes) b (written n (replicate n (pos 0)) (boundsOf n (linesOf L)) (groupsOf n (linesOf L)) b) b
+
+pub yes-with-zeros-breaks : Keeps yesWithZeros → ⊥
+unfolding yesWithZeros decideValidity outputsValidity validityOf linesValidity coefficientsOk variableOk variablesOk constantOk lineAt
+yes-with-zeros-breaks k = let e : Yes ≡ No = k 0 falseList (room 0) .is ∙ false-list-no in never (cc)
+
+-- it says no to every list, with one stock refutation
+pub noWithStock : Version
+noWithStock n L b = outcome (unlessRefused (validityFor n L b) No) b b (refuted n (3 ∷ 1 ∷ 0 ∷ 0 ∷ []) b)
+
+pub no-with-stock-breaks : Keeps noWithStock → ⊥
+unfolding noWithStock decideValidity outputsValidity validityOf linesValidity
+no-with-stock-breaks k = let e : No ≡ Yes = k 0 [] (room 0) .is ∙ no-lines-yes in never (cc)
+
+-- ---- versions that answer right, and are caught by what they leave
+-- it writes nothing
+abbrev nothing : Left
+nothing n L b = b
+
+pub writesNothing : Version
+writesNothing = leaving nothing nothing
+
+pub writes-nothing-breaks : Keeps writesNothing → ⊥
+unfolding writesNothing decideAnswer decideValidity outputsValidity validityOf linesValidity verdictOf hasFalse noNegative consistentHalves
+    stepsOf relaxRow startRow rounds rowAt best opposite boundsOf halves
+writes-nothing-breaks k =
+    let s = on-yes nothing nothing k 1 [] (room 1) refl in
+    let e : pos 0 ∷ pos 0 ∷ [] ≡ absentLeast ∷ absentGreatest ∷ [] = s .bounds in never (cc)
+
+-- on a yes it gives each variable a group of its own
+abbrev ownGroupsYes : Left
+ownGroupsYes n L = written n (modelOf n (linesOf L)) (boundsOf n (linesOf L)) (tabulate n (λ k. k))
+
+pub ownGroups : Version
+ownGroups = leaving ownGroupsYes rightNo
+
+pub own-groups-breaks : Keeps ownGroups → ⊥
+unfolding ownGroups decideAnswer decideValidity outputsValidity validityOf linesValidity coefficientsOk variableOk variablesOk constantOk lineAt isFalse verdictOf hasFalse noNegative consistentHalves
+    entry digit stepOf stepsOf relaxRow startRow rounds rowAt best opposite groupsOf halves tight
+own-groups-breaks k =
+    let s = on-yes ownGroupsYes rightNo k 2 equalPair (room 2) refl in
+    let e : _≡_ {A = List ℕ} (0 ∷ 1 ∷ []) (0 ∷ 0 ∷ []) = s .groups in never (cc)
+
+-- on a yes it gives no variable a least or greatest value
+abbrev absent : ℕ → List ℤ
+absent zero = []
+absent (suc n) = absentLeast ∷ absentGreatest ∷ absent n
+
+abbrev absentBoundsYes : Left
+absentBoundsYes n L = written n (modelOf n (linesOf L)) (absent n) (groupsOf n (linesOf L))
+
+pub absentBounds : Version
+absentBounds = leaving absentBoundsYes rightNo
+
+pub absent-bounds-breaks : Keeps absentBounds → ⊥
+unfolding absentBounds decideAnswer decideValidity outputsValidity validityOf linesValidity coefficientsOk variableOk variablesOk constantOk lineAt isFalse verdictOf hasFalse noNegative consistentHalves
+    entry digit stepOf stepsOf relaxRow startRow rounds rowAt best opposite boundsOf halves
+absent-bounds-breaks k =
+    let s = on-yes absentBoundsYes rightNo k 1 atMost5 (room 1) refl in
+    let e : absentLeast ∷ absentGreatest ∷ [] ≡ absentLeast ∷ pos 5 ∷ [] = s .bounds in never (cc)
+
+-- on a no it states a refutation's kind and counts, and leaves out the steps
+abbrev headNo : Left
+headNo n L = refuted n (take headSize (dueNumbers n L))
+
+pub countsNotWritten : Version
+countsNotWritten = leaving rightYes headNo
+
+-- a due refutation of case 8's list has a first step, and it names one
+record FirstStep (R : List ℕ) : Type 0 where
+  count : ℕ
+  number : ℕ
+  numbers : List ℕ
+  is : R ≡ 1 ∷ count ∷ 0 ∷ number ∷ numbers
+  step : Step
+  named : stepNumbered list-8 number ≡ Found step
+
+first-step : (R : List ℕ) → Due 1 list-8 R → FirstStep R
+unfolding dueKind hasFalse noNegative lineAt isFalse entry digit stepOf stepsOf relaxRow startRow rounds rowAt best
+first-step R d = go (d .refutes)
+  where
+    kind-is-1 : kindOf R ≡ 1
+    kind-is-1 = d .kind
+
+    walk : (ks : List ℕ) (ts : List Step) → 0 < length ks → Names list-8 ks ts → R ≡ 1 ∷ length ks ∷ 0 ∷ ks → FirstStep R
+    walk [] ts h e r = absurd (omega arith)
+    walk (k ∷ ks) [] h e r = absurd e
+    walk (k ∷ ks) (t ∷ ts) h e r = record { count = _; number = k; numbers = ks; is = r; step = t; named = e .0 }
+
+    go : Refutes list-8 R → FirstStep R
+    go (kind-1 c) = let w = c .walk in walk (c .numbers) (w .steps) (w .some) (w .named) (c .is)
+    go (kind-2 c) = let e : _≡_ {A = ℕ} 2 1 = sym (ap kindOf (c .is)) ∙ kind-is-1 in never (cc)
+    go (kind-3 c) = let e : _≡_ {A = ℕ} 3 1 = sym (ap kindOf (c .is)) ∙ kind-is-1 in never (cc)
+
+-- 9 names no step, and stands where the first step should
+pub counts-not-written-breaks : Keeps countsNotWritten → ⊥
+unfolding countsNotWritten
+counts-not-written-breaks k =
+    let b = roomWith 1 9 in
+    let o = on-no rightYes headNo k 1 list-8 b list-8-no in
+    let f = first-step (dueNumbers 1 list-8) (due-numbers 1 list-8 (no-verdict 1 list-8 b list-8-no)) in
+    let g = first-step (o .numbers) (o .due) in
+    let unwritten : _≡_ {A = ℕ} (fourth (take headSize (dueNumbers 1 list-8))) 9 = ap (λ (R : List ℕ). fourth (take headSize R)) (f .is) in
+    let same : _≡_ {A = ℕ} 9 (g .number) = sym unwritten ∙ ap (λ (R : List ℕ). getD R headSize 0) (o .refutation) ∙ ap fourth (g .is) in
+    let e : Nothing ≡ Found (g .step) = sym no-step-9 ∙ ap (stepNumbered list-8) same ∙ g .named in never (cc)
+  where
+    -- the number behind the head, with R in front
+    fourth : List ℕ → ℕ
+    fourth R = getD (R ++ drop (length R) (replicate (refutationRoom 1) 9)) headSize 0

@@ -1,0 +1,172 @@
+//! What deciding does with the memory that it is lent: which buffers are too
+//! short, what is written and what is left alone, and that nothing that stood
+//! there before counts. Damaged lists are refused as the second implementation
+//! refuses them, and nothing is written.
+
+use std::thread;
+
+use utvpi_tests::buffers::{needed, Buffers};
+use utvpi_tests::bytes::Line;
+use utvpi_tests::chance::Chance;
+use utvpi_tests::closure;
+use utvpi_tests::damage::damaged_list;
+use utvpi_tests::decision::{decide, decide_in, Decision, Verdict};
+use utvpi_tests::make_lists::{small, Shape};
+
+/// Some lists for these tests: most small, few at the limits.
+fn some_list(chance: &mut Chance) -> (u64, Vec<Line>) {
+    match chance.below(200) {
+        0 => (64, Shape::of(chance, 64).list(chance)),
+        1..=30 => {
+            let n = chance.between(1, 12) as u64;
+            (n, Shape::of(chance, n).list(chance))
+        }
+        _ => small(chance),
+    }
+}
+
+/// Each set of buffers may be one too short: the first short output is named,
+/// and the work area comes last.
+#[test]
+fn which_buffer_is_short() {
+    let mut chance = Chance::new(70);
+    let lists: [&[i32]; 3] = [&[], &[0, 0, 0, 0, -1], &[0, 0, 0, 0, 1]];
+    for n in [0, 1, 2, 5, 64] {
+        for short in 0..32 {
+            let cut = |at: usize| usize::from(short >> at & 1 == 1);
+            // A buffer of no numbers can't be shorter.
+            let full = needed(n);
+            let lengths: Vec<usize> = (0..5).map(|at| full[at].saturating_sub(cut(at))).collect();
+            let lengths: [usize; 5] = lengths.try_into().unwrap();
+            let first = (0..5).find(|&at| lengths[at] < full[at]);
+            for list in lists {
+                let mut buffers = Buffers::new(&mut chance, lengths);
+                let verdict = decide_in(&mut buffers, n, list).verdict;
+                match first {
+                    Some(4) => assert_eq!(verdict, Verdict::Refused(8, 0)),
+                    Some(at) => assert_eq!(verdict, Verdict::Refused(7, at + 1)),
+                    None => assert!(!matches!(verdict, Verdict::Refused(..))),
+                }
+            }
+        }
+    }
+}
+
+/// A buffer of no numbers at all is as short as any.
+#[test]
+fn empty_buffers() {
+    let mut chance = Chance::new(71);
+    for n in [1, 3, 64] {
+        for at in 0..5 {
+            let mut lengths = needed(n);
+            lengths[at] = 0;
+            let mut buffers = Buffers::new(&mut chance, lengths);
+            let verdict = decide_in(&mut buffers, n, &[]).verdict;
+            let due = if at == 4 { (8, 0) } else { (7, at + 1) };
+            assert_eq!(verdict, Verdict::Refused(due.0, due.1));
+        }
+    }
+}
+
+/// The list's refusals go before those of the buffers.
+#[test]
+fn list_refusals_go_first() {
+    let mut chance = Chance::new(72);
+    let bad: [(u64, Vec<i32>, (u8, usize)); 7] = [
+        (65, vec![0; 3], (1, 0)),
+        (64, vec![0; 2_566], (2, 0)),
+        (64, vec![0; 2_565], (3, 0)),
+        (2, vec![0, 0, 0, 0, 0, 2, 9, 0, 0, 0], (4, 1)),
+        (2, vec![1, 2, 0, 0, 1_000_001], (5, 0)),
+        (2, vec![0, 0, 0, 1, 1_000_001], (5, 0)),
+        (2, vec![0, 0, 0, 0, 1_000_001, 2, 0, 0, 0, 0], (6, 0)),
+    ];
+    for (n, list, due) in bad {
+        for short in 0..32 {
+            let full = needed(2);
+            let lengths = [0, 1, 2, 3, 4].map(|at| full[at] - (short >> at & 1));
+            let mut buffers = Buffers::new(&mut chance, lengths);
+            let verdict = decide_in(&mut buffers, n, &list).verdict;
+            assert_eq!(verdict, Verdict::Refused(due.0, due.1), "{list:?}");
+        }
+    }
+}
+
+/// Lists damaged in every way, in buffers of which some are short: the refusal
+/// is the second implementation's, and a list that is still valid is decided.
+#[test]
+fn damaged_lists() {
+    let mut chance = Chance::new(73);
+    let mut refused = [0; 9];
+    let mut decided = 0;
+    for _ in 0..60_000 {
+        let (n, lines) = some_list(&mut chance);
+        let mut lengths = needed(n);
+        if chance.one_in(6) {
+            let at = chance.below(5);
+            lengths[at] = lengths[at].saturating_sub(chance.between(1, 3) as usize);
+        }
+        let (n, list) = damaged_list(&mut chance, n, &lines.concat());
+        let mut buffers = Buffers::new(&mut chance, lengths);
+        match decide_in(&mut buffers, n, &list).verdict {
+            Verdict::Refused(number, _) => refused[number as usize] += 1,
+            verdict => {
+                decided += 1;
+                let lines: Vec<Line> = list.chunks(5).map(|l| l.try_into().unwrap()).collect();
+                assert_eq!(
+                    closure::verdict(n as usize, &lines),
+                    verdict,
+                    "{n} {lines:?}"
+                );
+            }
+        }
+    }
+    println!("{decided} decided, refused by number {:?}", &refused[1..]);
+    assert!(decided >= 1_000);
+    assert!(
+        refused[1..].iter().all(|&times| times >= 100),
+        "{refused:?}"
+    );
+}
+
+/// The same list gets the same answer whatever stood in the buffers, however
+/// long they are, and whatever was decided in them before.
+#[test]
+fn rubbish_does_not_count() {
+    let mut chance = Chance::new(74);
+    let mut used = Buffers::new(&mut chance, needed(64));
+    for _ in 0..3_000 {
+        let (n, lines) = some_list(&mut chance);
+        let first = decide(&mut chance, n, &lines);
+        for _ in 0..2 {
+            assert_eq!(decide(&mut chance, n, &lines), first, "{n} {lines:?}");
+        }
+        // Stale numbers of other lists, and room for 64 variables.
+        let stale = decide_in(&mut used, n, &lines.concat());
+        assert_eq!(stale, first, "{n} {lines:?}");
+    }
+}
+
+/// Several threads decide at once, each in its own buffers.
+#[test]
+fn several_threads() {
+    let mut chance = Chance::new(75);
+    let mut asked: Vec<(u64, Vec<Line>, Decision)> = Vec::new();
+    for _ in 0..1_000 {
+        let (n, lines) = some_list(&mut chance);
+        let decision = decide(&mut chance, n, &lines);
+        asked.push((n, lines, decision));
+    }
+    thread::scope(|scope| {
+        for seed in 80..84 {
+            let asked = &asked;
+            scope.spawn(move || {
+                let mut chance = Chance::new(seed);
+                for at in chance.order(asked.len()) {
+                    let (n, lines, due) = &asked[at];
+                    assert_eq!(decide(&mut chance, *n, lines), *due);
+                }
+            });
+        }
+    });
+}

@@ -1,0 +1,272 @@
+//! The cases that the description of the library names, decided: verdict, model,
+//! bounds, groups and the refutation's kind; and the limits.
+
+use utvpi_tests::buffers::{needed, Buffers};
+use utvpi_tests::bytes::Line;
+use utvpi_tests::chance::Chance;
+use utvpi_tests::decision::{decide, decide_in, Decision, Reason, Solved, Verdict};
+use utvpi_tests::{brute, closure};
+
+/// The numbers that stand for no least and no greatest value.
+const NO_LEAST: i64 = i64::MIN;
+const NO_GREATEST: i64 = i64::MAX;
+
+const CASE_4: [Line; 4] = [
+    [1, 0, -1, 1, 2],
+    [1, 0, 1, 1, -1],
+    [-1, 0, -1, 2, -4],
+    [-1, 0, 1, 2, 3],
+];
+
+/// The decision, the same from buffers with different rubbish.
+fn decided(n: u64, lines: &[Line]) -> Decision {
+    let mut chance = Chance::new(n + lines.len() as u64);
+    let first = decide(&mut chance, n, lines);
+    // Large lists may take long.
+    for _ in 0..if n > 8 { 2 } else { 20 } {
+        assert_eq!(decide(&mut chance, n, lines), first);
+    }
+    first
+}
+
+fn yes(n: u64, lines: &[Line], model: &[i64], bounds: &[i64], groups: &[u32]) {
+    let due = Verdict::Yes(Solved {
+        model: model.to_vec(),
+        bounds: bounds.to_vec(),
+        groups: groups.to_vec(),
+    });
+    assert_eq!(decided(n, lines).verdict, due, "{lines:?}");
+    // The other two ways to decide are held to the same cases.
+    assert_eq!(closure::verdict(n as usize, lines), due, "{lines:?}");
+    assert_eq!(brute::verdict(n as usize, lines), due, "{lines:?}");
+}
+
+/// The refutation of a list that has no solution, for this reason.
+fn no(n: u64, lines: &[Line], reason: Reason) -> Vec<u32> {
+    let decision = decided(n, lines);
+    assert_eq!(decision.verdict, Verdict::No(reason), "{lines:?}");
+    assert_eq!(closure::verdict(n as usize, lines), decision.verdict);
+    assert_eq!(brute::verdict(n as usize, lines), decision.verdict);
+    decision.refutation
+}
+
+#[test]
+fn case_1_nothing_asked_of_nothing() {
+    yes(0, &[], &[], &[], &[]);
+}
+
+#[test]
+fn case_2_nothing_asked() {
+    yes(1, &[], &[0], &[NO_LEAST, NO_GREATEST], &[0]);
+    for n in 0..=64_u32 {
+        let due = Solved {
+            model: vec![0; n as usize],
+            bounds: [NO_LEAST, NO_GREATEST].repeat(n as usize),
+            groups: (0..n).collect(),
+        };
+        assert_eq!(decided(u64::from(n), &[]).verdict, Verdict::Yes(due));
+    }
+}
+
+#[test]
+fn case_3_a_false_line() {
+    let refutation = no(0, &[[0, 0, 0, 0, -1]], Reason::FalseLine(0));
+    assert_eq!(refutation, [3, 1, 0, 0]);
+    yes(0, &[[0, 0, 0, 0, 0]], &[], &[], &[]);
+    // The lowest of several, and before every walk.
+    let lines = [
+        [1, 0, -1, 0, -1],
+        [0, 0, 0, 0, 0],
+        [0, 0, 0, 0, -3],
+        [0, 0, 0, 0, -9],
+    ];
+    assert_eq!(no(1, &lines, Reason::FalseLine(2)), [3, 1, 0, 4]);
+}
+
+#[test]
+fn case_4_only_halves_would_solve_it() {
+    let refutation = no(3, &CASE_4, Reason::HalvedWalks);
+    assert_eq!(refutation[0], 2);
+}
+
+#[test]
+fn case_5_case_4_without_its_last_line() {
+    let bounds = [NO_LEAST, 0, NO_LEAST, NO_GREATEST, 4, NO_GREATEST];
+    yes(3, &CASE_4[..3], &[0, -1, 4], &bounds, &[0, 1, 2]);
+}
+
+#[test]
+fn case_6_equal_without_a_cycle_of_sum_0() {
+    let lines = [
+        [1, 0, 1, 0, 1],
+        [-1, 0, -1, 0, 1],
+        [1, 1, 1, 1, 1],
+        [-1, 1, -1, 1, 1],
+    ];
+    yes(2, &lines, &[0, 0], &[0; 4], &[0, 0]);
+}
+
+#[test]
+fn case_7_a_variable_below_itself() {
+    let refutation = no(1, &[[1, 0, -1, 0, -1]], Reason::ClosedWalk);
+    assert_eq!(refutation[0], 1);
+    yes(1, &[[1, 0, -1, 0, 0]], &[0], &[NO_LEAST, NO_GREATEST], &[0]);
+}
+
+#[test]
+fn case_8_one_variable_between_two_bounds() {
+    no(1, &[[1, 0, 0, 0, 3], [-1, 0, 0, 0, -4]], Reason::ClosedWalk);
+    yes(
+        1,
+        &[[1, 0, 0, 0, 3], [-1, 0, 0, 0, -3]],
+        &[3],
+        &[3, 3],
+        &[0],
+    );
+    // The same lines with the variable in the other place.
+    no(1, &[[0, 0, 1, 0, 3], [0, 0, -1, 0, -4]], Reason::ClosedWalk);
+}
+
+#[test]
+fn cases_9_and_10_halving_and_equal_variables() {
+    yes(1, &[[-1, 0, -1, 0, -7]], &[4], &[4, NO_GREATEST], &[0]);
+    // Halving down on the other side of zero, too.
+    yes(1, &[[1, 0, 1, 0, -7]], &[-4], &[NO_LEAST, -4], &[0]);
+    let equal = [[1, 0, -1, 1, 0], [-1, 0, 1, 1, 0]];
+    let bounds = [NO_LEAST, NO_GREATEST, NO_LEAST, NO_GREATEST];
+    yes(2, &equal, &[0, 0], &bounds, &[0, 0]);
+}
+
+/// 512 lines over 64 variables, all with the bound 1,000,000.
+fn largest() -> Vec<Line> {
+    (0..512)
+        .map(|at| [1, at % 64, 1, (at * 7 + at / 64) % 64, 1_000_000])
+        .collect()
+}
+
+/// What a list given as numbers is refused with, in buffers for 64 variables.
+fn refused(n: u64, list: &[i32]) -> Verdict {
+    let mut buffers = Buffers::new(&mut Chance::new(n), needed(64));
+    decide_in(&mut buffers, n, list).verdict
+}
+
+#[test]
+fn case_11_the_limits() {
+    let lines = largest();
+    let due = closure::verdict(64, &lines);
+    assert_eq!(decided(64, &lines).verdict, due);
+    assert_eq!(refused(64, &lines.concat()), due);
+
+    assert_eq!(refused(65, &lines.concat()), Verdict::Refused(1, 0));
+    assert_eq!(refused(u64::MAX, &[]), Verdict::Refused(1, 0));
+    assert_eq!(refused(1 << 32, &[]), Verdict::Refused(1, 0));
+    let mut longer = lines.clone();
+    longer.push(lines[0]);
+    assert_eq!(refused(64, &longer.concat()), Verdict::Refused(3, 0));
+    assert_eq!(refused(64, &[1, 0, 1, 0, 5, 1]), Verdict::Refused(2, 0));
+    for at in [0, 1, 300, 511] {
+        for bound in [1_000_001, -1_000_001, i32::MAX, i32::MIN] {
+            let mut lines = lines.clone();
+            lines[at][4] = bound;
+            assert_eq!(refused(64, &lines.concat()), Verdict::Refused(6, at));
+        }
+    }
+}
+
+/// A chain of the largest bounds, so that the sums are as far from zero as can
+/// be: each variable at least 1,000,000 above the one before.
+#[test]
+fn case_11_the_largest_sums() {
+    let mut lines = vec![[-1, 0, 0, 0, -1_000_000]];
+    lines.extend((1..64).map(|x| [1, x - 1, -1, x, -1_000_000]));
+    let model: Vec<i64> = (1..=64).map(|x| 1_000_000 * x).collect();
+    let due = Verdict::Yes(Solved {
+        bounds: model
+            .iter()
+            .flat_map(|&least| [least, NO_GREATEST])
+            .collect(),
+        model,
+        groups: (0..64).collect(),
+    });
+    assert_eq!(decided(64, &lines).verdict, due);
+    lines.reverse();
+    assert_eq!(decided(64, &lines).verdict, due);
+    // The last one at most 1,000,000 above the first.
+    lines.push([1, 63, -1, 0, 1_000_000]);
+    assert_eq!(decided(64, &lines).verdict, Verdict::No(Reason::ClosedWalk));
+}
+
+/// The lines as they are, turned round, and in some other order: which walks are
+/// found late depends on it.
+fn orders(lines: &[Line]) -> [Vec<Line>; 3] {
+    let order = Chance::new(9).order(lines.len());
+    [
+        lines.to_vec(),
+        lines.iter().rev().copied().collect(),
+        order.iter().map(|&at| lines[at]).collect(),
+    ]
+}
+
+/// Each variable at least one above the one before it, the first at least 1: the
+/// walk that says so of the last one passes all 128 points, as does the closed
+/// walk if the last one is to be below 64.
+#[test]
+fn the_longest_walks() {
+    let mut lines = vec![[-1, 0, 0, 0, -1]];
+    lines.extend((1..64).map(|x| [1, x - 1, -1, x, -1]));
+    lines.push([1, 63, 0, 0, 64]);
+    let model: Vec<i64> = (1..=64).collect();
+    let due = Verdict::Yes(Solved {
+        bounds: model.iter().flat_map(|&value| [value, value]).collect(),
+        model,
+        groups: (0..64).collect(),
+    });
+    for lines in orders(&lines) {
+        assert_eq!(decided(64, &lines).verdict, due);
+    }
+    lines[64][4] = 63;
+    for lines in orders(&lines) {
+        let decision = decided(64, &lines);
+        assert_eq!(decision.verdict, Verdict::No(Reason::ClosedWalk));
+        assert_eq!(decision.refutation[1], 128, "there is no shorter one");
+    }
+}
+
+/// All variables equal, and the last one 3 or, if halves counted, three and a
+/// half: from the first one's points there and back it is 254 steps.
+#[test]
+fn the_longest_halved_walks() {
+    let mut lines = vec![[1, 63, 1, 63, 7], [-1, 63, -1, 63, -6]];
+    for x in 1..64 {
+        lines.extend([[1, x - 1, -1, x, 0], [-1, x - 1, 1, x, 0]]);
+    }
+    let due = Verdict::Yes(Solved {
+        model: vec![3; 64],
+        bounds: vec![3; 128],
+        groups: vec![0; 64],
+    });
+    for lines in orders(&lines) {
+        assert_eq!(decided(64, &lines).verdict, due);
+    }
+    lines[1][4] = -7;
+    for lines in orders(&lines) {
+        let verdict = decided(64, &lines).verdict;
+        assert_eq!(verdict, Verdict::No(Reason::HalvedWalks));
+    }
+}
+
+#[test]
+fn case_12_which_refusal() {
+    for at in [1, 3] {
+        let mut line = [1, 0, 1, 0, 5];
+        line[at] = 64;
+        assert_eq!(refused(64, &line), Verdict::Refused(5, 0));
+        line[at] = 63;
+        assert_eq!(refused(64, &line), closure::verdict(64, &[line]));
+        line[at - 1] = 2;
+        line[at] = 99;
+        assert_eq!(refused(64, &line), Verdict::Refused(4, 0));
+    }
+    let two = [[1, 0, 1, 0, 1_000_001], [2, 0, 1, 0, 0]];
+    assert_eq!(refused(64, &two.concat()), Verdict::Refused(6, 0));
+}

@@ -1,0 +1,103 @@
+//! The buffers that deciding is lent: each lies between guard numbers, may be
+//! longer than it need be, and is full of rubbish before the call.
+
+use crate::chance::Chance;
+use crate::library::{self, Lent};
+
+/// How many numbers lie before and behind what is lent.
+const GUARD: usize = 16;
+
+/// The lengths that n variables, at most 64, ask for: model, bounds, groups,
+/// refutation, work area.
+pub fn needed(n: u64) -> [usize; 5] {
+    let n = n as usize;
+    [n, 2 * n, n, 4 + 4 * n, 16 * n * n + 64 * n + 64]
+}
+
+/// The numbers that are lent and the guards around them.
+#[derive(Clone, Debug, PartialEq, Eq)]
+pub struct Guarded<T> {
+    whole: Vec<T>,
+    length: usize,
+}
+
+impl<T: Copy> Guarded<T> {
+    fn new(length: usize, rubbish: impl FnMut() -> T) -> Guarded<T> {
+        let whole = std::iter::repeat_with(rubbish)
+            .take(length + 2 * GUARD)
+            .collect();
+        Guarded { whole, length }
+    }
+
+    pub fn lent(&self) -> &[T] {
+        &self.whole[GUARD..GUARD + self.length]
+    }
+
+    pub fn lent_mut(&mut self) -> &mut [T] {
+        &mut self.whole[GUARD..GUARD + self.length]
+    }
+}
+
+/// All five.
+#[derive(Clone, Debug, PartialEq, Eq)]
+pub struct Buffers {
+    pub model: Guarded<i64>,
+    pub bounds: Guarded<i64>,
+    pub groups: Guarded<u32>,
+    pub refutation: Guarded<u32>,
+    pub work: Guarded<i64>,
+}
+
+impl Buffers {
+    /// Buffers of these lengths, full of rubbish of one sort or another.
+    pub fn new(chance: &mut Chance, lengths: [usize; 5]) -> Buffers {
+        let sort = chance.below(8);
+        let mut count = 0;
+        let mut rubbish = || match sort {
+            0 => 0,
+            1 => -1,
+            2 => i64::MIN,
+            3 => i64::MAX,
+            4 => {
+                count += 1;
+                count
+            }
+            _ => chance.next() as i64,
+        };
+        Buffers {
+            model: Guarded::new(lengths[0], &mut rubbish),
+            bounds: Guarded::new(lengths[1], &mut rubbish),
+            groups: Guarded::new(lengths[2], || rubbish() as u32),
+            refutation: Guarded::new(lengths[3], || rubbish() as u32),
+            work: Guarded::new(lengths[4], &mut rubbish),
+        }
+    }
+
+    /// Buffers long enough for n variables, some of them longer.
+    pub fn enough(chance: &mut Chance, n: u64) -> Buffers {
+        let lengths = needed(n).map(|length| length + chance.pick(&[0, 0, 1, 7]));
+        Buffers::new(chance, lengths)
+    }
+
+    pub fn lengths(&self) -> [usize; 5] {
+        [
+            self.model.length,
+            self.bounds.length,
+            self.groups.length,
+            self.refutation.length,
+            self.work.length,
+        ]
+    }
+
+    /// The result of deciding a list in these buffers.
+    pub fn call(&mut self, n: u64, list: &[i32]) -> i64 {
+        let lent = Lent {
+            model: self.model.lent_mut(),
+            bounds: self.bounds.lent_mut(),
+            groups: self.groups.lent_mut(),
+            refutation: self.refutation.lent_mut(),
+            work: self.work.lent_mut(),
+        };
+        library::decide(n, list, lent)
+    }
+}

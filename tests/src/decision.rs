@@ -1,0 +1,147 @@
+//! Decides a list with the library and makes sure of all that must hold of any
+//! answer: that both checkers accept it, and that nothing else is written.
+
+use crate::buffers::{needed, Buffers};
+use crate::bytes::{self, Line};
+use crate::chance::Chance;
+use crate::second::{self, Answer};
+
+/// What deciding answers, but for the walks of a refutation, which are free.
+#[derive(Clone, Debug, PartialEq, Eq)]
+pub enum Verdict {
+    Yes(Solved),
+    No(Reason),
+    /// The refusal's number and its place.
+    Refused(u8, usize),
+}
+
+/// What is written on a yes.
+#[derive(Clone, Debug, PartialEq, Eq)]
+pub struct Solved {
+    pub model: Vec<i64>,
+    /// For each variable the least, then the greatest value.
+    pub bounds: Vec<i64>,
+    pub groups: Vec<u32>,
+}
+
+/// Why a list has no solution: the kind of refutation that is due.
+#[derive(Clone, Copy, Debug, PartialEq, Eq)]
+pub enum Reason {
+    /// Kind 3: the number of the lowest false line.
+    FalseLine(usize),
+    /// Kind 1.
+    ClosedWalk,
+    /// Kind 2.
+    HalvedWalks,
+}
+
+/// A verdict, and on a no the numbers that were handed over.
+#[derive(Clone, Debug, PartialEq, Eq)]
+pub struct Decision {
+    pub verdict: Verdict,
+    pub refutation: Vec<u32>,
+}
+
+/// Decides lines in buffers full of rubbish, some longer than they need be.
+pub fn decide(chance: &mut Chance, n: u64, lines: &[Line]) -> Decision {
+    decide_in(&mut Buffers::enough(chance, n), n, &lines.concat())
+}
+
+/// Decides a list in these buffers.
+pub fn decide_in(buffers: &mut Buffers, n: u64, list: &[i32]) -> Decision {
+    let before = buffers.clone();
+    let old_list = list.to_vec();
+    let result = buffers.call(n, list);
+    let shown = || format!("n: {n}\nlist: {list:?}");
+    assert!(list == old_list, "the list was written to\n{}", shown());
+    let mut allowed = before.clone();
+    let due = second::decide_refusal(n, list, before.lengths());
+    let decision = match (due, result) {
+        (Some(refused), _) => {
+            assert_eq!(result, refused.code(), "{refused:?} is due\n{}", shown());
+            let Answer::Refused(number, place) = refused else {
+                unreachable!()
+            };
+            Decision {
+                verdict: Verdict::Refused(number, place),
+                refutation: Vec::new(),
+            }
+        }
+        (None, 0) => yes(n, list, buffers, &mut allowed),
+        (None, 1_000_000) => no(n, list, buffers, &mut allowed),
+        (None, _) => panic!("the result is {result}\n{}", shown()),
+    };
+    if *buffers != allowed {
+        let place = first_difference(buffers, &allowed);
+        panic!(
+            "result {result}, and {place} is not as it must be\n{}",
+            shown()
+        );
+    }
+    decision
+}
+
+/// Reads a yes, and lets `allowed` have what may be written with it.
+fn yes(n: u64, list: &[i32], buffers: &Buffers, allowed: &mut Buffers) -> Decision {
+    let [model, bounds, groups, _, work] = needed(n);
+    let solved = Solved {
+        model: buffers.model.lent()[..model].to_vec(),
+        bounds: buffers.bounds.lent()[..bounds].to_vec(),
+        groups: buffers.groups.lent()[..groups].to_vec(),
+    };
+    allowed.model.lent_mut()[..model].copy_from_slice(&solved.model);
+    allowed.bounds.lent_mut()[..bounds].copy_from_slice(&solved.bounds);
+    allowed.groups.lent_mut()[..groups].copy_from_slice(&solved.groups);
+    allowed.work.lent_mut()[..work].fill(0);
+    let answer = crate::model(n, &bytes::numbers(list), &bytes::model(&solved.model));
+    assert_eq!(
+        answer,
+        Answer::Yes,
+        "the model {:?} is not accepted\nn: {n}\nlist: {list:?}",
+        solved.model
+    );
+    Decision {
+        verdict: Verdict::Yes(solved),
+        refutation: Vec::new(),
+    }
+}
+
+/// Reads a no, and lets `allowed` have what may be written with it.
+fn no(n: u64, list: &[i32], buffers: &Buffers, allowed: &mut Buffers) -> Decision {
+    let [_, _, _, room, work] = needed(n);
+    let lent = &buffers.refutation.lent()[..room];
+    let shown = || format!("n: {n}\nlist: {list:?}\nrefutation: {lent:?}");
+    let steps = u64::from(lent[1]) + u64::from(lent[2]);
+    let most = if lent[0] == 3 { 1 } else { 4 * n };
+    assert!(steps <= most, "{steps} steps\n{}", shown());
+    let refutation = lent[..3 + steps as usize].to_vec();
+    allowed.refutation.lent_mut()[..refutation.len()].copy_from_slice(&refutation);
+    allowed.work.lent_mut()[..work].fill(0);
+    let packed = bytes::refutation(&refutation);
+    let answer = crate::refutation(n, &bytes::numbers(list), &packed);
+    assert_eq!(answer, Answer::Yes, "not accepted\n{}", shown());
+    let reason = match refutation[0] {
+        1 => Reason::ClosedWalk,
+        2 => Reason::HalvedWalks,
+        _ => Reason::FalseLine(refutation[3] as usize / 2),
+    };
+    Decision {
+        verdict: Verdict::No(reason),
+        refutation,
+    }
+}
+
+/// The buffer that differs, in words.
+fn first_difference(buffers: &Buffers, allowed: &Buffers) -> &'static str {
+    if buffers.model != allowed.model {
+        "the model's buffer"
+    } else if buffers.bounds != allowed.bounds {
+        "the bounds' buffer"
+    } else if buffers.groups != allowed.groups {
+        "the groups' buffer"
+    } else if buffers.refutation != allowed.refutation {
+        "the refutation's buffer"
+    } else {
+        "the work area"
+    }
+}

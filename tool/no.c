@@ -1,0 +1,175 @@
+/* Printing a no: the rules that clash, in the order of the walk, and how they add
+ * up to something false. */
+#include "list.h"
+
+#include <inttypes.h>
+
+/* Rules are padded to the longest among them, but to no more than this. */
+#define MOST_PADDED 40
+
+/* The widths of the columns: line numbers, rules. */
+struct layout {
+    int number;
+    int rule;
+};
+
+/* What a walk's rules add up to: a factor for each variable, and the bound. */
+struct sum {
+    int64_t factors[UTVPI_MOST_VARIABLES];
+    int64_t bound;
+};
+
+static const int32_t *line_of(const struct list *list, uint32_t step)
+{
+    return list->numbers + 5 * (size_t)(step / 2);
+}
+
+/* How often a step counts its line: a line on one variable counts twice, so that
+ * every step takes in two terms. */
+static int times(const int32_t *line)
+{
+    return (line[0] == 0) != (line[2] == 0) ? 2 : 1;
+}
+
+/* Prints a term. The first has its sign without blanks, and none where it is +. */
+static void print_term(const struct list *list, int64_t factor, uint64_t variable, bool first)
+{
+    if (first) {
+        fputs(factor < 0 ? "-" : "", stdout);
+    } else {
+        fputs(factor < 0 ? " - " : " + ", stdout);
+    }
+    if (factor != 1 && factor != -1) {
+        printf("%" PRId64 "*", factor < 0 ? -factor : factor);
+    }
+    print_event(stdout, list, variable);
+}
+
+/* Prints a line, counted that many times. */
+static void print_line(const struct list *list, const int32_t *line, int count)
+{
+    bool first = true;
+    for (int at = 0; at < 4; at += 2) {
+        if (line[at] != 0) {
+            print_term(list, (int64_t)count * line[at], (uint64_t)line[at + 1], first);
+            first = false;
+        }
+    }
+    printf("%s <= %" PRId64 "\n", first ? "0" : "", (int64_t)count * line[4]);
+}
+
+/* Prints a sum; with halved, half of each factor and of the bound, rounded down. */
+static void print_sum(const struct list *list, const struct sum *sum, bool halved)
+{
+    int64_t bound = sum->bound;
+    bool first = true;
+    for (uint64_t v = 0; v < list->variables; v++) {
+        if (sum->factors[v] != 0) {
+            print_term(list, halved ? sum->factors[v] / 2 : sum->factors[v], v, first);
+            first = false;
+        }
+    }
+    if (halved) {
+        bound = bound / 2 - (bound % 2 < 0 ? 1 : 0);
+    }
+    printf("%s <= %" PRId64, first ? "0" : "", bound);
+}
+
+static int padded(const struct origin *origin)
+{
+    return origin->rule.length > MOST_PADDED ? MOST_PADDED : (int)origin->rule.length;
+}
+
+/* Prints a rule as the file has it, and what it says in one form for all. */
+static void print_step(const struct list *list, uint32_t step, struct layout layout)
+{
+    const struct origin *origin = &list->origins[step / 2];
+    const int32_t *line = line_of(list, step);
+    printf("  line %*zu:  ", layout.number, origin->line);
+    show(stdout, origin->rule);
+    printf("%*s  %-6s  ", layout.rule - padded(origin), "", times(line) == 2 ? "twice:" : "says:");
+    print_line(list, line, times(line));
+}
+
+/* Prints the rules of a walk and adds them up. */
+static struct sum print_walk(const struct list *list, const uint32_t *steps, uint32_t count,
+                             struct layout layout)
+{
+    struct sum sum = {{0}, 0};
+    for (uint32_t at = 0; at < count; at++) {
+        const int32_t *line = line_of(list, steps[at]);
+        print_step(list, steps[at], layout);
+        sum.factors[line[1]] += times(line) * line[0];
+        sum.factors[line[3]] += times(line) * line[2];
+        sum.bound += (int64_t)times(line) * line[4];
+    }
+    fputs("  Added up: ", stdout);
+    print_sum(list, &sum, false);
+    return sum;
+}
+
+/* Prints what one walk of kind 2 says: a bound on twice a variable. */
+static struct sum print_half(const struct list *list, const uint32_t *steps, uint32_t count,
+                             struct layout layout)
+{
+    struct sum sum = print_walk(list, steps, count, layout);
+    fputs(", so ", stdout);
+    print_sum(list, &sum, true);
+    puts(sum.bound % 2 == 0 ? ".\n" : " (halved, and rounded down to a whole number).\n");
+    return sum;
+}
+
+/* Where the two walks leave exactly one number, and that is no whole one, says
+ * which. */
+static void print_fraction(const struct list *list, const struct sum *first,
+                           const struct sum *second)
+{
+    if (first->bound + second->bound != 0) {
+        return;
+    }
+    for (uint64_t v = 0; v < list->variables; v++) {
+        if (first->factors[v] != 0) {
+            int64_t twice = first->factors[v] > 0 ? first->bound : -first->bound;
+            fputs("  Only a fraction would do: ", stdout);
+            print_event(stdout, list, v);
+            printf(" = %s%" PRId64 ".5.\n", twice < 0 ? "-" : "", (twice < 0 ? -twice : twice) / 2);
+        }
+    }
+}
+
+static struct layout layout_of(const struct list *list, const uint32_t *steps, uint32_t count)
+{
+    struct layout layout = {0, 0};
+    for (uint32_t at = 0; at < count; at++) {
+        const struct origin *origin = &list->origins[steps[at] / 2];
+        int number = snprintf(NULL, 0, "%zu", origin->line);
+        layout.number = number > layout.number ? number : layout.number;
+        layout.rule = padded(origin) > layout.rule ? padded(origin) : layout.rule;
+    }
+    return layout;
+}
+
+/* Prints a refutation that the checker has accepted. */
+void print_no(const struct list *list, const uint32_t *refutation)
+{
+    uint32_t p = refutation[1], q = refutation[2];
+    const uint32_t *steps = refutation + 3;
+    struct layout layout = layout_of(list, steps, p + q);
+    if (refutation[0] == 3) {
+        puts("No. No whole numbers meet all the rules. One is false by itself:\n");
+        print_step(list, steps[0], layout);
+        return;
+    }
+    puts("No. No whole numbers meet all the rules. These rules clash:\n");
+    if (refutation[0] == 1) {
+        print_walk(list, steps, p, layout);
+        puts(", which is false.");
+        return;
+    }
+    struct sum first = print_half(list, steps, p, layout);
+    struct sum second = print_half(list, steps + p, q, layout);
+    int64_t odd = (first.bound % 2 != 0) + (second.bound % 2 != 0);
+    printf("  Together: 0 <= %" PRId64 ", which is false.\n",
+           (first.bound + second.bound - odd) / 2);
+    print_fraction(list, &first, &second);
+}

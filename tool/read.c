@@ -1,0 +1,144 @@
+/* Reading a file: cuts it into lines, leaves out comments, tells which form each
+ * rule has, and keeps the lines of the list. */
+#include "list.h"
+
+#include <stdlib.h>
+#include <string.h>
+
+static const struct text nothing = {"", 0};
+
+/* Settles the file's form, or finds that it was settled otherwise. */
+bool settle_form(struct list *list, struct origin origin, enum form form)
+{
+    if (list->form == FORM_OPEN) {
+        list->form = form;
+        list->form_line = origin.line;
+    }
+    if (list->form == form) {
+        return true;
+    }
+    bool ok = wrong(list, origin, nothing,
+                    form == FORM_NAMES ? "this is a rule in words in a file of numbers"
+                                       : "this is a line of numbers in a file of rules in words",
+                    "write the whole file in one form");
+    fprintf(stderr, "  The form was settled in line %zu.\n", list->form_line);
+    return ok;
+}
+
+/* Adds a line to the list. */
+bool add_line(struct list *list, struct origin origin, const int32_t line[5])
+{
+    if (list->count == list->room) {
+        size_t longer = list->room == 0 ? 64 : 2 * list->room;
+        int32_t *numbers = realloc(list->numbers, longer * 5 * sizeof *numbers);
+        if (numbers != NULL) {
+            list->numbers = numbers;
+        }
+        struct origin *origins = realloc(list->origins, longer * sizeof *origins);
+        if (origins != NULL) {
+            list->origins = origins;
+        }
+        if (numbers == NULL || origins == NULL) {
+            return wrong(list, origin, nothing, "there is not enough memory for so many rules",
+                         "leave out rules that add nothing");
+        }
+        list->room = longer;
+    }
+    memcpy(list->numbers + 5 * list->count, line, 5 * sizeof *line);
+    list->origins[list->count] = origin;
+    list->count++;
+    return true;
+}
+
+/* Looks for bytes that no text has, in comments too: a file that is not text may
+ * look like one long comment. */
+static bool is_plain(const struct list *list, size_t number, struct text line)
+{
+    struct origin origin = {number, nothing};
+    for (size_t at = 0; at < line.length; at++) {
+        unsigned char c = (unsigned char)line.at[at];
+        if ((c < 32 && c != '\t') || c == 127) {
+            struct text part = {line.at + at, 1};
+            return wrong(list, origin, part, "is a character that no text has",
+                         "give a plain text file whose lines end with LF or CR LF");
+        }
+    }
+    return true;
+}
+
+static bool starts_with_variables(struct text rule)
+{
+    static const char word[] = "variables";
+    size_t length = sizeof word - 1;
+    return rule.length >= length && memcmp(rule.at, word, length) == 0 &&
+           (rule.length == length || is_blank(rule.at[length]));
+}
+
+/* Reads one rule, which is not empty. */
+static bool read_rule(struct list *list, struct origin origin)
+{
+    bool in_words = false;
+    if (origin.rule.length > MOST_RULE) {
+        origin.rule.length = 40;
+        return wrong(list, origin, nothing,
+                     "this rule has more than 1,000 characters; it begins as shown",
+                     "write one rule to a line");
+    }
+    for (size_t at = 0; at < origin.rule.length; at++) {
+        char c = origin.rule.at[at];
+        if ((unsigned char)c > 127) {
+            return wrong(list, origin, nothing, "this rule has a character outside plain ASCII",
+                         "write <= for at most, >= for at least, - for minus, and names in the"
+                         " letters a to z");
+        }
+        in_words = in_words || c == '<' || c == '>' || c == '=';
+    }
+    if (in_words) {
+        return read_words(list, origin);
+    }
+    return starts_with_variables(origin.rule) ? read_variables(list, origin)
+                                              : read_numbers(list, origin);
+}
+
+/* Takes the next line off the rest of the input, without what ends it. */
+static struct text next_line(struct text *rest)
+{
+    const char *end = memchr(rest->at, '\n', rest->length);
+    struct text line = {rest->at, end == NULL ? rest->length : (size_t)(end - rest->at)};
+    size_t taken = end == NULL ? line.length : line.length + 1;
+    rest->at += taken;
+    rest->length -= taken;
+    if (line.length > 0 && line.at[line.length - 1] == '\r') {
+        line.length--;
+    }
+    return line;
+}
+
+/* Reads the whole input, up to the first thing that is wrong. With too many names
+ * the library refuses the list whatever follows, so that reading ends there. */
+bool read_list(struct list *list)
+{
+    struct text rest = list->input;
+    if (rest.length >= 3 && memcmp(rest.at, "\xEF\xBB\xBF", 3) == 0) {
+        rest.at += 3;
+        rest.length -= 3;
+    }
+    for (size_t number = 1; rest.length > 0; number++) {
+        struct text line = next_line(&rest);
+        if (!is_plain(list, number, line)) {
+            return false;
+        }
+        const char *comment = memchr(line.at, '#', line.length);
+        if (comment != NULL) {
+            line.length = (size_t)(comment - line.at);
+        }
+        struct origin origin = {number, trim(line)};
+        if (origin.rule.length > 0 && !read_rule(list, origin)) {
+            return false;
+        }
+        if (list->form == FORM_NAMES && list->variables > UTVPI_MOST_VARIABLES) {
+            return true;
+        }
+    }
+    return true;
+}

@@ -1,0 +1,75 @@
+/* Printing a refusal of the library: its number and place, the line of the file,
+ * and what to do. */
+#include "list.h"
+
+struct words {
+    const char *what;
+    const char *advice;
+};
+
+static struct words words_of(int number)
+{
+    static const char fault[] = "this is a fault of this program, not of the file: report it";
+    switch (number) {
+    case UTVPI_TOO_MANY_VARIABLES:
+        return (struct words){"there are more than 64 events",
+                              "use fewer, or decide parts that share no event one by one"};
+    case UTVPI_TOO_MANY_LINES:
+        return (struct words){"there are more than 512 rules; one with = counts twice",
+                              "leave out rules that add nothing"};
+    case UTVPI_BAD_COEFFICIENT:
+        return (struct words){"a coefficient, the first or third number, is not -1, 0 or 1",
+                              "correct it, or write the rule in another way"};
+    case UTVPI_BAD_VARIABLE:
+        return (struct words){"a variable number is below 0 or not below the number of variables,"
+                              " or is not 0 beside the coefficient 0",
+                              "correct the second or fourth number, or the line that says how many"
+                              " variables there are"};
+    case UTVPI_BAD_BOUND:
+        return (struct words){"the bound is below -1,000,000 or above 1,000,000",
+                              "choose a coarser unit, or an origin nearer to the values"};
+    case UTVPI_BROKEN_LIST_LENGTH:
+        return (struct words){"the list has a broken length", fault};
+    case UTVPI_SHORT_OUTPUT:
+        return (struct words){"a buffer for output is too short", fault};
+    case UTVPI_SHORT_WORK_AREA:
+        return (struct words){"the work area is too short", fault};
+    default:
+        return (struct words){"this number is not known", fault};
+    }
+}
+
+/* The rule that a refusal is about; line 0 where it is about none. */
+static struct origin offender(const struct list *list, int number, int place)
+{
+    static const struct origin none = {0, {"", 0}};
+    if (number == UTVPI_TOO_MANY_VARIABLES) {
+        return list->variables_from;
+    }
+    if (number == UTVPI_TOO_MANY_LINES && list->count > UTVPI_MOST_LINES) {
+        return list->origins[UTVPI_MOST_LINES];
+    }
+    if (number >= UTVPI_BAD_COEFFICIENT && number <= UTVPI_BAD_BOUND &&
+        (size_t)place < list->count) {
+        return list->origins[place];
+    }
+    return none;
+}
+
+void print_refusal(const struct list *list, int64_t result)
+{
+    int number = UTVPI_REFUSAL_NUMBER(result), place = UTVPI_REFUSAL_PLACE(result);
+    struct words words = words_of(number);
+    struct origin origin = offender(list, number, place);
+    fprintf(stderr, "utvpi: %s", list->file);
+    if (origin.line > 0) {
+        fprintf(stderr, ", line %zu", origin.line);
+    }
+    fprintf(stderr, ": refused with number %d, place %d: %s.\n", number, place, words.what);
+    if (origin.line > 0) {
+        fputs("  The rule: ", stderr);
+        show(stderr, origin.rule);
+        fputc('\n', stderr);
+    }
+    fprintf(stderr, "  What to do: %s.\n", words.advice);
+}

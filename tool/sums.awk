@@ -1,0 +1,97 @@
+# Reads a file of rules, then what the tool printed about it, and checks a no:
+# each quoted rule stands in the line named, the rules add up to the sums printed,
+# and these to something false. Prints what is wrong, if anything.
+
+# Adds a combination such as "x - 2*y <= 3" to sum[], and its bound to sum["<="].
+function add(text, sum,    part, count, at, sign, factor) {
+    count = split(text, part, " ")
+    sign = 1
+    for (at = 1; at <= count; at++) {
+        if (part[at] == "<=") {
+            sum["<="] += part[at + 1]
+            return
+        }
+        if (part[at] == "+" || part[at] == "-") {
+            sign = part[at] == "-" ? -1 : 1
+            continue
+        }
+        if (sub(/^-/, "", part[at])) sign = -sign
+        factor = 1
+        if (match(part[at], /^[0-9]+\*/)) {
+            factor = substr(part[at], 1, RLENGTH - 1) + 0
+            part[at] = substr(part[at], RLENGTH + 1)
+        }
+        if (part[at] != "0") sum[part[at]] += sign * factor
+        sign = 1
+    }
+}
+
+# Whether two sums are the same.
+function same(one, other,    key) {
+    for (key in one) if (one[key] != other[key] + 0) return 0
+    for (key in other) if (other[key] != one[key] + 0) return 0
+    return 1
+}
+
+function half(number) {
+    return number % 2 == 0 ? number / 2 : (number - 1) / 2
+}
+
+FNR == NR {
+    sub(/#.*/, "")
+    gsub(/^[ \t]+|[ \t\r]+$/, "")
+    gsub(/\t/, " ")
+    rule[FNR] = $0
+    next
+}
+
+/^  line +[0-9]+:  / {
+    number = $2 + 0
+    text = $0
+    sub(/^  line +[0-9]+:  /, "", text)
+    if (rule[number] == "" || index(text, rule[number] " ") != 1) {
+        print "not in line " number ": " text
+    }
+    sub(/^.* (says: |twice:)  /, "", text)
+    add(text, walk)
+    false_alone = walk["<="] < 0
+    steps++
+}
+
+/^  Added up: / {
+    text = $0
+    sub(/^  Added up: /, "", text)
+    split("", printed)
+    add(text, printed)
+    if (!same(walk, printed)) print "not the sum of its rules: " text
+    bound = printed["<="]
+    if (text ~ /, so /) {
+        halves += half(bound)
+        sub(/^.*, so /, "", text)
+        split("", halved)
+        add(text, halved)
+        if (halved["<="] != half(bound)) print "not the half: " text
+        for (key in printed) {
+            if (key == "<=" || printed[key] == 0) continue
+            if (printed[key] != 2 * halved[key] || printed[key] ^ 2 != 4) print "not halved: " key
+            both[key] += printed[key]
+        }
+        walks++
+    } else if (bound >= 0) {
+        print "not false: " text
+    }
+    sums++
+    split("", walk)
+}
+
+/^  Together: / {
+    if ($4 + 0 != halves || halves >= 0 || walks != 2) print "not false together: " $0
+    for (key in both) if (both[key] != 0) print "does not cancel: " key
+    together = 1
+}
+
+END {
+    if (steps == 0) print "no rule is named"
+    if (sums == 0 && !(steps == 1 && false_alone)) print "nothing is false"
+    if (walks > 0 && !together) print "nothing is put together"
+}

@@ -1,0 +1,119 @@
+/* The bytes of the input: loading them, the kinds of characters, and showing a
+ * part of them, in an error too. */
+#include "list.h"
+
+#include <errno.h>
+#include <stdlib.h>
+#include <string.h>
+
+/* The most characters of a text that are shown: a rule in full. */
+#define MOST_SHOWN MOST_RULE
+
+/* Says why the input could not be loaded, and drops what there is of it. Gives
+ * back false. */
+static bool not_loaded(const char *file, char *bytes, const char *why)
+{
+    fprintf(stderr, "utvpi: %s: %s\n", file, why);
+    free(bytes);
+    return false;
+}
+
+/* Loads all bytes, whatever they are. Says what is wrong where it can't. */
+bool load(FILE *from, const char *file, struct text *input)
+{
+    char *bytes = NULL;
+    size_t length = 0, room = 0;
+    for (;;) {
+        if (length == room) {
+            size_t longer = room == 0 ? 65536 : 2 * room;
+            char *more = realloc(bytes, longer);
+            if (more == NULL) {
+                return not_loaded(file, bytes, "there is not enough memory to read it");
+            }
+            bytes = more;
+            room = longer;
+        }
+        errno = 0;
+        size_t got = fread(bytes + length, 1, room - length, from);
+        length += got;
+        if (got == 0 && ferror(from)) {
+            return not_loaded(file, bytes, errno != 0 ? strerror(errno) : "it can't be read");
+        }
+        if (length > MOST_BYTES) {
+            return not_loaded(file, bytes, "it has more than 16 MiB: leave out what is not rules");
+        }
+        if (got == 0) {
+            input->at = bytes;
+            input->length = length;
+            return true;
+        }
+    }
+}
+
+bool is_blank(char c)
+{
+    return c == ' ' || c == '\t';
+}
+
+bool is_digit(char c)
+{
+    return c >= '0' && c <= '9';
+}
+
+/* A character that a name can begin with. */
+bool is_letter(char c)
+{
+    return (c >= 'a' && c <= 'z') || (c >= 'A' && c <= 'Z') || c == '_';
+}
+
+/* The text without the blanks around it. */
+struct text trim(struct text text)
+{
+    while (text.length > 0 && is_blank(text.at[0])) {
+        text.at++;
+        text.length--;
+    }
+    while (text.length > 0 && is_blank(text.at[text.length - 1])) {
+        text.length--;
+    }
+    return text;
+}
+
+/* Shows a text; what a terminal might not print is shown by its number. */
+void show(FILE *to, struct text text)
+{
+    for (size_t at = 0; at < text.length && at < MOST_SHOWN; at++) {
+        unsigned char c = (unsigned char)text.at[at];
+        if (c == '\t') {
+            fputc(' ', to);
+        } else if (c < 32 || c > 126) {
+            fprintf(to, "\\x%02X", c);
+        } else {
+            fputc(c, to);
+        }
+    }
+    if (text.length > MOST_SHOWN) {
+        fputs("...", to);
+    }
+}
+
+/* Says what is wrong with a rule and what to do. The part, where it is not empty,
+ * begins the sentence. Gives back false. */
+bool wrong(const struct list *list, struct origin origin, struct text part, const char *what,
+           const char *advice)
+{
+    fprintf(stderr, "utvpi: %s, line %zu: ", list->file, origin.line);
+    if (part.length > 0) {
+        fputc('"', stderr);
+        show(stderr, part);
+        fputs("\" ", stderr);
+    }
+    fprintf(stderr, "%s.\n", what);
+    if (origin.rule.length > 0) {
+        fputs("  The rule: ", stderr);
+        show(stderr, origin.rule);
+        fputc('\n', stderr);
+    }
+    fprintf(stderr, "  What to do: %s.\n", advice);
+    return false;
+}

@@ -1,0 +1,245 @@
+/* Rules in words: sums of names and numbers on both sides of <=, >= or =. */
+#include "list.h"
+
+#include <string.h>
+
+static const struct text nothing = {"", 0};
+
+enum kind { END, NAME, NUMBER, PLUS, MINUS, AT_MOST, AT_LEAST, EQUAL };
+
+/* A name with its sign, after all is moved to the left. */
+struct term {
+    int sign;
+    size_t variable;
+};
+
+/* A rule while it is read: what is left of it, the part that comes next, and
+ * what was moved to the left (terms) and to the right (constant). */
+struct parser {
+    struct list *list;
+    struct origin origin;
+    struct text rest;
+    enum kind kind;
+    struct text part;
+    int64_t value;
+    struct term terms[MOST_RULE];
+    size_t count;
+    int64_t constant;
+};
+
+static bool fail(const struct parser *p, const char *what, const char *advice)
+{
+    return wrong(p->list, p->origin, p->part, what, advice);
+}
+
+/* Takes the next characters off the rest as the part. */
+static void take(struct parser *p, enum kind kind, size_t length)
+{
+    p->kind = kind;
+    p->part.at = p->rest.at;
+    p->part.length = length;
+    p->rest.at += length;
+    p->rest.length -= length;
+}
+
+static bool next_name(struct parser *p)
+{
+    size_t length = 1;
+    while (length < p->rest.length &&
+           (is_letter(p->rest.at[length]) || is_digit(p->rest.at[length]) ||
+            p->rest.at[length] == '.')) {
+        length++;
+    }
+    take(p, NAME, length);
+    return length <= MOST_NAME ||
+           fail(p, "is a name of more than 64 characters", "choose a shorter name");
+}
+
+static bool next_number(struct parser *p)
+{
+    struct text rest = p->rest;
+    scan_magnitude(&rest, &p->value);
+    take(p, NUMBER, p->rest.length - rest.length);
+    char after = rest.length > 0 ? rest.at[0] : ' ';
+    if (is_letter(after) || after == '*') {
+        return fail(p, "stands before a name as a factor, which is not in scope",
+                    "write x + x for twice x; begin names with a letter");
+    }
+    if (after == '.' || after == ',') {
+        return fail(p, "is followed by a point or a comma", "write whole numbers, digits only");
+    }
+    /* One more than the highest number fits too, once it has a minus. */
+    return p->value <= (int64_t)INT32_MAX + 1 ||
+           fail(p, "is too large for 32 bits",
+                "choose a coarser unit; a bound is from -1,000,000 to 1,000,000");
+}
+
+/* Takes <=, >= or =, and says what to do about everything that looks like it. */
+static bool next_relation(struct parser *p)
+{
+    size_t length = 1;
+    while (length < p->rest.length && strchr("<>=!", p->rest.at[length]) != NULL) {
+        length++;
+    }
+    take(p, EQUAL, length);
+    char first = p->part.at[0], last = p->part.at[length - 1];
+    if (length == 1 && first == '=') {
+        return true;
+    }
+    if (length == 2 && last == '=' && (first == '<' || first == '>')) {
+        p->kind = first == '<' ? AT_MOST : AT_LEAST;
+        return true;
+    }
+    if (length == 1 && first != '!') {
+        return fail(p, "is strict, and strict rules are not in scope",
+                    "with whole numbers, write x <= y - 1 for x < y, and x >= y + 1 for x > y");
+    }
+    return fail(p, "is not in scope", "write <= for at most, >= for at least or = for equal");
+}
+
+/* Takes the next part, whatever it is. */
+static bool next(struct parser *p)
+{
+    p->rest = trim(p->rest);
+    char c = p->rest.length > 0 ? p->rest.at[0] : ' ';
+    if (p->rest.length == 0) {
+        take(p, END, 0);
+        return true;
+    }
+    if (c == '+' || c == '-') {
+        take(p, c == '+' ? PLUS : MINUS, 1);
+        return true;
+    }
+    if (is_letter(c)) {
+        return next_name(p);
+    }
+    if (is_digit(c)) {
+        return next_number(p);
+    }
+    if (strchr("<>=!", c) != NULL) {
+        return next_relation(p);
+    }
+    take(p, END, 1);
+    return fail(p, "can't stand in a rule",
+                "use names, whole numbers, +, - and one of <=, >= and =; # begins a comment");
+}
+
+/* The number of a name; a new name gets the next one. */
+static size_t number_of(struct parser *p)
+{
+    struct list *list = p->list;
+    for (size_t at = 0; at < list->variables; at++) {
+        if (list->names[at].length == p->part.length &&
+            memcmp(list->names[at].at, p->part.at, p->part.length) == 0) {
+            return at;
+        }
+    }
+    list->names[list->variables] = p->part;
+    list->variables_from = p->origin;
+    return (size_t)list->variables++;
+}
+
+/* Reads one name or number, with the sign that it has once it is moved. */
+static bool read_term(struct parser *p, int sign)
+{
+    if (p->kind == NAME) {
+        p->terms[p->count].sign = sign;
+        p->terms[p->count].variable = number_of(p);
+        p->count++;
+    } else if (p->kind == NUMBER) {
+        p->constant -= sign * p->value;
+    } else if (p->kind == PLUS || p->kind == MINUS) {
+        return fail(p, "follows another sign", "write one sign between two terms");
+    } else {
+        return fail(p, p->kind == END ? "a name or a number is missing at the end"
+                                      : "has no name or number before it",
+                    "write a rule such as door - lamp <= -5");
+    }
+    return next(p);
+}
+
+/* Reads one side of a rule; side is 1 for the left and -1 for the right. */
+static bool read_side(struct parser *p, int side)
+{
+    bool first = true;
+    while (first || p->kind == PLUS || p->kind == MINUS) {
+        int sign = p->kind == MINUS ? -side : side;
+        if ((p->kind == PLUS || p->kind == MINUS) && !next(p)) {
+            return false;
+        }
+        if (!read_term(p, sign)) {
+            return false;
+        }
+        first = false;
+    }
+    if (p->kind == NAME || p->kind == NUMBER) {
+        return fail(p, "follows another name or number", "write + or - between two terms");
+    }
+    return true;
+}
+
+/* Where more than two terms stand, leaves out those that cancel, as in
+ * x + y <= x + 3. Of two terms none is left out: the list takes them as they are. */
+static bool reduce(struct parser *p)
+{
+    int sums[MOST_NAMES] = {0};
+    size_t kept = 0;
+    for (size_t at = 0; at < p->count; at++) {
+        sums[p->terms[at].variable] += p->terms[at].sign;
+    }
+    for (size_t at = 0; p->count > 2 && at < p->count; at++) {
+        struct term term = p->terms[at];
+        if (sums[term.variable] * term.sign > 0) {
+            sums[term.variable] -= term.sign;
+            p->terms[kept] = term;
+            kept++;
+        }
+    }
+    if (p->count > 2) {
+        p->count = kept;
+    }
+    return p->count <= 2 ||
+           fail(p, "more than two terms remain once all names are moved to the left",
+                "give each rule at most two names, each with + or -; x + x counts as two");
+}
+
+/* Adds the rule's line, or with sign -1 the line that turns it round. */
+static bool add_turned(const struct parser *p, int sign)
+{
+    int64_t d = sign * p->constant;
+    int32_t line[5] = {0, 0, 0, 0, 0};
+    if (d < INT32_MIN || d > INT32_MAX) {
+        return wrong(p->list, p->origin, nothing, "the bound is too large for 32 bits",
+                     "choose a coarser unit; a bound is from -1,000,000 to 1,000,000");
+    }
+    for (size_t at = 0; at < p->count; at++) {
+        line[2 * at] = sign * p->terms[at].sign;
+        line[2 * at + 1] = (int32_t)p->terms[at].variable;
+    }
+    line[4] = (int32_t)d;
+    return add_line(p->list, p->origin, line);
+}
+
+/* Reads a rule that has <, > or = in it. */
+bool read_words(struct list *list, struct origin origin)
+{
+    struct parser p = {.list = list, .origin = origin, .rest = origin.rule};
+    if (!settle_form(list, origin, FORM_NAMES) || !next(&p) || !read_side(&p, 1)) {
+        return false;
+    }
+    enum kind relation = p.kind;
+    if (relation == END) {
+        return fail(&p, "the rule has no <=, >= or = between its sides", "write one of them");
+    }
+    if (!next(&p) || !read_side(&p, -1)) {
+        return false;
+    }
+    if (p.kind != END) {
+        return fail(&p, "is a second comparison", "write two rules, one to a line");
+    }
+    if (!reduce(&p)) {
+        return false;
+    }
+    return (relation == AT_LEAST || add_turned(&p, 1)) &&
+           (relation == AT_MOST || add_turned(&p, -1));
+}
