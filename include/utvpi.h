@@ -53,6 +53,7 @@
 #ifndef UTVPI_H
 #define UTVPI_H
 
+#include <stdbool.h>
 #include <stddef.h>
 #include <stdint.h>
 
@@ -60,7 +61,7 @@
 extern "C" {
 #endif
 
-/* The three functions return one number:
+/* Deciding and checking return one number:
  *
  *     0                              yes
  *     1,000,000 + k                  no. For a model, k is the first line that
@@ -155,6 +156,31 @@ int64_t utvpi_check_model(uint64_t n, const uint8_t *list, size_t list_len,
 /* Does this refutation show that this list of n variables cannot be met? */
 int64_t utvpi_check_refutation(uint64_t n, const uint8_t *list, size_t list_len,
                                const uint8_t *refutation, size_t refutation_len);
+
+/* The same for a refutation that arrives in pieces: begin, take its numbers one
+ * after another, and ask for the result at the end, which is that of
+ * utvpi_check_refutation on the whole. List and numbers are given as the machine
+ * holds them; lengths are in numbers.
+ *
+ * What is kept between two numbers is this struct, and nothing else: it may be
+ * stored and used again later, and a copy of it goes on from the same place. Its
+ * parts are the checker's own, and are best left alone. With a struct that no
+ * call returned the result says nothing, but the calls return. Give every call
+ * the same list. The refusals of the list are given at the end; too many numbers
+ * are refused there too. */
+typedef struct utvpi_progress {
+    size_t read, kind, p, q, u, here;
+    int64_t first, second;
+    bool good;
+} utvpi_progress;
+
+utvpi_progress utvpi_refutation_begin(void);
+
+utvpi_progress utvpi_refutation_take(utvpi_progress kept, const int32_t *list, size_t list_len,
+                                     uint32_t number);
+
+int64_t utvpi_refutation_end(utvpi_progress kept, uint64_t n,
+                             const int32_t *list, size_t list_len);
 
 /* What a result says, and its parts. Each takes a result as its argument. */
 #define UTVPI_IS_YES(result) ((result) == 0)

@@ -9,7 +9,7 @@ use utvpi_tests::buffers::{needed, Buffers};
 use utvpi_tests::bytes::Line;
 use utvpi_tests::chance::Chance;
 use utvpi_tests::closure;
-use utvpi_tests::damage::damaged_list;
+use utvpi_tests::damage::{damaged_list, refused_lists};
 use utvpi_tests::decision::{decide, decide_in, Decision, Verdict};
 use utvpi_tests::make_lists::{small, Shape};
 
@@ -72,16 +72,7 @@ fn empty_buffers() {
 #[test]
 fn list_refusals_go_first() {
     let mut chance = Chance::new(72);
-    let bad: [(u64, Vec<i32>, (u8, usize)); 7] = [
-        (65, vec![0; 3], (1, 0)),
-        (64, vec![0; 2_566], (2, 0)),
-        (64, vec![0; 2_565], (3, 0)),
-        (2, vec![0, 0, 0, 0, 0, 2, 9, 0, 0, 0], (4, 1)),
-        (2, vec![1, 2, 0, 0, 1_000_001], (5, 0)),
-        (2, vec![0, 0, 0, 1, 1_000_001], (5, 0)),
-        (2, vec![0, 0, 0, 0, 1_000_001, 2, 0, 0, 0, 0], (6, 0)),
-    ];
-    for (n, list, due) in bad {
+    for (n, list, due) in refused_lists() {
         for short in 0..32 {
             let full = needed(2);
             let lengths = [0, 1, 2, 3, 4].map(|at| full[at] - (short >> at & 1));

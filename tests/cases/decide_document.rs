@@ -5,18 +5,12 @@ use utvpi_tests::buffers::{needed, Buffers};
 use utvpi_tests::bytes::Line;
 use utvpi_tests::chance::Chance;
 use utvpi_tests::decision::{decide, decide_in, Decision, Reason, Solved, Verdict};
+use utvpi_tests::document::CASE_4;
 use utvpi_tests::{brute, closure};
 
 /// The numbers that stand for no least and no greatest value.
 const NO_LEAST: i64 = i64::MIN;
 const NO_GREATEST: i64 = i64::MAX;
-
-const CASE_4: [Line; 4] = [
-    [1, 0, -1, 1, 2],
-    [1, 0, 1, 1, -1],
-    [-1, 0, -1, 2, -4],
-    [-1, 0, 1, 2, 3],
-];
 
 /// The decision, the same from buffers with different rubbish.
 fn decided(n: u64, lines: &[Line]) -> Decision {

@@ -1,6 +1,7 @@
 //! The cases that the description of the library names, and its table of steps.
 
 use utvpi_tests::bytes::{self, Line};
+use utvpi_tests::document::CASE_4;
 use utvpi_tests::second::Answer::{self, No, Refused, Yes};
 
 fn model(n: u64, lines: &[Line], values: &[i64]) -> Answer {
@@ -10,13 +11,6 @@ fn model(n: u64, lines: &[Line], values: &[i64]) -> Answer {
 fn refutation(n: u64, lines: &[Line], numbers: &[u32]) -> Answer {
     utvpi_tests::refutation(n, &bytes::list(lines), &bytes::refutation(numbers))
 }
-
-const CASE_4: [Line; 4] = [
-    [1, 0, -1, 1, 2],
-    [1, 0, 1, 1, -1],
-    [-1, 0, -1, 2, -4],
-    [-1, 0, 1, 2, 3],
-];
 
 #[test]
 fn cases_1_and_2_nothing_asked() {

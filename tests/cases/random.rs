@@ -9,68 +9,10 @@ use utvpi_tests::bytes;
 use utvpi_tests::chance::Chance;
 use utvpi_tests::damage::Input;
 use utvpi_tests::library::{self, Check};
-use utvpi_tests::make::{self, Proposal};
+use utvpi_tests::make;
+use utvpi_tests::make_cases::{some_case, some_lines, some_values, Case};
 use utvpi_tests::second::{self, Answer};
-
-const LARGEST_VALUE: i64 = 1_000_000_000_000;
-
-/// How many answers of each kind were seen.
-#[derive(Default)]
-struct Seen {
-    inputs: usize,
-    yes: usize,
-    no: usize,
-    refused: [usize; 12],
-}
-
-impl Seen {
-    fn count(&mut self, answer: Answer) {
-        self.inputs += 1;
-        match answer {
-            Answer::Yes => self.yes += 1,
-            Answer::No(_) => self.no += 1,
-            Answer::Refused(number, _) => self.refused[number as usize] += 1,
-        }
-    }
-
-    /// Fails if some answer was rarely seen, so that the test tested too little.
-    fn must_include(&self, refusals: &[usize], inputs: usize) {
-        println!(
-            "{} inputs: {} yes, {} no, refused by number {:?}",
-            self.inputs,
-            self.yes,
-            self.no,
-            &self.refused[1..]
-        );
-        assert!(self.inputs >= inputs, "only {} inputs", self.inputs);
-        assert!(self.yes >= inputs / 20, "only {} yes", self.yes);
-        assert!(self.no >= inputs / 20, "only {} no", self.no);
-        for &refusal in refusals {
-            let times = self.refused[refusal];
-            assert!(times >= 100, "refusal {refusal} seen only {times} times");
-        }
-    }
-}
-
-/// A number of lines, mostly small.
-fn some_lines(chance: &mut Chance) -> usize {
-    match chance.below(64) {
-        0 => chance.between(500, 516) as usize,
-        1..=4 => chance.below(100),
-        _ => chance.below(9),
-    }
-}
-
-/// A value for each variable: all small, some large, or all about one height.
-fn some_values(chance: &mut Chance, n: u64) -> Vec<i64> {
-    let base = chance.pick(&[0, 0, 0, 700_000, LARGEST_VALUE - 4, 4 - LARGEST_VALUE]);
-    let extremes = chance.one_in(8);
-    let mut value = || match chance.below(8) {
-        0 if extremes => chance.pick(&[LARGEST_VALUE, -LARGEST_VALUE, 1 << 39, -1 << 31]),
-        _ => base + chance.between(-4, 4),
-    };
-    (0..n).map(|_| value()).collect()
-}
+use utvpi_tests::seen::Seen;
 
 #[test]
 fn models() {
@@ -103,81 +45,6 @@ fn models() {
     seen.must_include(&[1, 2, 3, 4, 5, 6, 9, 10], 480_000);
 }
 
-/// An input to the refutation checker, and values that meet its list where they
-/// are known.
-struct Case {
-    n: u64,
-    lines: Vec<bytes::Line>,
-    proposal: Proposal,
-    solution: Option<Vec<i64>>,
-}
-
-fn some_case(chance: &mut Chance) -> Case {
-    let n = make::variables(chance);
-    match chance.below(8) {
-        0..=2 if n > 0 => {
-            let (lines, proposal) = make::near_refutation(chance, n);
-            Case {
-                n,
-                lines,
-                proposal,
-                solution: None,
-            }
-        }
-        3 => {
-            let (lines, proposal) = make::near_false_line(chance, n);
-            Case {
-                n,
-                lines,
-                proposal,
-                solution: None,
-            }
-        }
-        4 | 5 => {
-            let count = some_lines(chance).min(512);
-            let lines = make::lines(chance, n, count);
-            let proposal = some_stroll(chance, &lines);
-            Case {
-                n,
-                lines,
-                proposal,
-                solution: None,
-            }
-        }
-        _ => {
-            let values = some_values(chance, n);
-            let count = some_lines(chance).min(512);
-            let lines = make::lines_met_by(chance, &values, count);
-            let proposal = some_stroll(chance, &lines);
-            Case {
-                n,
-                lines,
-                proposal,
-                solution: Some(values),
-            }
-        }
-    }
-}
-
-/// A walk along the lines, or if none is found some numbers without much sense.
-fn some_stroll(chance: &mut Chance, lines: &[bytes::Line]) -> Proposal {
-    for _ in 0..4 {
-        if let Some(proposal) = make::stroll(chance, lines) {
-            return proposal;
-        }
-    }
-    let mut steps = |count| {
-        (0..count)
-            .map(|_| chance.below(2 * lines.len() + 2) as u32)
-            .collect()
-    };
-    Proposal {
-        kind: 1 + lines.len() as u32 % 3,
-        first: steps(2),
-        second: steps(lines.len() % 3),
-    }
-}
-
 /// Whether small values of at most two variables meet the list.
 fn has_small_solution(n: u64, list: &[u8]) -> bool {
     let values = |x, y| bytes::model(&[x, y][..n as usize]);
@@ -190,26 +57,10 @@ fn refutations() {
     let mut seen = Seen::default();
     let (mut yes_of_kind, mut solvable) = ([0; 4], 0);
     for round in 0..100_000 {
-        let Case {
-            n,
-            lines,
-            proposal,
-            solution,
-        } = some_case(&mut chance);
-        let base = Input {
-            n,
-            list: bytes::list(&lines),
-            proposed: bytes::refutation(&proposal.numbers()),
-        };
-        let mut inputs = vec![base.clone()];
-        let miscounted = bytes::refutation(&make::miscount(&mut chance, &proposal));
-        inputs.push(Input {
-            proposed: miscounted,
-            ..base.clone()
-        });
-        inputs.extend((0..5).map(|_| base.damaged(&mut chance, 4)));
+        let case = some_case(&mut chance);
+        let mut inputs = case.inputs(&mut chance);
         if round % 50 == 0 {
-            let mut long = base;
+            let mut long = inputs[0].clone();
             long.proposed
                 .resize(chance.between(262_141, 262_149) as usize, 0);
             inputs.push(long);
@@ -217,7 +68,7 @@ fn refutations() {
         for Input { n, list, proposed } in inputs {
             let answer = utvpi_tests::refutation(n, &list, &proposed);
             seen.count(answer);
-            let known = solution.as_ref().is_some_and(|values| {
+            let known = case.solution.as_ref().is_some_and(|values| {
                 second::check_model(n, &list, &bytes::model(values)) == Answer::Yes
             });
             solvable += usize::from(known);
@@ -227,7 +78,7 @@ fn refutations() {
                 assert!(
                     !known,
                     "{:?} solves n {n}, list {shown}, refuted by {proposed:?}",
-                    solution
+                    case.solution
                 );
                 if n <= 2 {
                     assert!(

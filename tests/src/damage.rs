@@ -185,3 +185,16 @@ fn damage_number(chance: &mut Chance, n: u64, list: &mut [i32]) {
         _ => list.swap(line + chance.below(5), chance.below(list.len())),
     }
 }
+
+/// Lists that are refused, each with its n, and the refusal's number and place.
+pub fn refused_lists() -> [(u64, Vec<i32>, (u8, usize)); 7] {
+    [
+        (65, vec![0; 3], (1, 0)),
+        (64, vec![0; 2_566], (2, 0)),
+        (64, vec![0; 2_565], (3, 0)),
+        (2, vec![0, 0, 0, 0, 0, 2, 9, 0, 0, 0], (4, 1)),
+        (2, vec![1, 2, 0, 0, 1_000_001], (5, 0)),
+        (2, vec![0, 0, 0, 1, 1_000_001], (5, 0)),
+        (2, vec![0, 0, 0, 0, 1_000_001, 2, 0, 0, 0, 0], (6, 0)),
+    ]
+}

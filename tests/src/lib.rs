@@ -8,10 +8,13 @@ pub mod chance;
 pub mod closure;
 pub mod damage;
 pub mod decision;
+pub mod document;
 pub mod library;
 pub mod make;
+pub mod make_cases;
 pub mod make_lists;
 pub mod second;
+pub mod seen;
 
 use second::Answer;
 

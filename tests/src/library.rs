@@ -1,4 +1,19 @@
-//! The library under test: its three C functions, and safe functions over them.
+//! The library under test: its six C functions, and safe functions over them.
+
+/// What the check of a refutation keeps between two numbers.
+#[repr(C)]
+#[derive(Clone, Copy, PartialEq, Debug)]
+pub struct Progress {
+    pub read: usize,
+    pub kind: usize,
+    pub p: usize,
+    pub q: usize,
+    pub u: usize,
+    pub here: usize,
+    pub first: i64,
+    pub second: i64,
+    pub good: bool,
+}
 
 extern "C" {
     fn utvpi_check_model(
@@ -32,6 +47,17 @@ extern "C" {
         work: *mut i64,
         work_len: usize,
     ) -> i64;
+
+    fn utvpi_refutation_begin() -> Progress;
+
+    fn utvpi_refutation_take(
+        kept: Progress,
+        list: *const i32,
+        list_len: usize,
+        number: u32,
+    ) -> Progress;
+
+    fn utvpi_refutation_end(kept: Progress, n: u64, list: *const i32, list_len: usize) -> i64;
 }
 
 /// One of the two checkers: n, list and what is proposed in, the result out.
@@ -86,4 +112,22 @@ pub fn decide(n: u64, list: &[i32], lent: Lent) -> i64 {
             lent.work.len(),
         )
     }
+}
+
+/// The result of `utvpi_refutation_begin`.
+pub fn refutation_begin() -> Progress {
+    // The function is given nothing.
+    unsafe { utvpi_refutation_begin() }
+}
+
+/// The result of `utvpi_refutation_take`.
+pub fn refutation_take(kept: Progress, list: &[i32], number: u32) -> Progress {
+    // The function reads the list within its length and keeps no pointer.
+    unsafe { utvpi_refutation_take(kept, list.as_ptr(), list.len(), number) }
+}
+
+/// The result of `utvpi_refutation_end`.
+pub fn refutation_end(kept: Progress, n: u64, list: &[i32]) -> i64 {
+    // The function reads the list within its length and keeps no pointer.
+    unsafe { utvpi_refutation_end(kept, n, list.as_ptr(), list.len()) }
 }

@@ -1,6 +1,6 @@
 -- What the code uses of the calls: the numbers that were decoded, that the places in an answer are small, and what deciding returns.
 use mathlib.Core.Path.{_≡_, refl, sym, ap, subst, _∙_}
-use mathlib.Core.Bool.{Bool, true, false, not, cond}
+use mathlib.Core.Bool.{Bool, true, false, not, cond, _&&_}
 use mathlib.Core.List.{List, [], _∷_}
 use Prim.Native.Nat.{ℕ, _+_, _*_, _/_, _%_, _<_, _≤_}
 use native.Mathlib.Omega.{arith}
@@ -19,10 +19,13 @@ use Rattle.lines.specs.Places.{Placed, placed-or, placed-if, placed-list}
 use Rattle.lines.specs.Valid.{ListOk, valid-list, or-valid}
 use Rattle.model.specs.Model.{modelAnswer}
 use Rattle.model.specs.Places as model
+use Rattle.refutation.specs.declared.Progress.{Progress}
 use Rattle.refutation.specs.declared.RefutationAnswer.{RefutationAnswer}
 use Rattle.refutation.specs.declared.RefutationAnswer.the-variants.{No}
+use Rattle.refutation.specs.Progress.{accepted}
 use Rattle.refutation.specs.Answer.{refutationAnswer}
 use Rattle.refutation.specs.Places as refutation
+use Rattle.pieces.specs.Taken.{isSmall, endAnswer}
 use Rattle.decide.specs.declared.Answer.{Answer}
 use Rattle.decide.specs.Decided.{Lent, answerFor, Leaves, Decided}
 use Rattle.decide.specs.Places as decide
@@ -84,6 +87,13 @@ refutation-below n L r =
     go : (t : Bool) → refutation.Below refusalUnit (cond t (refutationAnswer n L (nat32s r)) No)
     go true = refutation.answer-below refusalUnit (omega arith) n L (nat32s r)
     go false = tt
+
+pub end-below : (n : ℕ) (L : List ℤ) (s : Progress) → refutation.Below refusalUnit (endAnswer n L s)
+unfolding endAnswer
+end-below n L s =
+    refutation.below-unless refusalUnit _ _
+    (placed-or refusalUnit _ _ (placed-list refusalUnit n L (omega arith)) (placed-if refusalUnit (ltb maxRefutation (s .read)) LongRefutation (omega arith)))
+    (refutation.verdict-below refusalUnit (isSmall s && accepted s))
 
 pub model-bytes-below : (n : ℕ) (b m : List ℕ) → model.Below refusalUnit (modelOfBytes n b m)
 unfolding modelOfBytes

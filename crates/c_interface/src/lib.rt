@@ -11,18 +11,25 @@ use lines::limits::MAX_VARIABLES;
 use lines::list_validity;
 use little_endian::decode_i32;
 use little_endian::decode_i64;
-use little_endian::decode_u32;
+use little_endian::u32_at;
 use model::ModelAnswer;
 use model::check_model;
+use pieces::begin;
+use pieces::end;
+use pieces::take_on;
+use refutation::Progress;
 use refutation::RefutationAnswer;
-use refutation::check_refutation;
 ghost use mathlib.Core.Path.{_≡_};
 ghost use Prim.Native.Nat.{_*_, _<_, _≤_};
 ghost use lib.ListN.{length};
 ghost use Rattle.lines.specs.Limits.{lineSize, maxVariables, maxLines};
 ghost use Rattle.lines.specs.Refusal.{numberOf, placeOf};
 ghost use Rattle.model.specs.Places as model;
+ghost use Rattle.little_endian.specs.Bytes.{nat32s};
+ghost use Rattle.refutation.specs.Progress.{start};
 ghost use Rattle.refutation.specs.Places as refutation;
+ghost use Rattle.pieces.specs.Taken.{takeOn, takeAll, endAnswer};
+ghost use Rattle.pieces.specs.Cut.{Words};
 ghost use Rattle.decide.specs.Places as deciding;
 ghost use Rattle.c_interface.specs.Codes.{refusalUnit, refusalCode, modelCode, refutationCode, decideCode};
 ghost use Rattle.c_interface.specs.Calls.{modelOfValues, refutationOfNumbers, checkModel, checkRefutation, DecideReturns};
@@ -156,6 +163,20 @@ fn model_of_values(n: usize, list: &[i32], model: &[u8]) -> ModelAnswer
     check_model(n, list, &values[0..n])
 }
 
+// What is kept after all whole numbers of a refutation in bytes, each taken as it is read.
+fn take_bytes(list: &[i32], refutation: &[u8]) -> Progress
+    ensures { λ r. ⌜ (r ≡ takeAll (now (list .entry)) start (nat32s (now (refutation .entry)))) × Words (nat32s (now (refutation .entry))) ⌝ }
+{
+    let count = refutation.len() / NUMBER_BYTES;
+    let mut kept = begin();
+    let mut i = 0;
+    while i < count {
+        kept = take_on(kept, list, u32_at(refutation, NUMBER_BYTES * i));
+        i += 1;
+    }
+    kept
+}
+
 // The answer on a refutation in bytes.
 fn refutation_of_numbers(n: usize, list: &[i32], refutation: &[u8]) -> RefutationAnswer
     ensures { λ r. ⌜ r ≡ refutationOfNumbers n (now (list .entry)) (now (refutation .entry)) ⌝ }
@@ -166,10 +187,7 @@ fn refutation_of_numbers(n: usize, list: &[i32], refutation: &[u8]) -> Refutatio
     if refutation.len() % NUMBER_BYTES != 0 {
         return RefutationAnswer::No;
     }
-    let count = refutation.len() / NUMBER_BYTES;
-    let mut numbers = [0u32; MAX_REFUTATION];
-    decode_u32(refutation, &mut numbers);
-    check_refutation(n, list, &numbers[0..count])
+    end(take_bytes(list, refutation), n, list)
 }
 
 // Does this model meet every line of this list of n variables?
@@ -218,4 +236,28 @@ pub extern "C" fn utvpi_decide(
         (record { model = now (model .exit); bounds = now (bounds .exit); groups = now (groups .exit); refutation = now (refutation .exit); work = now (work .exit) }) ⌝ }
 {
     decide_code(decide(n as usize, list, model, bounds, groups, refutation, work))
+}
+
+// Begins the check of a refutation that arrives in pieces.
+#[no_mangle]
+pub extern "C" fn utvpi_refutation_begin() -> Progress
+    ensures { λ r. ⌜ r ≡ start ⌝ }
+{
+    begin()
+}
+
+// Takes one number more. It is lent the list and that number alone.
+#[no_mangle]
+pub extern "C" fn utvpi_refutation_take(kept: Progress, list: &[i32], number: u32) -> Progress
+    ensures { λ r. ⌜ r ≡ takeOn (now (list .entry)) kept number ⌝ }
+{
+    take_on(kept, list, number)
+}
+
+// Do the numbers taken show that no whole numbers meet this list of n variables?
+#[no_mangle]
+pub extern "C" fn utvpi_refutation_end(kept: Progress, n: u64, list: &[i32]) -> i64
+    ensures { λ r. ⌜ r ≡ refutationCode (endAnswer n (now (list .entry)) kept) ⌝ }
+{
+    refutation_code(end(kept, n as usize, list))
 }

@@ -26,7 +26,10 @@ use Rattle.model.specs.declared.ModelAnswer.the-variants as model
 use Rattle.model.specs.Model.{modelValidity, modelAnswer}
 use Rattle.model.specs.Meaning.{FirstFails, yes-exactly, no-exactly, refused-exactly}
 use Rattle.refutation.specs.declared.RefutationAnswer.the-variants.{Yes}
+use Rattle.refutation.specs.Progress.{start}
 use Rattle.refutation.specs.Answer.{refutationAnswer}
+use Rattle.pieces.specs.Taken.{takeAll, endAnswer}
+use Rattle.pieces.specs.Cut.{Words, takePieces, joined, resumed, in-pieces}
 use Rattle.soundness.specs.Refutes.{Refutes}
 use Rattle.soundness.specs.Answered.{accepted-when, answers-longer, answers-no-solvable}
 use Rattle.answers.specs.Semantics.{Agrees, IsModel, Written}
@@ -198,6 +201,14 @@ nothing-against-a-solution n L R = answers-no-solvable n L R
 -- Accepted refutations stay accepted: unchanged, against each valid longer list that begins with all lines of the shorter.
 pub accepted-stays-accepted : (n : ℕ) (L M : List ℤ) (R : List ℕ) → ValidFor n (L ++ M) → Accepted n L R → Accepted n (L ++ M) R
 accepted-stays-accepted n L M R = answers-longer n L M R
+
+-- Stopped after any number it goes on to the same answer, from the list, the numbers not yet read and what it kept.
+pub stopped-and-resumed : (n : ℕ) (L : List ℤ) (A B : List ℕ) → Words (A ++ B) → endAnswer n L (takeAll L (takeAll L start A) B) ≡ refutationAnswer n L (A ++ B)
+stopped-and-resumed n L A B = resumed n L A B
+
+-- So it does when stopped and resumed any number of times.
+pub resumed-after-each-piece : (n : ℕ) (L : List ℤ) (pieces : List (List ℕ)) → Words (joined pieces) → endAnswer n L (takePieces L start pieces) ≡ refutationAnswer n L (joined pieces)
+resumed-after-each-piece n L pieces = in-pieces n L pieces
 
 -- ---- the model checker
 

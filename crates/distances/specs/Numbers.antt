@@ -106,7 +106,7 @@ module _ (n : ℕ) (L : List ℤ) (ok : LinesOk n L) where
       go : (b : Bool) → ltb (k / 2) (lineCount L) ≡ b → cond b (stepOf (lineAt L (k / 2)) (k % 2)) Nothing ≡ Found t → StepOk n t
       go true i q =
           let s = line-step-known n (lineAt L (k / 2)) (k % 2) t (ok (k / 2) (ltb-true _ _ i)) (omega arith) q in
-          record { from-lt = s .from-lt; to-lt = s .to-lt; small = numbered-weight n L k t ok e }
+          record { from-lt = s .from-lt; to-lt = s .to-lt; small = numbered-weight n L k t (ok (k / 2)) e }
       go false i q = never (cc)
 
   in-either : (t : Step) (xs : List Step) (s : NamedStep) → In t (xs ++ named s) → In t xs ⊎ (s ≡ Found t)

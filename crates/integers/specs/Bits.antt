@@ -6,7 +6,7 @@ use native.Mathlib.Omega.{arith}
 use mathlib.Core.Bool.{Bool, true, false}
 use borrow.Author.Tests.{eqb-true, eqb-false}
 use lib.Dec.{T, leb, eqb}
-use lib.IntN.{ℤ, pos, negsuc, _-ℤ_}
+use lib.IntN.{ℤ, pos, negsuc, negℤ, _-ℤ_}
 use lib.Pow.{pow-pos}
 use lib.Signed.{mag}
 use mir.Syntax.{Width, w64}
@@ -14,6 +14,7 @@ use mir.Val.{bits, hbits, SFits, toZ, ofZ}
 use mir.Facts.{toZ-ofZ, toZ-pos, sfits-widen}
 use mir.ValLaws.{pow-bits}
 use Rattle.integers.specs.Integer.{eqZ}
+use Rattle.integers.specs.Linear.{ints}
 use Rattle.integers.specs.Laws.{eq-eqZ, ne-eqZ}
 
 less-pos : (k : ℕ) → negsuc 0 -ℤ pos k ≡ negsuc k
@@ -71,3 +72,13 @@ module _ {w : Width} {a b : ℤ} (fa : SFits w a) (fb : SFits w b) where
       go : (t : Bool) → eqb (ofZ w a) (ofZ w b) ≡ t → t ≡ eqZ a b
       go true e = sym (eq-eqZ a b (eq-of-bits (eqb-true _ _ e)))
       go false e = sym (ne-eqZ a b (λ q. eqb-false _ _ e (ap (ofZ w) q)))
+
+-- a number negated, as the code computes it
+pub minus-fits : (n : ℕ) → n < 2 ^ 63 → SFits w64 (pos 0 -ℤ pos n)
+minus-fits n = simp ints (omega arith)
+
+pub minus-is : (n : ℕ) → n < 2 ^ 63 → toZ w64 (ofZ w64 (pos 0 -ℤ pos n)) ≡ negℤ (pos n)
+minus-is n h = toZ-ofZ (minus-fits n h) ∙ less
+  where
+    less : pos 0 -ℤ pos n ≡ negℤ (pos n)
+    less = simp ints (omega arith)

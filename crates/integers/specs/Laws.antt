@@ -74,3 +74,6 @@ pub is-within : (m : ℕ) (z : ℤ) → isWithin m z ≡ true → Within m z
 is-within m z e =
     let h = and-true (leZ (negℤ (pos m)) z) (leZ z (pos m)) e in
     record { low = given (h .0) (simp ints (omega zs)); high = given (h .1) (simp ints (omega zs)) }
+
+pub within-is : (m : ℕ) (z : ℤ) → Within m z → isWithin m z ≡ true
+within-is m z h = both-true (leZ (negℤ (pos m)) z) (leZ z (pos m)) (given (h .low) (simp ints (omega zs))) (given (h .high) (simp ints (omega zs)))

@@ -44,6 +44,7 @@ pub record ListOk (n : ℕ) (L : List ℤ) : Type 0 where
   pub variables : n ≤ maxVariables
   pub whole : length L % lineSize ≡ 0
   pub count : lineCount L ≤ maxLines
+  pub each : (k : ℕ) → k < lineCount L → lineValidity n k (lineAt L k) ≡ Valid
   pub lines : LinesOk n L
 
 pub or-valid : (u v : Validity) → (u orElse v) ≡ Valid → (u ≡ Valid) × (v ≡ Valid)
@@ -60,7 +61,7 @@ variable-ok n a x e h =
     let t = and-true (leZ (pos 0) x) (ltZ x (pos n)) (ap (λ (b : Bool). cond b (eqZ x (pos 0)) (leZ (pos 0) x && ltZ x (pos n))) (sym (ne-eqZ a (pos 0) h)) ∙ e) in
     record { low = given (t .0) (simp ints (omega arith)); high = given (t .1) (simp ints (omega arith)) }
 
-line-ok : (n k : ℕ) (l : Line) → lineValidity n k l ≡ Valid → LineOk n l
+pub line-ok : (n k : ℕ) (l : Line) → lineValidity n k l ≡ Valid → LineOk n l
 unfolding coefficientsOk variablesOk constantOk
 line-ok n k l e =
     let p = or-valid _ _ e in
@@ -86,8 +87,8 @@ module _ (n : ℕ) (L : List ℤ) (e : linesValidity n 0 (linesOf L) ≡ Valid) 
   from zero h = e
   from (suc k) h = rw (← add-one k) (parts k h (from k (omega arith)) .1)
 
-  each-line : LinesOk n L
-  each-line k h = line-ok n k (lineAt L k) (parts k h (from k (omega arith)) .0)
+  each-valid : (k : ℕ) → k < lineCount L → lineValidity n k (lineAt L k) ≡ Valid
+  each-valid k h = parts k h (from k (omega arith)) .0
 
 pub valid-list : (n : ℕ) (L : List ℤ) → validityOf n L ≡ Valid → ListOk n L
 unfolding validityOf
@@ -99,7 +100,8 @@ valid-list n L e =
       variables = ltb-false _ _ (not-refused _ _ (p .0));
       whole = eqb-true _ _ (not-false _ (not-refused _ _ (q .0)));
       count = ltb-false _ _ (not-refused _ _ (r .0));
-      lines = each-line n L (r .1);
+      each = each-valid n L (r .1);
+      lines = λ k h. line-ok n k (lineAt L k) (each-valid n L (r .1) k h);
     }
 
 -- what is right among n variables is right among more
@@ -116,6 +118,31 @@ lines-more n m L h ok k l =
       variable-y = λ z. variable-more n m _ h (o .variable-y z);
       constant = o .constant;
     }
+
+variable-ok-more : (n m : ℕ) (a x : ℤ) → n ≤ m → variableOk n a x ≡ true → variableOk m a x ≡ true
+unfolding variableOk
+variable-ok-more n m a x h = go (eqZ a (pos 0))
+  where
+    go : (b : Bool) → cond b (eqZ x (pos 0)) (leZ (pos 0) x && ltZ x (pos n)) ≡ true → cond b (eqZ x (pos 0)) (leZ (pos 0) x && ltZ x (pos m)) ≡ true
+    go true e = e
+    go false e =
+        let t = and-true (leZ (pos 0) x) (ltZ x (pos n)) e in
+        let l : ltZ x (pos m) ≡ true = given (t .1) (simp ints (omega arith)) in
+        rw (t .0, l)
+
+-- whatever the line's number is
+pub line-valid-more : (n m k j : ℕ) (l : Line) → n ≤ m → lineValidity n k l ≡ Valid → lineValidity m j l ≡ Valid
+unfolding variablesOk
+line-valid-more n m k j l h e =
+    let p = or-valid _ _ e in
+    let q = or-valid _ _ (p .1) in
+    let r = or-valid _ _ (q .1) in
+    let v = and-true (variableOk n (l .a) (l .x)) (variableOk n (l .b) (l .y)) (not-false _ (not-refused _ _ (q .0))) in
+    let c : coefficientsOk l ≡ true = not-false _ (not-refused _ _ (p .0)) in
+    let x : variableOk m (l .a) (l .x) ≡ true = variable-ok-more n m _ _ h (v .0) in
+    let y : variableOk m (l .b) (l .y) ≡ true = variable-ok-more n m _ _ h (v .1) in
+    let d : constantOk l ≡ true = not-false _ (not-refused _ _ (r .0)) in
+    rw (c, x, y, d)
 
 -- the same of some lines
 abbrev pub AllOk : ℕ → List Line → Type 0

@@ -99,7 +99,7 @@ fn constant_ok(line: Line) -> bool
 }
 
 // The first rule that line number k breaks.
-fn line_validity(n: usize, k: usize, line: Line) -> Validity
+pub fn line_validity(n: usize, k: usize, line: Line) -> Validity
     requires { ⌜ n ≤ maxVariables ⌝ }
     ensures { λ r. ⌜ r ≡ lineValidity n k line ⌝ }
 {

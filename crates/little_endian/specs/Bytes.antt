@@ -38,7 +38,8 @@ module _ {A : Type 0} (size : ℕ) (read : List ℕ → ℕ → A) where
   unfolding firstOf
   length-firstOf b n = length-tabulate n _
 
-  next : (b : List ℕ) (n : ℕ) → firstOf b n ++ read b (size * n) ∷ [] ≡ firstOf b (n + 1)
+  -- number n comes behind the first n
+  pub next : (b : List ℕ) (n : ℕ) → firstOf b n ++ read b (size * n) ∷ [] ≡ firstOf b (n + 1)
   unfolding firstOf
   next b n = sym (tabulate-add n 1 (λ k. read b (size * k)) ∙ ap (λ (m : ℕ). firstOf b n ++ read b (size * m) ∷ []) (add-zero n))
 

@@ -5,7 +5,7 @@ ghost use Prim.Native.Nat.{_+_, _/_, _<_, _≤_};
 ghost use lib.ListN.{length, drop};
 ghost use mir.Val.{toZ};
 ghost use mir.Syntax.{w32, w64};
-ghost use Rattle.little_endian.specs.Bytes.{le32, le64, int32, int64, int32s, nat32s, int64s};
+ghost use Rattle.little_endian.specs.Bytes.{le32, le64, int32, int64, int32s, int64s};
 
 // A byte as a number of four bytes.
 fn wide(x: u8) -> u32
@@ -15,7 +15,7 @@ fn wide(x: u8) -> u32
 }
 
 // The four bytes from `at`.
-fn u32_at(b: &[u8], at: usize) -> u32
+pub fn u32_at(b: &[u8], at: usize) -> u32
     requires { ⌜ at + 4 ≤ length (now b) ⌝ }
     ensures { λ r. ⌜ r ≡ le32 (now (b .entry)) at ⌝ }
 {
@@ -79,19 +79,6 @@ pub fn decode_i32(b: &[u8], out: &mut [i32])
     let mut i = 0;
     while i < count {
         out[i] = i32_at(b, 4 * i);
-        i += 1;
-    }
-}
-
-// All whole numbers of four bytes in b, unsigned, into the front of out.
-pub fn decode_u32(b: &[u8], out: &mut [u32])
-    requires { ⌜ length (now b) / 4 ≤ length (now out) ⌝ }
-    ensures { λ _. ⌜ now (out .exit) ≡ nat32s (now (b .entry)) ++ drop (length (now (b .entry)) / 4) (now (out .entry)) ⌝ }
-{
-    let count = b.len() / 4;
-    let mut i = 0;
-    while i < count {
-        out[i] = u32_at(b, 4 * i);
         i += 1;
     }
 }

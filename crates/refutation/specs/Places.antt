@@ -26,7 +26,7 @@ pub below-unless : (m : ℕ) (v : Validity) (a : RefutationAnswer) → Placed m 
 below-unless m validity.Valid a p h = h
 below-unless m (validity.Refused r) a p h = place-at p
 
-verdict-below : (m : ℕ) (t : Bool) → Below m (verdict t)
+pub verdict-below : (m : ℕ) (t : Bool) → Below m (verdict t)
 verdict-below m true = tt
 verdict-below m false = tt
 

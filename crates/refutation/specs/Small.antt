@@ -9,11 +9,10 @@ use lib.IntN.{ℤ, pos, _+ℤ_}
 use Rattle.integers.specs.Integer.{Within}
 use Rattle.integers.specs.Linear.{ints, zs, given, given₂}
 use Rattle.lines.specs.Limits.{maxRefutation}
-use Rattle.lines.specs.Valid.{LinesOk}
 use Rattle.steps.specs.declared.Step.{Step}
 use Rattle.steps.specs.declared.NamedStep.{NamedStep}
 use Rattle.steps.specs.declared.NamedStep.the-variants.{Found, Nothing}
-use Rattle.steps.specs.Step.{maxWeight, stepNumbered}
+use Rattle.steps.specs.Step.{maxWeight, stepNumbered, NamedOk}
 use Rattle.steps.specs.Laws.{numbered-weight}
 use Rattle.refutation.specs.declared.Progress.{Progress}
 use Rattle.refutation.specs.Progress.{headSize, start, isFalseStep, headOn, onlyIf, along, walkOn, advance, run}
@@ -90,7 +89,7 @@ module _ (s : Progress) (small : Small s) (more : s .read < maxRefutation) where
   walk-small (Found t) w = along-small t (w t refl)
   walk-small Nothing w = only-small false
 
-  pub advance-small : (n : ℕ) (L : List ℤ) (r : ℕ) → LinesOk n L → r < 2 ^ 32 → Small (advance L s r)
+  pub advance-small : (n : ℕ) (L : List ℤ) (r : ℕ) → NamedOk n L r → r < 2 ^ 32 → Small (advance L s r)
   unfolding advance
   advance-small n L r ok h =
       either Small (ltb (s .read) headSize) (head-small r h)

@@ -19,7 +19,7 @@ ghost use lib.ListN.{length};
 ghost use Rattle.integers.specs.Integer.{Within};
 ghost use Rattle.lines.specs.Limits.{maxVariables, maxRefutation};
 ghost use Rattle.lines.specs.Valid.{LinesOk};
-ghost use Rattle.steps.specs.Step.{maxWeight};
+ghost use Rattle.steps.specs.Step.{maxWeight, NamedOk};
 ghost use Rattle.refutation.specs.Progress.{headSize, start, countsOk, headOn, isFalseStep, onlyIf, joins, turns, along, advance, run, closes, accepted};
 ghost use Rattle.refutation.specs.Small.{Small};
 ghost use Rattle.refutation.specs.Answer.{refutationAnswer};
@@ -30,6 +30,7 @@ pub const HEAD_SIZE: usize = 3;
 // What is kept between two numbers: how many were read; the head; where the first walk began and where the walk is; the
 // sums of the first and of the second walk; and whether nothing was wrong so far. In kind 2 the second walk goes on
 // where the first ended, so that both are one walk that turns round after p steps.
+#[repr(C)]
 pub struct Progress {
     pub read: usize,
     pub kind: usize,
@@ -91,7 +92,8 @@ fn choose_weight(test: bool, a: i64, b: i64) -> i64
 }
 
 impl Progress {
-    fn new() -> Self
+    // Nothing was read.
+    pub fn new() -> Self
         ensures { λ r. ⌜ r ≡ start ⌝ }
     {
         Progress {
@@ -130,7 +132,7 @@ impl Progress {
     }
 
     // The same progress with one more thing that has to hold.
-    fn only_if(mut self, holds: bool) -> Self
+    pub fn only_if(mut self, holds: bool) -> Self
         requires { ⌜ self .read < maxRefutation ⌝ }
         ensures { λ r. ⌜ r ≡ onlyIf self holds ⌝ }
     {
@@ -175,8 +177,8 @@ impl Progress {
     }
 
     // One number more. It is lent the list and that number alone.
-    fn take(self, list: &[i32], number: u32) -> Self
-        requires { ⌜ LinesOk maxVariables (now list) × Small self × (self .read < maxRefutation) ⌝ }
+    pub fn take(self, list: &[i32], number: u32) -> Self
+        requires { ⌜ NamedOk maxVariables (now list) number × Small self × (self .read < maxRefutation) ⌝ }
         ensures { λ r. ⌜ r ≡ advance (now (list .entry)) self number ⌝ }
     {
         let r = number as usize;
@@ -210,7 +212,7 @@ impl Progress {
     }
 
     // Whether what was read is a refutation.
-    fn is_accepted(self) -> bool
+    pub fn is_accepted(self) -> bool
         requires { ⌜ Small self ⌝ }
         ensures { λ r. ⌜ r ≡ accepted self ⌝ }
     {

@@ -14,12 +14,12 @@ use Rattle.integers.specs.Laws.{never, and-true}
 use Rattle.lines.specs.declared.Line.{Line}
 use Rattle.lines.specs.Limits.{lineSize, maxConstant}
 use Rattle.lines.specs.Line.{lineAt, lineCount}
-use Rattle.lines.specs.Valid.{VariableOk, LineOk, LinesOk}
+use Rattle.lines.specs.Valid.{VariableOk, LineOk}
 use Rattle.lines.specs.Solutions.{count-append, line-left}
 use Rattle.steps.specs.declared.Step.{Step}
 use Rattle.steps.specs.declared.NamedStep.the-variants.{Found, Nothing}
 use Rattle.steps.specs.Table.{entry, cell, digit, isEnd, CellRule, rule-at, digit-lt}
-use Rattle.steps.specs.Step.{maxWeight, variableAt, stepWith, stepOf, stepNumbered}
+use Rattle.steps.specs.Step.{maxWeight, variableAt, stepWith, stepOf, stepNumbered, NamedOk}
 
 module _ (l : Line) (side : ℕ) where
   abbrev c : ℕ
@@ -67,12 +67,12 @@ line-weight n l side t ok h e = go (eqb (entry (c l side + 2)) 0) e
     go true q = never (cc)
     go false q = subst (λ (u : Step). Within maxWeight (u .weight)) (found-is q) (weight-within (entry (c l side + 2)) (l .d) (line-rule l side h .factor) (ok .constant))
 
-pub numbered-weight : (n : ℕ) (L : List ℤ) (k : ℕ) (t : Step) → LinesOk n L → stepNumbered L k ≡ Found t → Within maxWeight (t .weight)
+pub numbered-weight : (n : ℕ) (L : List ℤ) (k : ℕ) (t : Step) → NamedOk n L k → stepNumbered L k ≡ Found t → Within maxWeight (t .weight)
 unfolding stepNumbered
 numbered-weight n L k t ok e = go (ltb (k / 2) (lineCount L)) refl e
   where
     go : (b : Bool) → ltb (k / 2) (lineCount L) ≡ b → cond b (stepOf (lineAt L (k / 2)) (k % 2)) Nothing ≡ Found t → Within maxWeight (t .weight)
-    go true i q = line-weight n (lineAt L (k / 2)) (k % 2) t (ok (k / 2) (ltb-true _ _ i)) (omega arith) q
+    go true i q = line-weight n (lineAt L (k / 2)) (k % 2) t (ok (ltb-true _ _ i)) (omega arith) q
     go false i q = never (cc)
 
 -- ---- a longer list names the same steps by the same numbers

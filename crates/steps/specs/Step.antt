@@ -1,13 +1,14 @@
 -- The steps of a line (the field's term: edges), the step with a given number, and what a step says.
 use mathlib.Core.Bool.{cond}
 use mathlib.Core.List.{List, [], _∷_, _++_}
-use Prim.Native.Nat.{ℕ, _+_, _*_, _/_, _%_}
+use Prim.Native.Nat.{ℕ, _+_, _*_, _/_, _%_, _<_}
 use lib.Dec.{eqb, ltb}
 use lib.IntN.{ℤ, pos, natAbs, _-ℤ_, _*ℤ_}
 use Rattle.integers.specs.Integer.{_⩽_}
 use Rattle.lines.specs.declared.Line.{Line}
 use Rattle.lines.specs.Limits.{maxConstant}
 use Rattle.lines.specs.Line.{Assignment, lineAt, lineCount}
+use Rattle.lines.specs.Valid.{LineOk}
 use Rattle.steps.specs.declared.Step.{Step}
 use Rattle.steps.specs.declared.NamedStep.{NamedStep}
 use Rattle.steps.specs.declared.NamedStep.the-variants.{Found, Nothing}
@@ -38,6 +39,10 @@ stepOf l side =
 -- a step's number is twice the line's number plus the side
 unfoldable pub stepNumbered : List ℤ → ℕ → NamedStep
 stepNumbered L k = cond (ltb (k / 2) (lineCount L)) (stepOf (lineAt L (k / 2)) (k % 2)) Nothing
+
+-- the line that a step number names, where there is one, keeps the line rules
+abbrev pub NamedOk : ℕ → List ℤ → ℕ → Type 0
+NamedOk n L k = k / 2 < lineCount L → LineOk n (lineAt L (k / 2))
 
 -- a step from P to Q of weight w says value(P) - value(Q) ≤ w
 abbrev pub Says : Assignment → Step → Type 0

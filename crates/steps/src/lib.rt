@@ -7,10 +7,10 @@ ghost use Prim.Native.Nat.{_<_};
 ghost use lib.IntN.{ℤ, pos, natAbs, _*ℤ_};
 ghost use Rattle.integers.specs.Integer.{Within};
 ghost use Rattle.lines.specs.Limits.{maxVariables, maxConstant};
-ghost use Rattle.lines.specs.Valid.{VariableOk, LineOk, LinesOk};
+ghost use Rattle.lines.specs.Valid.{VariableOk, LineOk};
 ghost use Rattle.steps.specs.Point.{point, opposite};
 ghost use Rattle.steps.specs.Table.{entry, digit};
-ghost use Rattle.steps.specs.Step.{variableAt, endPoint, stepOf, stepNumbered};
+ghost use Rattle.steps.specs.Step.{variableAt, endPoint, stepOf, stepNumbered, NamedOk};
 
 // A step goes from a point to a point: it says that the value of `from` less that of `to` is at most the weight.
 pub struct Step {
@@ -147,7 +147,7 @@ fn line_step(line: Line, side: usize) -> NamedStep
 
 // The step with a number: twice the line's number plus the side.
 pub fn step_numbered(list: &[i32], number: usize) -> NamedStep
-    requires { ⌜ LinesOk maxVariables (now list) ⌝ }
+    requires { ⌜ NamedOk maxVariables (now list) number ⌝ }
     ensures { λ r. ⌜ r ≡ stepNumbered (now (list .entry)) number ⌝ }
 {
     if number / 2 < list.len() / LINE_SIZE {

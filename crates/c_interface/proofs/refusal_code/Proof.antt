@@ -3,11 +3,10 @@ use mathlib.Core.Path.{_≡_, refl, ap, ap₂, _∙_}
 use Prim.Native.Nat.{ℕ, _+_, _*_, _^_, _<_}
 use native.Mathlib.Omega.{arith}
 use borrow.Author.Needs.{needs}
-use lib.IntN.{ℤ, pos, negℤ, _-ℤ_}
+use lib.IntN.{pos, negℤ}
 use mir.Syntax.{w64}
-use mir.Val.{SFits}
-use mir.Facts.{toZ-ofZ, toZ-pos}
-use Rattle.integers.specs.Linear.{ints}
+use mir.Facts.{toZ-pos}
+use Rattle.integers.specs.Bits.{minus-fits, minus-is}
 use Rattle.lines.specs.Refusal.{numberOf, placeOf}
 use Rattle.c_interface.specs.Codes.{refusalUnit, refusalCode, number-small}
 use Rattle.c_interface.proofs.refusal_code.Statement.{statement}
@@ -15,12 +14,6 @@ use Rattle.c_interface.proofs.refusal_code.Tie as tie
 
 mul-code : tie.Need-mul-code
 mul-code c = record { fits = omega (arith, c .number-of .ensures, number-small (c .before .args .r)) }
-
-zero-minus : (z : ℤ) → pos 0 -ℤ z ≡ negℤ z
-zero-minus z = simp ints (omega arith)
-
-minus-fits : (n : ℕ) → n < 2 ^ 63 → SFits w64 (pos 0 -ℤ pos n)
-minus-fits n = simp ints (omega arith)
 
 module _ (c : tie.After-place-of) where
   abbrev code : ℕ
@@ -43,7 +36,7 @@ sub-result c = rw (toZ-pos w64 (small c)) (minus-fits (code c) (small c))
 
 returns : tie.Need-returns
 unfolding refusalCode
-returns c = rw (toZ-pos w64 (small c)) (toZ-ofZ (minus-fits (code c) (small c)) ∙ zero-minus (pos (code c)) ∙ ap (λ (n : ℕ). negℤ (pos n)) (code-is c))
+returns c = rw (toZ-pos w64 (small c)) (minus-is (code c) (small c) ∙ ap (λ (n : ℕ). negℤ (pos n)) (code-is c))
 
 pub refusal-code-spec : {M : Type 1} → statement M
 refusal-code-spec = tie.close (tie.spec (search needs) mul-code (search needs) add-code cast-result sub-result returns)

@@ -19,7 +19,7 @@ use Rattle.distances.proofs.relax_one.Statement.{statement}
 use Rattle.distances.proofs.relax_one.Tie as tie
 
 step-numbered-requires : tie.Need-step-numbered-requires
-step-numbered-requires c κs = lines-more (c .args .n) maxVariables (now (c .args .list)) (c .pre .few) (c .pre .valid)
+step-numbered-requires c κs = lines-more (c .args .n) maxVariables (now (c .args .list)) (c .pre .few) (c .pre .valid) _
 
 -- the step that was found
 module _ (c : tie.After-named) where

@@ -30,7 +30,7 @@ loop-holds c =
 take-requires : tie.Need-take-requires Inv-loop μ-loop
 take-requires c κs =
     let l = c .before .before in
-    (l .before .before .before .pre .0, l .loop .inv .2, omega arith)
+    (l .before .before .before .pre .0 _, l .loop .inv .2, omega arith)
 
 loop-again : tie.Need-loop-again Inv-loop μ-loop
 loop-again c =
@@ -46,7 +46,7 @@ loop-again c =
           ∙ ap (λ (s : Progress). advance list s x) (l .loop .inv .1)
           ∙ sym (run-snoc list start (take i xs) x)
           ∙ ap (run list start) (sym (take-suc xs i 0 h) ∙ ap (λ (m : ℕ). take m xs) (sym (add-one i))),
-      rw (c .take .ensures) (advance-small (l .loop .s) (l .loop .inv .2) (omega arith) maxVariables list x (a .pre .0) (omega (arith, c .before .shared-slice-known2 .given i))),
+      rw (c .take .ensures) (advance-small (l .loop .s) (l .loop .inv .2) (omega arith) maxVariables list x (a .pre .0 _) (omega (arith, c .before .shared-slice-known2 .given i))),
       ap (λ (s : Progress). s .read) (c .take .ensures) ∙ advance-read list (l .loop .s) x ∙ ap (λ (m : ℕ). m + 1) (l .loop .inv .3),
     )
 

@@ -12,7 +12,7 @@ use Rattle.steps.proofs.step_numbered.Tie as tie
 line-step-requires : tie.Need-line-step-requires
 line-step-requires c κs =
     let s = c .before .before in
-    (rw (c .line-at .ensures) (s .pre (s .args .number / 2) (c .before .if1 .taken)), omega arith)
+    (rw (c .line-at .ensures) (s .pre (c .before .if1 .taken)), omega arith)
 
 returns : tie.Need-returns
 unfolding stepNumbered

@@ -14,7 +14,7 @@ use Rattle.walkback.proofs.makes.Statement.{statement}
 use Rattle.walkback.proofs.makes.Tie as tie
 
 step-numbered-requires : tie.Need-step-numbered-requires
-step-numbered-requires c κs = lines-more (c .pre .variables) maxVariables _ (c .pre .few) (c .pre .lines)
+step-numbered-requires c κs = lines-more (c .pre .variables) maxVariables _ (c .pre .few) (c .pre .lines) _
 
 step-makes-requires : tie.Need-step-makes-requires
 step-makes-requires c κs =
@@ -23,7 +23,7 @@ step-makes-requires c κs =
     let t : Step = c .before .t .given .0 .0 in
     let named = sym (n .step-numbered .ensures) ∙ c .before .t .given .1 in
     let low : t .from < length (s .args .old .now) = omega (arith, s .pre .size, numbered-start (s .pre .variables) (s .args .list .now) (s .args .number) t (s .pre .lines) named) in
-    (low, s .pre .near (t .from) low, numbered-weight (s .pre .variables) (s .args .list .now) (s .args .number) t (s .pre .lines) named)
+    (low, s .pre .near (t .from) low, numbered-weight (s .pre .variables) (s .args .list .now) (s .args .number) t (s .pre .lines _) named)
 
 returns : tie.Need-returns
 returns c =

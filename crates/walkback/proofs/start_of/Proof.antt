@@ -6,7 +6,7 @@ use Rattle.walkback.proofs.start_of.Statement.{statement}
 use Rattle.walkback.proofs.start_of.Tie as tie
 
 step-numbered-requires : tie.Need-step-numbered-requires
-step-numbered-requires c κs = search needs
+step-numbered-requires c κs = c .pre _
 
 returns : tie.Need-returns
 returns c = ap startOf (sym (c .before .t .given .1) ∙ c .before .before .before .step-numbered .ensures)

@@ -1,0 +1,529 @@
+//! Refutations that arrive in pieces: however they are cut, and whatever was
+//! stopped and resumed between two pieces, the end answers as the check of the
+//! whole does; and any state at all gets an answer.
+
+use utvpi_tests::bytes::{self, Line};
+use utvpi_tests::chance::Chance;
+use utvpi_tests::damage::{self, Input};
+use utvpi_tests::document::CASE_4;
+use utvpi_tests::library::{self, Progress};
+use utvpi_tests::make_cases::some_case;
+use utvpi_tests::second;
+use utvpi_tests::second::Answer::{self, No, Refused, Yes};
+use utvpi_tests::seen::Seen;
+
+/// The most numbers that a refutation may have.
+const MOST_NUMBERS: usize = 65_536;
+
+/// A state as it is stored while no checker runs: its numbers, eight bytes each,
+/// and one byte more.
+type Stored = [u8; 65];
+
+fn store(kept: Progress) -> Stored {
+    let Progress {
+        read,
+        kind,
+        p,
+        q,
+        u,
+        here,
+        first,
+        second,
+        good,
+    } = kept;
+    let counts = [read, kind, p, q, u, here].map(|number| (number as u64).to_le_bytes());
+    let sums = [first, second].map(i64::to_le_bytes);
+    let bytes = [counts.concat(), sums.concat(), vec![u8::from(good)]].concat();
+    bytes.try_into().unwrap()
+}
+
+fn restore(stored: &Stored) -> Progress {
+    let eight = |at: usize| stored[8 * at..8 * at + 8].try_into().unwrap();
+    let count = |at| u64::from_le_bytes(eight(at)) as usize;
+    let sum = |at| i64::from_le_bytes(eight(at));
+    Progress {
+        read: count(0),
+        kind: count(1),
+        p: count(2),
+        q: count(3),
+        u: count(4),
+        here: count(5),
+        first: sum(6),
+        second: sum(7),
+        good: stored[64] == 1,
+    }
+}
+
+/// A refutation on its way: what is stored after the last piece, and the places
+/// where the pieces ended.
+struct Reading {
+    n: u64,
+    list: Vec<i32>,
+    numbers: Vec<u32>,
+    stored: Stored,
+    ends: Vec<usize>,
+}
+
+impl Reading {
+    fn begin(n: u64, list: &[i32], numbers: &[u32]) -> Reading {
+        Reading {
+            n,
+            list: list.to_vec(),
+            numbers: numbers.to_vec(),
+            stored: store(library::refutation_begin()),
+            ends: Vec::new(),
+        }
+    }
+
+    /// How many numbers were read.
+    fn read(&self) -> usize {
+        self.ends.last().copied().unwrap_or(0)
+    }
+
+    /// Resumes, takes the numbers up to this place, and stops again. All that is
+    /// there for it is the stored state, a new copy of the list, and these
+    /// numbers.
+    fn take_up_to(&mut self, end: usize) {
+        self.list = self.list.clone();
+        let mut kept = restore(&self.stored);
+        for &number in &self.numbers[self.read()..end] {
+            kept = library::refutation_take(kept, &self.list, number);
+        }
+        self.stored = store(kept);
+        self.ends.push(end);
+    }
+
+    /// What the end answers now, after making sure that both checks of the whole
+    /// answer so on the numbers that were read.
+    fn answer(&self) -> Answer {
+        let kept = restore(&self.stored);
+        let result = library::refutation_end(kept, self.n, &self.list);
+        let list = bytes::numbers(&self.list);
+        let read = bytes::refutation(&self.numbers[..self.read()]);
+        let answer = utvpi_tests::refutation(self.n, &list, &read);
+        assert_eq!(
+            result,
+            answer.code(),
+            "{answer:?} on the whole, {kept:?}\nn: {}\nlist: {}\nrefutation: {}\n{} pieces: {:?}",
+            self.n,
+            bytes::show(&list, 4),
+            bytes::show(&read, 4),
+            self.ends.len(),
+            &self.ends[..self.ends.len().min(1000)]
+        );
+        answer
+    }
+}
+
+/// The reading of an input, without what its bytes have beyond whole numbers.
+fn reading(input: &Input) -> Reading {
+    let fours = |bytes: &[u8]| -> Vec<[u8; 4]> {
+        let fours = bytes.chunks_exact(4);
+        fours.map(|four| four.try_into().unwrap()).collect()
+    };
+    let list: Vec<i32> = fours(&input.list)
+        .into_iter()
+        .map(i32::from_le_bytes)
+        .collect();
+    let numbers: Vec<u32> = fours(&input.proposed)
+        .into_iter()
+        .map(u32::from_le_bytes)
+        .collect();
+    Reading::begin(input.n, &list, &numbers)
+}
+
+/// The length of the next piece, where so many numbers are left.
+fn some_length(chance: &mut Chance, left: usize) -> usize {
+    match chance.below(8) {
+        0 => 0,
+        1..=4 => left.min(chance.between(1, 3) as usize),
+        5 | 6 => chance.below(left + 1),
+        _ => left,
+    }
+}
+
+/// How many accepted refutations were cut in each way.
+#[derive(Default, Debug)]
+struct Cuts {
+    nowhere: usize,
+    into_an_empty_piece: usize,
+    in_the_head: usize,
+    in_a_walk: usize,
+    between_the_walks: usize,
+    at_the_end: usize,
+}
+
+impl Cuts {
+    fn count(&mut self, reading: &Reading) {
+        let length = reading.numbers.len();
+        let turn = 3 + reading.numbers[1] as usize;
+        let (_, cuts) = reading.ends.split_last().unwrap();
+        let cut = |wanted: &dyn Fn(usize) -> bool| usize::from(cuts.iter().any(|&at| wanted(at)));
+        let mut starts = [&[0], cuts].concat().into_iter().zip(&reading.ends);
+        let empty = starts.any(|(start, &end)| start == end && end < length);
+        self.nowhere += usize::from(cuts.is_empty());
+        self.into_an_empty_piece += usize::from(empty);
+        self.in_the_head += cut(&|at| 0 < at && at < 3);
+        self.in_a_walk += cut(&|at| 3 < at && at < length && at != turn);
+        self.between_the_walks += cut(&|at| at == turn && at < length);
+        self.at_the_end += cut(&|at| at == length);
+    }
+
+    fn all(&self) -> [usize; 6] {
+        [
+            self.nowhere,
+            self.into_an_empty_piece,
+            self.in_the_head,
+            self.in_a_walk,
+            self.between_the_walks,
+            self.at_the_end,
+        ]
+    }
+}
+
+/// Right, nearly right and damaged refutations in random pieces. Several are on
+/// their way at once and take turns, and at times the end is asked early.
+#[test]
+fn random_pieces() {
+    let mut chance = Chance::new(80);
+    let (mut seen, mut cuts, mut early) = (Seen::default(), Cuts::default(), Seen::default());
+    for round in 0..20_000 {
+        let mut inputs = some_case(&mut chance).inputs(&mut chance);
+        if round % 25 == 0 {
+            let mut long = inputs[chance.below(inputs.len())].clone();
+            let numbers = MOST_NUMBERS + chance.below(4) - 1;
+            long.proposed.resize(4 * numbers, 0);
+            inputs.push(long);
+        }
+        let mut under_way: Vec<Reading> = inputs.iter().map(reading).collect();
+        while !under_way.is_empty() {
+            let turn = chance.below(under_way.len());
+            let reading = &mut under_way[turn];
+            let left = reading.numbers.len() - reading.read();
+            let end = reading.read() + some_length(&mut chance, left);
+            reading.take_up_to(end);
+            if end == reading.numbers.len() && !chance.one_in(4) {
+                let answer = reading.answer();
+                seen.count(answer);
+                if answer == Yes {
+                    cuts.count(reading);
+                }
+                under_way.swap_remove(turn);
+            } else if chance.one_in(4) {
+                early.count(reading.answer());
+            }
+        }
+    }
+    seen.must_include(&[1, 2, 3, 4, 5, 6, 11], 140_000);
+    println!("accepted when cut {cuts:?}, {} asked early", early.inputs);
+    assert!(cuts.all().iter().all(|&times| times >= 500), "{cuts:?}");
+    assert!(early.inputs >= 50_000 && early.yes >= 500 && early.no >= 10_000);
+}
+
+/// The description's short refutations, cut in every way there is, empty pieces
+/// at either end among them. No part of one that comes before its end is a yes.
+#[test]
+fn all_ways_to_cut() {
+    let bounds = |d| vec![[1, 0, 0, 0, 3], [-1, 0, 0, 0, d]];
+    let mut raised = CASE_4.to_vec();
+    raised[3][4] = 4;
+    let cases: [(u64, Vec<Line>, &[u32], Answer); 15] = [
+        // Case 3.
+        (0, vec![[0, 0, 0, 0, -1]], &[3, 1, 0, 0], Yes),
+        (0, vec![[0, 0, 0, 0, 0]], &[3, 1, 0, 0], No(0)),
+        // Case 4, and case 13 on the same list.
+        (3, CASE_4.to_vec(), &[2, 2, 2, 0, 3, 4, 7], Yes),
+        (3, CASE_4.to_vec(), &[1, 4, 0, 0, 3, 4, 7], No(0)),
+        (3, CASE_4.to_vec(), &[2, 2, 2, 0, 3, 4, 6], No(0)),
+        (3, CASE_4[..3].to_vec(), &[2, 2, 2, 0, 3, 4, 7], No(0)),
+        (3, raised, &[2, 2, 2, 0, 3, 4, 7], No(0)),
+        // Case 7.
+        (1, vec![[1, 0, -1, 0, -1]], &[1, 1, 0, 0], Yes),
+        (1, vec![[1, 0, -1, 0, -1]], &[1, 1, 0, 1], Yes),
+        (1, vec![[1, 0, -1, 0, 0]], &[1, 1, 0, 0], No(0)),
+        // Case 8.
+        (1, bounds(-4), &[1, 2, 0, 0, 2], Yes),
+        (1, bounds(-4), &[2, 1, 1, 0, 2], Yes),
+        (1, bounds(-3), &[1, 2, 0, 0, 2], No(0)),
+        (1, bounds(-3), &[2, 1, 1, 0, 2], No(0)),
+        // A list that is refused, under a refutation that is read all the same.
+        (0, vec![[1, 0, -1, 0, -1]], &[1, 1, 0, 0], Refused(5, 0)),
+    ];
+    for (n, lines, numbers, due) in cases {
+        let early = if due == Yes { No(0) } else { due };
+        for way in 0..1 << (numbers.len() + 1) {
+            let mut reading = Reading::begin(n, &lines.concat(), numbers);
+            for place in (0..=numbers.len()).filter(|place| way >> place & 1 == 1) {
+                reading.take_up_to(place);
+                let at_end = place == numbers.len();
+                assert_eq!(reading.answer(), if at_end { due } else { early });
+            }
+            reading.take_up_to(numbers.len());
+            assert_eq!(reading.answer(), due, "{numbers:?} cut at {way:b}");
+        }
+    }
+}
+
+/// The answer on these numbers, the same where they are cut near the limit, near
+/// the ends, or into pieces of equal lengths.
+fn answer_if_long(n: u64, list: &[i32], numbers: &[u32]) -> Answer {
+    let every = |length: usize| (0..numbers.len()).step_by(length).collect();
+    let ways: [Vec<usize>; 5] = [
+        vec![],
+        vec![MOST_NUMBERS - 1, MOST_NUMBERS, MOST_NUMBERS + 1],
+        vec![MOST_NUMBERS, MOST_NUMBERS, 69_999],
+        vec![0, 1, 2, 3, 4, numbers.len() - 1, numbers.len()],
+        every(9_973),
+    ];
+    let answers = ways.map(|mut way| {
+        way.sort();
+        let mut reading = Reading::begin(n, list, numbers);
+        for place in way.into_iter().filter(|&place| place <= numbers.len()) {
+            reading.take_up_to(place);
+            reading.answer();
+        }
+        reading.take_up_to(numbers.len());
+        reading.answer()
+    });
+    assert!(answers.iter().all(|&answer| answer == answers[0]));
+    answers[0]
+}
+
+/// Kind 1 with this first count and so many numbers in all, all steps 0.
+fn of_length(p: usize, length: usize) -> Vec<u32> {
+    [&[1, p as u32, 0], &vec![0; length - 3][..]].concat()
+}
+
+/// As many numbers as are let in, one less, one more and many more.
+const LENGTHS: [usize; 4] = [MOST_NUMBERS - 1, MOST_NUMBERS, MOST_NUMBERS + 1, 70_000];
+
+/// The answer that is due on so many numbers, where it is this unless they are
+/// too many.
+fn unless_long(length: usize, yes: bool) -> Answer {
+    match yes {
+        _ if length > MOST_NUMBERS => Refused(11, 0),
+        true => Yes,
+        false => No(0),
+    }
+}
+
+/// One walk as long as is let in, or about so long: refusal 11 comes with the
+/// first number too many and stays.
+#[test]
+fn lengths_of_one_walk() {
+    for length in LENGTHS {
+        let right = of_length(length - 3, length);
+        // x - x ≤ d: each step leads from x to x. The 32 low bits of 65,533 times
+        // -983,040 are those of a number above 0.
+        for d in [-1_000_000, -983_040, -1, 0] {
+            let due = unless_long(length, d < 0);
+            assert_eq!(answer_if_long(1, &[1, 0, -1, 0, d], &right), due, "{d}");
+        }
+        let list = [1, 0, -1, 0, -1];
+        // Counts that are right where as many numbers are read as are let in.
+        let most = of_length(MOST_NUMBERS - 3, length);
+        let due = unless_long(length, length == MOST_NUMBERS);
+        assert_eq!(answer_if_long(1, &list, &most), due, "{length}");
+        // A step that is none, at either end and in the middle.
+        for place in [3, length / 2, length - 1] {
+            let mut wrong = right.clone();
+            wrong[place] = 2;
+            let due = unless_long(length, false);
+            assert_eq!(answer_if_long(1, &list, &wrong), due, "{place}");
+        }
+    }
+}
+
+/// The same from x to -x and back all the time, as one walk and as two.
+#[test]
+fn lengths_of_two_walks() {
+    // 2x ≤ 0 and -2x ≤ -1; and x ≤ d and -x ≤ d with the largest sums there are.
+    let halves = [1, 0, 1, 0, 0, -1, 0, -1, 0, -1];
+    let largest = [1, 0, 0, 0, -1_000_000, -1, 0, 0, 0, -1_000_000];
+    for length in LENGTHS {
+        let steps = length - 3;
+        let mut numbers = of_length(steps, length);
+        for (at, step) in numbers[3..].iter_mut().enumerate() {
+            *step = 2 * (at as u32 % 2);
+        }
+        for list in [halves, largest] {
+            numbers[..3].copy_from_slice(&[1, steps as u32, 0]);
+            let closed = steps % 2 == 0;
+            let due = unless_long(length, closed);
+            assert_eq!(answer_if_long(1, &list, &numbers), due, "{length}");
+            for p in [1, 32_767, steps - 2, steps - 1] {
+                numbers[..3].copy_from_slice(&[2, p as u32, (steps - p) as u32]);
+                let due = unless_long(length, closed && p % 2 == 1);
+                assert_eq!(answer_if_long(1, &list, &numbers), due, "{length}, {p}");
+            }
+        }
+    }
+}
+
+/// A list that is refused is refused first, however long the refutation is, and
+/// also where the steps of the refutation are those of a line that is valid.
+#[test]
+fn list_refusals_go_first() {
+    for (n, list, (number, place)) in damage::refused_lists() {
+        let after_a_line = [&[1, 0, -1, 0, -1], &list[..]].concat();
+        let shift = usize::from(number >= 4);
+        for length in [4, MOST_NUMBERS, MOST_NUMBERS + 1, 70_000] {
+            let numbers = of_length(length - 3, length);
+            let alone = answer_if_long(n, &list, &numbers);
+            assert_eq!(alone, Refused(number, place), "{list:?}");
+            let after = answer_if_long(n, &after_a_line, &numbers);
+            assert_eq!(after, Refused(number, place + shift), "{list:?}");
+        }
+    }
+}
+
+/// A number that a state might hold and no refutation leads to, or a usual one.
+fn wild_count(chance: &mut Chance) -> usize {
+    match chance.below(4) {
+        0 => chance.next() as usize,
+        1 => chance.below(8),
+        _ => chance.pick(&[
+            127,
+            128,
+            65_533,
+            65_535,
+            65_536,
+            65_537,
+            u32::MAX as usize,
+            1 << 32,
+            1 << 63,
+            usize::MAX - 2,
+            usize::MAX,
+        ]),
+    }
+}
+
+/// The same for a sum. The largest of as many steps as are let in is
+/// 131,072,000,000.
+fn wild_sum(chance: &mut Chance) -> i64 {
+    match chance.below(4) {
+        0 => chance.next() as i64,
+        1 => chance.between(-4, 4),
+        _ => chance.pick(&[
+            i64::MIN,
+            i64::MIN + 1,
+            -131_072_000_001,
+            -131_072_000_000,
+            131_072_000_000,
+            131_072_000_001,
+            i64::MAX - 1,
+            i64::MAX,
+        ]),
+    }
+}
+
+/// The state with few of its numbers changed, or many, or all. At times the
+/// counts fit again, the walk is closed and nothing was wrong.
+fn made_wild(chance: &mut Chance, mut kept: Progress) -> Progress {
+    let often = chance.pick(&[1, 2, 8, 30]);
+    let counts = [
+        &mut kept.read,
+        &mut kept.kind,
+        &mut kept.p,
+        &mut kept.q,
+        &mut kept.u,
+        &mut kept.here,
+    ];
+    for count in counts {
+        if chance.one_in(often) {
+            *count = wild_count(chance);
+        }
+    }
+    for sum in [&mut kept.first, &mut kept.second] {
+        if chance.one_in(often) {
+            *sum = wild_sum(chance);
+        }
+    }
+    if chance.one_in(3) {
+        kept.kind = chance.pick(&[1, 2, 3]);
+        if chance.one_in(2) {
+            (kept.p, kept.q) = (chance.below(MOST_NUMBERS - 2), 0);
+        }
+        kept.read = kept.p.wrapping_add(kept.q).wrapping_add(3);
+        kept.here = kept.u;
+        kept.good = true;
+    }
+    kept
+}
+
+/// Takes the numbers. In any state one number more is counted, up to one more
+/// than are let in, and what was wrong stays wrong.
+fn take_all(mut kept: Progress, list: &[i32], numbers: &[u32]) -> Progress {
+    for &number in numbers {
+        let next = library::refutation_take(kept, list, number);
+        let due = kept.read.min(MOST_NUMBERS) + 1;
+        assert_eq!(next.read, due, "{kept:?}, {number}");
+        assert!(kept.good || !next.good, "{kept:?}, {number}");
+        kept = next;
+    }
+    kept
+}
+
+/// What the end answers to any state: the list's refusal as the second
+/// implementation gives it, then 11 where too many numbers were read, then yes
+/// or no.
+fn answer_to(kept: Progress, n: u64, list: &[i32]) -> Answer {
+    let result = library::refutation_end(kept, n, list);
+    let answer = match second::check_refutation(n, &bytes::numbers(list), &[]) {
+        Refused(number, place) => Refused(number, place),
+        _ if kept.read > MOST_NUMBERS => Refused(11, 0),
+        _ if result == 0 => Yes,
+        _ => No(0),
+    };
+    assert_eq!(result, answer.code(), "{kept:?}, n {n}, {list:?}");
+    answer
+}
+
+/// States with numbers that no refutation leads to, on lists of which many are
+/// damaged: each call returns, each answer is one of those that there are, and a
+/// state in which something was wrong is never accepted.
+#[test]
+fn any_state() {
+    let mut chance = Chance::new(81);
+    let mut seen = Seen::default();
+    let (mut changed, mut changed_yes) = (0, 0);
+    for _ in 0..200_000 {
+        let case = some_case(&mut chance);
+        let (mut n, mut list) = (case.n, case.lines.concat());
+        let numbers = case.proposal.numbers();
+        let left = if chance.one_in(4) {
+            chance.below(numbers.len())
+        } else {
+            0
+        };
+        let (read, left) = numbers.split_at(numbers.len() - left);
+        let state = take_all(library::refutation_begin(), &list, read);
+        let wild = made_wild(&mut chance, state);
+        changed += usize::from(wild != state);
+        if chance.one_in(3) {
+            (n, list) = damage::damaged_list(&mut chance, n, &list);
+        }
+        let mut more = left.to_vec();
+        for _ in 0..chance.pick(&[0, 0, 0, 0, 1, 4]) {
+            more.push(match chance.below(3) {
+                0 => chance.next() as u32,
+                1 => chance.pick(&[1_022, 1_023, 1_024, 1 << 31, u32::MAX]),
+                _ => chance.below(2 * case.lines.len() + 2) as u32,
+            });
+        }
+        let answer = answer_to(take_all(wild, &list, &more), n, &list);
+        seen.count(answer);
+        changed_yes += usize::from(wild != state && answer == Yes);
+
+        // The same after something was wrong.
+        let wrong = Progress {
+            good: false,
+            ..wild
+        };
+        let after = answer_to(take_all(wrong, &list, &more), n, &list);
+        assert_ne!(after, Yes, "{wrong:?}, n {n}, {list:?}, {more:?}");
+    }
+    println!("{changed} states were changed, of which {changed_yes} were accepted");
+    seen.must_include(&[1, 2, 3, 4, 5, 6, 11], 200_000);
+    assert!(changed >= 100_000 && changed_yes >= 1_000);
+}
