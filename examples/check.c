@@ -1,5 +1,6 @@
 /* An example of the C interface: checks a merge of two recordings, a wrong
- * one, a proof that another merge is impossible, and a damaged list.
+ * one, a proof that another merge is impossible, damaged proofs, and a damaged
+ * list.
  *
  * Two recorders ran side by side and each wrote down when it noticed an event,
  * in whole ticks. The first counts up from 0. The second counts down from 100,
@@ -70,7 +71,8 @@ static const int32_t flash[4][5] = {
 /* A refutation of the second list: kind 2, walks of 2 and 2 steps. Steps 0 and
  * 5 (of lines 0 and 2) lead from up to -up and say 2*up <= 101; steps 2 and 7
  * (of lines 1 and 3) lead back and say -2*up <= -101. */
-static const uint32_t refutation[7] = {2, 2, 2, 0, 5, 2, 7};
+#define NUMBERS 7
+static const uint32_t refutation[NUMBERS] = {2, 2, 2, 0, 5, 2, 7};
 
 /* What a refusal means and what to do about it. */
 static const char *advice(int number)
@@ -99,17 +101,39 @@ static const char *advice(int number)
     }
 }
 
+/* What is wrong where a refutation breaks. */
+static const char *place_in_words(int place)
+{
+    switch (place) {
+    case 0:
+        return "the kind is wrong, or there are fewer than three numbers";
+    case 1:
+        return "the counts do not suit the kind";
+    case 2:
+        return "there are not as many steps as the counts say";
+    default:
+        return "this step does not fit, or the sums are not low enough";
+    }
+}
+
 /* Whether each answer so far was the one expected. */
 static int all_as_expected = 1;
 
+/* What is checked. */
+enum proposal { MODEL, REFUTATION };
+
 /* Says in words what a result is and, where it is the expected one, why. */
-static void tell(const char *asked, int64_t result, int64_t expected, const char *why)
+static void tell(enum proposal proposal, const char *asked, int64_t result, int64_t expected,
+                 const char *why)
 {
     printf("%s\n", asked);
     if (UTVPI_IS_YES(result)) {
         printf("  Yes.\n");
-    } else if (UTVPI_IS_NO(result)) {
+    } else if (UTVPI_IS_NO(result) && proposal == MODEL) {
         printf("  No. The first line that fails is line %d.\n", UTVPI_NO_LINE(result));
+    } else if (UTVPI_IS_NO(result)) {
+        int place = UTVPI_NO_PLACE(result);
+        printf("  No. It breaks at index %d: %s.\n", place, place_in_words(place));
     } else {
         int number = UTVPI_REFUSAL_NUMBER(result);
         printf("  Refused, with number %d at place %d.\n", number, UTVPI_REFUSAL_PLACE(result));
@@ -133,41 +157,75 @@ static int64_t check_model(const uint8_t *list, size_t length, int64_t door, int
     return utvpi_check_model(3, list, length, model, sizeof model);
 }
 
-int main(void)
+/* Checks the refutation of the second list with the number at one index changed. */
+static int64_t check_changed(size_t index, uint32_t number)
+{
+    uint8_t list[20 * MOST], proposed[4 * NUMBERS];
+    size_t length = pack_list(list, flash, 4);
+    for (size_t at = 0; at < NUMBERS; at++) {
+        pack(proposed + 4 * at, at == index ? number : refutation[at], 4);
+    }
+    return utvpi_check_refutation(2, list, length, proposed, sizeof proposed);
+}
+
+static void check_merges(void)
 {
     uint8_t list[20 * MOST];
-    uint8_t proposed[sizeof refutation];
     size_t length = pack_list(list, merge, 5);
 
-    tell("Do door 30, lamp 35 and bell 64 meet every line of the merge?",
+    tell(MODEL, "Do door 30, lamp 35 and bell 64 meet every line of the merge?",
          check_model(list, length, 30, 35, 64), 0,
          "  The bell's reading 64 is tick 36, one tick after the lamp.\n");
 
-    tell("Do door 30, lamp 35 and bell 66 meet every line of the merge?",
+    tell(MODEL, "Do door 30, lamp 35 and bell 66 meet every line of the merge?",
          check_model(list, length, 30, 35, 66), 1000000 + 3,
          "  Line 3 says that the lamp is not after the bell, but the bell's reading 66 is\n"
          "  tick 34.\n");
+}
 
-    length = pack_list(list, flash, 4);
-    for (size_t at = 0; at < 7; at++) {
-        pack(proposed + 4 * at, refutation[at], 4);
-    }
-    tell("Does the refutation show that the readings of the flash cannot be right?",
-         utvpi_check_refutation(2, list, length, proposed, sizeof proposed), 0,
+static void check_refutations(void)
+{
+    tell(REFUTATION, "Does the refutation show that the readings of the flash cannot be right?",
+         check_changed(0, refutation[0]), 0,
          "  No whole numbers can meet these lines. By lines 0 and 2 twice the reading is\n"
          "  at most 101, so the reading is at most 50. By lines 1 and 3 twice the reading\n"
          "  is at least 101, so the reading is at least 51.\n");
 
+    /* Damage: the second step is 4 in place of 5, the other side of line 2. */
+    tell(REFUTATION, "Does it if the step number at index 4 is changed from 5 to 4?",
+         check_changed(4, 4), 1000000 + 4,
+         "  Step 0 ends at -down. Step 4 is side 0 of line 2 and begins at up, so that it\n"
+         "  does not join. Step 5, side 1 of this line, begins at -down.\n");
+
+    /* Damage: a count that does not suit the kind, and one that is too high. */
+    tell(REFUTATION, "Does it if the second count, at index 2, is changed from 2 to 0?",
+         check_changed(2, 0), 1000000 + 1,
+         "  Kind 2 has two walks, each of at least one step. Index 1 stands for both counts.\n");
+    tell(REFUTATION, "Does it if the second count, at index 2, is changed from 2 to 3?",
+         check_changed(2, 3), 1000000 + 2,
+         "  The counts 2 and 3 ask for 5 steps, 8 numbers in all, and there are 7.\n");
+}
+
+static void check_damaged_lists(void)
+{
+    uint8_t list[20 * MOST];
+    size_t length = pack_list(list, merge, 5);
+
     /* Damage: the last byte is missing. */
-    length = pack_list(list, merge, 5);
-    tell("Do door 30, lamp 35 and bell 64 meet the merge without its last byte?",
+    tell(MODEL, "Do door 30, lamp 35 and bell 64 meet the merge without its last byte?",
          check_model(list, length - 1, 30, 35, 64), -(UTVPI_BROKEN_LIST_LENGTH * 100000), "");
 
     /* Damage: the second variable of line 4, at byte 12 of the line, becomes 7. */
     list[20 * 4 + 12] = 7;
-    tell("Do door 30, lamp 35 and bell 64 meet the merge if its line 4 names a variable 7?",
+    tell(MODEL, "Do door 30, lamp 35 and bell 64 meet the merge if its line 4 names a variable 7?",
          check_model(list, length, 30, 35, 64), -(UTVPI_BAD_VARIABLE * 100000 + 4), "");
+}
 
+int main(void)
+{
+    check_merges();
+    check_refutations();
+    check_damaged_lists();
     printf(all_as_expected ? "All answers are as expected.\n" : "Some answers are WRONG.\n");
     return all_as_expected ? 0 : 1;
 }

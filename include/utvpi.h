@@ -23,8 +23,7 @@
  *
  * A REFUTATION shows that no whole numbers meet all lines. It is a row of
  * unsigned 32-bit numbers, for the checks each as four bytes: the kind, a first
- * count p, a second count q, then p + q step numbers and nothing more. Bytes
- * that are no multiple of four are not a refutation: a no.
+ * count p, a second count q, then p + q step numbers and nothing more.
  * Each variable x has two points: x+ stands for x and x- for -x. A step leads
  * from one point to another and has a weight. Its number is twice the number
  * of its line, plus its side:
@@ -49,6 +48,8 @@
  *              halved is -4.
  *     kind 3   p is 1, q is 0: the one step number is twice the number of a
  *              line 0 <= d with d below 0.
+ *
+ * Any other is a no, which says where it breaks: see WHERE A REFUTATION BREAKS.
  */
 #ifndef UTVPI_H
 #define UTVPI_H
@@ -64,10 +65,12 @@ extern "C" {
 /* Deciding and checking return one number:
  *
  *     0                              yes
- *     1,000,000 + k                  no. For a model, k is the first line that
- *                                    it does not meet, counted from 0. For a
- *                                    refutation, and for deciding, k is always
- *                                    0.
+ *     1,000,000 + k                  no. For deciding, k is always 0. For a model,
+ *                                    k is the first line that it does not meet.
+ *                                    For a refutation, k is the index of the
+ *                                    first number that is wrong: see WHERE A
+ *                                    REFUTATION BREAKS. Lines and indexes count
+ *                                    from 0.
  *     -(refusal * 100,000 + place)   a refusal: there is no answer. The refusal
  *                                    is one of the numbers below; the place is
  *                                    a line, an index or a buffer where the
@@ -79,9 +82,11 @@ extern "C" {
  * to the next and may be called from several threads at once.
  */
 
-/* The most variables and the most lines that a list may have. */
+/* The most variables and the most lines that a list may have, and the most
+ * numbers of a refutation. */
 #define UTVPI_MOST_VARIABLES 64
 #define UTVPI_MOST_LINES 512
+#define UTVPI_MOST_REFUTATION 65536
 
 /* The room that deciding a list of n variables needs, in numbers, for n up to
  * UTVPI_MOST_VARIABLES. With a constant n these are constants, fit for the
@@ -149,18 +154,50 @@ int64_t utvpi_decide(uint64_t n, const int32_t *list, size_t list_len,
  * change during the call. The checks only read: they write to nothing, and may
  * be called from several threads at once on the same bytes too. */
 
-/* Does this model meet every line of this list of n variables? */
+/* Does this model meet every line of this list of n variables? Of a no, k is the
+ * first line that it does not meet. */
 int64_t utvpi_check_model(uint64_t n, const uint8_t *list, size_t list_len,
                           const uint8_t *model, size_t model_len);
 
-/* Does this refutation show that this list of n variables cannot be met? */
+/* Does this refutation show that this list of n variables cannot be met? Of a no,
+ * k is the index of the number where it breaks.
+ *
+ * WHERE A REFUTATION BREAKS. Index 0 is the kind, 1 is p, 2 is q, and the steps
+ * follow from index 3 on. Of these, the first that applies gives k:
+ *
+ *     k             what is wrong, and what to correct
+ *     0             The bytes are no multiple of four, or there are fewer than
+ *                   three numbers: look for a cut or added part.
+ *     0             The kind is not 1, 2 or 3: correct it.
+ *     1             The counts do not suit the kind: correct p, q or the kind.
+ *     2             There are not 3 + p + q numbers: correct p or q, or look for
+ *                   numbers left out or added.
+ *     3             In kind 3, the step number is not twice the number of a line
+ *                   0 <= d with d below 0: correct it.
+ *     3 or more     In kinds 1 and 2, the first step number of which one of these
+ *                   is true: correct it, or the ones before it.
+ *                     - It names no step: its line is not in the list, or has no
+ *                       such side in the table of steps.
+ *                     - It does not join: its step does not begin where the one
+ *                       before it ends. The step at index 3 may begin anywhere;
+ *                       the second walk goes on where the first ends.
+ *                     - It is the last of the first walk in kind 2, at index
+ *                       2 + p, and does not end at the opposite of where the
+ *                       step at index 3 begins.
+ *                     - It is the last of all, at index 2 + p + q, and does not
+ *                       end where the step at index 3 begins.
+ *     2 + p + q     In kinds 1 and 2, all steps are as they should be, but the
+ *                   sums are not low enough: name other steps. This is the index
+ *                   of the last number.
+ */
 int64_t utvpi_check_refutation(uint64_t n, const uint8_t *list, size_t list_len,
                                const uint8_t *refutation, size_t refutation_len);
 
 /* The same for a refutation that arrives in pieces: begin, take its numbers one
  * after another, and ask for the result at the end, which is that of
- * utvpi_check_refutation on the whole. List and numbers are given as the machine
- * holds them; lengths are in numbers.
+ * utvpi_check_refutation on the whole; the index of a no counts from the first
+ * number taken. List and numbers are given as the machine holds them; lengths
+ * are in numbers.
  *
  * What is kept between two numbers is this struct, and nothing else: it may be
  * stored and used again later, and a copy of it goes on from the same place. Its
@@ -172,6 +209,7 @@ typedef struct utvpi_progress {
     size_t read, kind, p, q, u, here;
     int64_t first, second;
     bool good;
+    size_t wrong;
 } utvpi_progress;
 
 utvpi_progress utvpi_refutation_begin(void);
@@ -187,9 +225,11 @@ int64_t utvpi_refutation_end(utvpi_progress kept, uint64_t n,
 #define UTVPI_IS_NO(result) ((result) >= 1000000)
 #define UTVPI_IS_REFUSAL(result) ((result) < 0)
 
-/* Of a no: the first line that a model does not meet; 0 for a refutation and for
- * deciding. */
+/* Of a no on a model: the first line that it does not meet. Of a no on a
+ * refutation: the index of the number where it breaks. Of a no of deciding, both
+ * are 0 and say nothing. */
 #define UTVPI_NO_LINE(result) ((int)((result) - 1000000))
+#define UTVPI_NO_PLACE(result) ((int)((result) - 1000000))
 
 /* Of a refusal: its number, and its place. */
 #define UTVPI_REFUSAL_NUMBER(result) ((int)(-(result) / 100000))

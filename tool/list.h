@@ -1,5 +1,6 @@
 /* What the parts of the tool share: the list that was read, with where each of
- * its lines stands in the file, and the functions that one part offers another. */
+ * its lines stands in the file, a refutation that someone proposes, and the
+ * functions that one part offers another. */
 #ifndef LIST_H
 #define LIST_H
 
@@ -59,15 +60,58 @@ struct list {
     struct text names[MOST_NAMES];
 };
 
-/* text.c: the bytes of the input, and showing parts of it. */
+/* A refutation that someone proposes. Reading ends with the number that passes
+ * the library's limit. */
+struct proposal {
+    const char *file;
+    struct text input;
+    uint32_t numbers[UTVPI_MOST_REFUTATION + 1];
+    size_t count;
+};
+
+/* Why a refutation breaks at a number: in the head, at a step number, or after
+ * the last one. */
+enum reason {
+    NO_FAULT,
+    TOO_FEW, BAD_KIND, BAD_COUNTS, BAD_LENGTH,
+    NO_RULE, NO_SIDE, NO_STEPS, HAS_EVENTS, IS_TRUE, IS_ODD,
+    NOT_JOINED, FIRST_ENDS_WRONG, LAST_ENDS_WRONG,
+    NOT_LOW
+};
+
+/* The index of that number, counted from 0, and why. */
+struct fault {
+    size_t place;
+    enum reason reason;
+};
+
+/* An event, with sign -1 its opposite, and a step from one to another. */
+struct point {
+    int32_t sign;
+    uint64_t variable;
+};
+
+struct step {
+    struct point from;
+    struct point to;
+};
+
+/* help.c: what --help prints. */
+extern const char help[];
+
+/* text.c: the bytes of an input, showing parts of it, and its lines. */
 bool load(FILE *from, const char *file, struct text *input);
 void show(FILE *to, struct text text);
 bool is_blank(char c);
 bool is_digit(char c);
 bool is_letter(char c);
 struct text trim(struct text text);
+bool wrong_in(const char *file, struct origin origin, struct text part, const char *what,
+              const char *advice);
 bool wrong(const struct list *list, struct origin origin, struct text part, const char *what,
            const char *advice);
+struct text skip_mark(struct text input);
+bool next_line(const char *file, struct text *rest, struct origin *origin);
 
 /* read.c: a file's lines. The list's input and file are set before. */
 bool read_list(struct list *list);
@@ -76,16 +120,33 @@ bool add_line(struct list *list, struct origin origin, const int32_t line[5]);
 
 /* numbers.c and words.c: one rule, in the one form and the other. */
 bool scan_magnitude(struct text *rest, int64_t *value);
+struct text first_part(struct text rest);
 bool read_numbers(struct list *list, struct origin origin);
 bool read_variables(struct list *list, struct origin origin);
 bool read_words(struct list *list, struct origin origin);
 
-/* yes.c, no.c and refusal.c: the answers in words. */
+/* proposal.c: a proposed refutation's numbers. Its input and file are set before. */
+bool read_proposal(struct proposal *proposal);
+
+/* steps.c: the step with a number, and where it leads. */
+const int32_t *line_of(const struct list *list, uint32_t step);
+struct step step_of(const struct list *list, uint32_t number);
+struct point opposite(struct point point);
+bool same_point(struct point one, struct point other);
+
+/* faults.c: where a proposed refutation breaks, and why. */
+struct fault first_fault(const struct list *list, const struct proposal *proposal);
+
+/* yes.c, no.c, broken.c and refusal.c: the answers in words. */
 void print_event(FILE *to, const struct list *list, uint64_t variable);
 int event_width(const struct list *list, uint64_t variable);
 void print_yes(const struct list *list, const int64_t *model, const int64_t *bounds,
                const uint32_t *groups);
-void print_no(const struct list *list, const uint32_t *refutation);
-void print_refusal(const struct list *list, int64_t result);
+void print_rule(const struct list *list, uint32_t step);
+int64_t bound_together(const struct list *list, const uint32_t *refutation);
+void print_walks(const struct list *list, const uint32_t *refutation);
+void print_no(const struct list *list, const uint32_t *refutation, const char *shown);
+void print_broken(const struct list *list, const struct proposal *proposal, struct fault fault);
+void print_refusal(const struct list *list, const char *file, int64_t result);
 
 #endif

@@ -1,5 +1,5 @@
-/* Printing a no: the rules that clash, in the order of the walk, and how they add
- * up to something false. */
+/* Printing a refutation: the rules that clash, in the order of the walk, and how
+ * they add up to something false; or to something that can hold. */
 #include "list.h"
 
 #include <inttypes.h>
@@ -19,16 +19,17 @@ struct sum {
     int64_t bound;
 };
 
-static const int32_t *line_of(const struct list *list, uint32_t step)
-{
-    return list->numbers + 5 * (size_t)(step / 2);
-}
-
 /* How often a step counts its line: a line on one variable counts twice, so that
  * every step takes in two terms. */
 static int times(const int32_t *line)
 {
     return (line[0] == 0) != (line[2] == 0) ? 2 : 1;
+}
+
+/* Half of a number, rounded down. */
+static int64_t half(int64_t number)
+{
+    return number / 2 - (number % 2 < 0 ? 1 : 0);
 }
 
 /* Prints a term. The first has its sign without blanks, and none where it is +. */
@@ -61,7 +62,6 @@ static void print_line(const struct list *list, const int32_t *line, int count)
 /* Prints a sum; with halved, half of each factor and of the bound, rounded down. */
 static void print_sum(const struct list *list, const struct sum *sum, bool halved)
 {
-    int64_t bound = sum->bound;
     bool first = true;
     for (uint64_t v = 0; v < list->variables; v++) {
         if (sum->factors[v] != 0) {
@@ -69,10 +69,7 @@ static void print_sum(const struct list *list, const struct sum *sum, bool halve
             first = false;
         }
     }
-    if (halved) {
-        bound = bound / 2 - (bound % 2 < 0 ? 1 : 0);
-    }
-    printf("%s <= %" PRId64, first ? "0" : "", bound);
+    printf("%s <= %" PRId64, first ? "0" : "", halved ? half(sum->bound) : sum->bound);
 }
 
 static int padded(const struct origin *origin)
@@ -149,27 +146,53 @@ static struct layout layout_of(const struct list *list, const uint32_t *steps, u
     return layout;
 }
 
-/* Prints a refutation that the checker has accepted. */
-void print_no(const struct list *list, const uint32_t *refutation)
+/* Prints the rule of a step, in columns of its own. */
+void print_rule(const struct list *list, uint32_t step)
+{
+    print_step(list, step, layout_of(list, &step, 1));
+}
+
+/* What all steps of kind 1 or 2 add up to: 0 <= this. */
+int64_t bound_together(const struct list *list, const uint32_t *refutation)
+{
+    int64_t sums[2] = {0, 0};
+    for (uint32_t at = 0; at < refutation[1] + refutation[2]; at++) {
+        const int32_t *line = line_of(list, refutation[3 + (size_t)at]);
+        sums[at < refutation[1] ? 0 : 1] += (int64_t)times(line) * line[4];
+    }
+    return refutation[0] == 1 ? sums[0] : half(sums[0]) + half(sums[1]);
+}
+
+/* Prints the walks of a refutation, which lead where they should, and what they
+ * add up to, whether that is false or not. */
+void print_walks(const struct list *list, const uint32_t *refutation)
 {
     uint32_t p = refutation[1], q = refutation[2];
     const uint32_t *steps = refutation + 3;
     struct layout layout = layout_of(list, steps, p + q);
-    if (refutation[0] == 3) {
-        puts("No. No whole numbers meet all the rules. One is false by itself:\n");
-        print_step(list, steps[0], layout);
-        return;
-    }
-    puts("No. No whole numbers meet all the rules. These rules clash:\n");
+    int64_t bound = bound_together(list, refutation);
+    const char *end = bound < 0 ? ", which is false." : ", which can hold.";
     if (refutation[0] == 1) {
         print_walk(list, steps, p, layout);
-        puts(", which is false.");
+        puts(end);
         return;
     }
     struct sum first = print_half(list, steps, p, layout);
     struct sum second = print_half(list, steps + p, q, layout);
-    int64_t odd = (first.bound % 2 != 0) + (second.bound % 2 != 0);
-    printf("  Together: 0 <= %" PRId64 ", which is false.\n",
-           (first.bound + second.bound - odd) / 2);
-    print_fraction(list, &first, &second);
+    printf("  Together: 0 <= %" PRId64 "%s\n", bound, end);
+    if (bound < 0) {
+        print_fraction(list, &first, &second);
+    }
+}
+
+/* Prints a refutation that the checker has accepted, after what it shows. */
+void print_no(const struct list *list, const uint32_t *refutation, const char *shown)
+{
+    if (refutation[0] == 3) {
+        printf("%s One is false by itself:\n\n", shown);
+        print_rule(list, refutation[3]);
+    } else {
+        printf("%s These rules clash:\n\n", shown);
+        print_walks(list, refutation);
+    }
 }

@@ -27,7 +27,7 @@ bool scan_magnitude(struct text *rest, int64_t *value)
 }
 
 /* The characters up to the next blank or comma. */
-static struct text first_part(struct text rest)
+struct text first_part(struct text rest)
 {
     struct text part = {rest.at, 0};
     while (part.length < rest.length && !is_blank(rest.at[part.length]) &&

@@ -1,5 +1,5 @@
-/* Reading a file: cuts it into lines, leaves out comments, tells which form each
- * rule has, and keeps the lines of the list. */
+/* Reading a file of rules: tells which form each rule has, and keeps the lines of
+ * the list. */
 #include "list.h"
 
 #include <stdlib.h>
@@ -50,22 +50,6 @@ bool add_line(struct list *list, struct origin origin, const int32_t line[5])
     return true;
 }
 
-/* Looks for bytes that no text has, in comments too: a file that is not text may
- * look like one long comment. */
-static bool is_plain(const struct list *list, size_t number, struct text line)
-{
-    struct origin origin = {number, nothing};
-    for (size_t at = 0; at < line.length; at++) {
-        unsigned char c = (unsigned char)line.at[at];
-        if ((c < 32 && c != '\t') || c == 127) {
-            struct text part = {line.at + at, 1};
-            return wrong(list, origin, part, "is a character that no text has",
-                         "give a plain text file whose lines end with LF or CR LF");
-        }
-    }
-    return true;
-}
-
 static bool starts_with_variables(struct text rule)
 {
     static const char word[] = "variables";
@@ -100,39 +84,16 @@ static bool read_rule(struct list *list, struct origin origin)
                                               : read_numbers(list, origin);
 }
 
-/* Takes the next line off the rest of the input, without what ends it. */
-static struct text next_line(struct text *rest)
-{
-    const char *end = memchr(rest->at, '\n', rest->length);
-    struct text line = {rest->at, end == NULL ? rest->length : (size_t)(end - rest->at)};
-    size_t taken = end == NULL ? line.length : line.length + 1;
-    rest->at += taken;
-    rest->length -= taken;
-    if (line.length > 0 && line.at[line.length - 1] == '\r') {
-        line.length--;
-    }
-    return line;
-}
-
 /* Reads the whole input, up to the first thing that is wrong. With too many names
  * the library refuses the list whatever follows, so that reading ends there. */
 bool read_list(struct list *list)
 {
-    struct text rest = list->input;
-    if (rest.length >= 3 && memcmp(rest.at, "\xEF\xBB\xBF", 3) == 0) {
-        rest.at += 3;
-        rest.length -= 3;
-    }
-    for (size_t number = 1; rest.length > 0; number++) {
-        struct text line = next_line(&rest);
-        if (!is_plain(list, number, line)) {
+    struct text rest = skip_mark(list->input);
+    struct origin origin = {0, nothing};
+    while (rest.length > 0) {
+        if (!next_line(list->file, &rest, &origin)) {
             return false;
         }
-        const char *comment = memchr(line.at, '#', line.length);
-        if (comment != NULL) {
-            line.length = (size_t)(comment - line.at);
-        }
-        struct origin origin = {number, trim(line)};
         if (origin.rule.length > 0 && !read_rule(list, origin)) {
             return false;
         }

@@ -28,6 +28,9 @@ static struct words words_of(int number)
     case UTVPI_BAD_BOUND:
         return (struct words){"the bound is below -1,000,000 or above 1,000,000",
                               "choose a coarser unit, or an origin nearer to the values"};
+    case UTVPI_LONG_REFUTATION:
+        return (struct words){"the refutation has more than 65,536 numbers",
+                              "look for a shorter one; with --numbers this program gives one"};
     case UTVPI_BROKEN_LIST_LENGTH:
         return (struct words){"the list has a broken length", fault};
     case UTVPI_SHORT_OUTPUT:
@@ -56,12 +59,13 @@ static struct origin offender(const struct list *list, int number, int place)
     return none;
 }
 
-void print_refusal(const struct list *list, int64_t result)
+/* Prints a refusal of what stands in this file: the list, or a refutation of it. */
+void print_refusal(const struct list *list, const char *file, int64_t result)
 {
     int number = UTVPI_REFUSAL_NUMBER(result), place = UTVPI_REFUSAL_PLACE(result);
     struct words words = words_of(number);
     struct origin origin = offender(list, number, place);
-    fprintf(stderr, "utvpi: %s", list->file);
+    fprintf(stderr, "utvpi: %s", file);
     if (origin.line > 0) {
         fprintf(stderr, ", line %zu", origin.line);
     }

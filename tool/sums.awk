@@ -1,6 +1,7 @@
-# Reads a file of rules, then what the tool printed about it, and checks a no:
-# each quoted rule stands in the line named, the rules add up to the sums printed,
-# and these to something false. Prints what is wrong, if anything.
+# Reads a file of rules, then what the tool printed about it, and checks a no, or a
+# yes on a refutation: each quoted rule stands in the line named, the rules add up
+# to the sums printed, and these to something false; with can_hold, to something
+# that is not. Prints what is wrong, if anything.
 
 # Adds a combination such as "x - 2*y <= 3" to sum[], and its bound to sum["<="].
 function add(text, sum,    part, count, at, sign, factor) {
@@ -77,15 +78,15 @@ FNR == NR {
             both[key] += printed[key]
         }
         walks++
-    } else if (bound >= 0) {
-        print "not false: " text
+    } else if ((bound >= 0) != can_hold) {
+        print "not as it says, false or not: " text
     }
     sums++
     split("", walk)
 }
 
 /^  Together: / {
-    if ($4 + 0 != halves || halves >= 0 || walks != 2) print "not false together: " $0
+    if ($4 + 0 != halves || (halves >= 0) != can_hold || walks != 2) print "not so together: " $0
     for (key in both) if (both[key] != 0) print "does not cancel: " key
     together = 1
 }

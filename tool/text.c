@@ -1,5 +1,5 @@
-/* The bytes of the input: loading them, the kinds of characters, and showing a
- * part of them, in an error too. */
+/* The bytes of an input: loading them, the kinds of characters, showing a part of
+ * them, in an error too, and cutting them into lines. */
 #include "list.h"
 
 #include <errno.h>
@@ -40,7 +40,7 @@ bool load(FILE *from, const char *file, struct text *input)
             return not_loaded(file, bytes, errno != 0 ? strerror(errno) : "it can't be read");
         }
         if (length > MOST_BYTES) {
-            return not_loaded(file, bytes, "it has more than 16 MiB: leave out what is not rules");
+            return not_loaded(file, bytes, "it has more than 16 MiB: leave out what is not needed");
         }
         if (got == 0) {
             input->at = bytes;
@@ -97,12 +97,12 @@ void show(FILE *to, struct text text)
     }
 }
 
-/* Says what is wrong with a rule and what to do. The part, where it is not empty,
- * begins the sentence. Gives back false. */
-bool wrong(const struct list *list, struct origin origin, struct text part, const char *what,
-           const char *advice)
+/* Says what is wrong in a line of a file and what to do. The part, where it is not
+ * empty, begins the sentence. Gives back false. */
+bool wrong_in(const char *file, struct origin origin, struct text part, const char *what,
+              const char *advice)
 {
-    fprintf(stderr, "utvpi: %s, line %zu: ", list->file, origin.line);
+    fprintf(stderr, "utvpi: %s, line %zu: ", file, origin.line);
     if (part.length > 0) {
         fputc('"', stderr);
         show(stderr, part);
@@ -116,4 +116,61 @@ bool wrong(const struct list *list, struct origin origin, struct text part, cons
     }
     fprintf(stderr, "  What to do: %s.\n", advice);
     return false;
+}
+
+/* The same with a rule of the list. */
+bool wrong(const struct list *list, struct origin origin, struct text part, const char *what,
+           const char *advice)
+{
+    return wrong_in(list->file, origin, part, what, advice);
+}
+
+/* The input without the mark that some editors put before a text. */
+struct text skip_mark(struct text input)
+{
+    if (input.length >= 3 && memcmp(input.at, "\xEF\xBB\xBF", 3) == 0) {
+        input.at += 3;
+        input.length -= 3;
+    }
+    return input;
+}
+
+/* Looks for bytes that no text has, in comments too: a file that is not text may
+ * look like one long comment. */
+static bool is_plain(const char *file, size_t number, struct text line)
+{
+    struct origin origin = {number, {"", 0}};
+    for (size_t at = 0; at < line.length; at++) {
+        unsigned char c = (unsigned char)line.at[at];
+        if ((c < 32 && c != '\t') || c == 127) {
+            struct text part = {line.at + at, 1};
+            return wrong_in(file, origin, part, "is a character that no text has",
+                            "give a plain text file whose lines end with LF or CR LF");
+        }
+    }
+    return true;
+}
+
+/* Takes the next line off the rest of the input: its number, one above the last,
+ * and what stands there but for comment and blanks. False where it is no text. */
+bool next_line(const char *file, struct text *rest, struct origin *origin)
+{
+    const char *end = memchr(rest->at, '\n', rest->length);
+    struct text line = {rest->at, end == NULL ? rest->length : (size_t)(end - rest->at)};
+    size_t taken = end == NULL ? line.length : line.length + 1;
+    rest->at += taken;
+    rest->length -= taken;
+    origin->line++;
+    if (line.length > 0 && line.at[line.length - 1] == '\r') {
+        line.length--;
+    }
+    if (!is_plain(file, origin->line, line)) {
+        return false;
+    }
+    const char *comment = memchr(line.at, '#', line.length);
+    if (comment != NULL) {
+        line.length = (size_t)(comment - line.at);
+    }
+    origin->rule = trim(line);
+    return true;
 }

@@ -1,53 +1,12 @@
 /* The command: decides a list of rules given as text, checks the answer with the
- * library's two checkers, and prints it in words. */
+ * library's two checkers, and prints it in words. Or it checks a refutation that
+ * someone proposes. */
 #include "list.h"
 
 #include <errno.h>
+#include <inttypes.h>
 #include <stdlib.h>
 #include <string.h>
-
-static const char help[] =
-    "Usage: utvpi [FILE]\n"
-    "\n"
-    "Says whether whole numbers exist that meet all the rules in FILE, or on standard\n"
-    "input where there is no FILE or it is \"-\".\n"
-    "\n"
-    "An event is anything that has a whole number: the tick at which a door opened, as\n"
-    "one recorder counted it. A rule bounds one event, or the sum or difference of two.\n"
-    "One rule to a line; # begins a comment. In words:\n"
-    "\n"
-    "    cause - brake <= -1     the brake came at least one tick after its cause\n"
-    "    up + down <= 400        these two counters together never pass 400\n"
-    "    t >= 5                  t is at tick 5 or later\n"
-    "    a + b = 10              equal: stands for <= and >= together\n"
-    "    x <= y - 3              names and numbers may stand on both sides\n"
-    "    x + x <= 7              one event may be named twice\n"
-    "\n"
-    "With all names moved to the left, at most two may remain, each with + or -. A name\n"
-    "has letters, digits, _ and points, and begins with a letter or _. For x < y write\n"
-    "x <= y - 1. Or, throughout the file, as five numbers a x b y d that say\n"
-    "a*x + b*y <= d, with blanks or commas between them:\n"
-    "\n"
-    "    variables 3             how many there are; may be left out\n"
-    "    1 0 -1 1 5              x0 - x1 <= 5\n"
-    "    -1,2,0,0,-7             -x2 <= -7\n"
-    "\n"
-    "a and b are -1, 0 or 1; x and y count the variables from 0, and are 0 beside a\n"
-    "coefficient 0. At most 64 events and 512 rules (one with = counts twice), and\n"
-    "bounds from -1,000,000 to 1,000,000.\n"
-    "\n"
-    "The answer is one of these:\n"
-    "\n"
-    "    Yes, with a value for each event; the least and the greatest value that it can\n"
-    "    have; and its group, the events that always have the same value as it.\n"
-    "\n"
-    "    No, with rules from the file that can't all be met, and how they add up to\n"
-    "    something false, such as 0 <= -2. Sometimes fractions would do where whole\n"
-    "    numbers don't: then rules add up to 2*x <= 1, which for a whole number means\n"
-    "    x <= 0, and others to -2*x <= -1, which means -x <= -1. Together: 0 <= -1.\n"
-    "\n"
-    "Exit status: 0 yes; 1 no; 2 no answer, as something is wrong with the input; 3 the\n"
-    "answer did not pass its check, so that it can't be trusted.\n";
 
 static int64_t model[UTVPI_MODEL_ROOM(UTVPI_MOST_VARIABLES)];
 static int64_t bounds[UTVPI_BOUNDS_ROOM(UTVPI_MOST_VARIABLES)];
@@ -86,6 +45,11 @@ static int disagree(const char *what)
     return STATUS_DISAGREE;
 }
 
+static bool within_limits(const struct list *list)
+{
+    return list->variables <= UTVPI_MOST_VARIABLES && list->count <= UTVPI_MOST_LINES;
+}
+
 static int answer_yes(const struct list *list)
 {
     size_t n = (size_t)list->variables, length = pack_list(list);
@@ -102,7 +66,8 @@ static int answer_yes(const struct list *list)
     return STATUS_YES;
 }
 
-static int answer_no(const struct list *list)
+/* Prints a no, in words or, to be checked later, in numbers. */
+static int answer_no(const struct list *list, bool in_numbers)
 {
     static const char fails[] =
         "the library answered no, but its refutation fails the library's own check";
@@ -118,45 +83,143 @@ static int answer_no(const struct list *list)
                                              4 * (size_t)count))) {
         return disagree(fails);
     }
-    print_no(list, refutation);
+    if (in_numbers) {
+        for (size_t at = 0; at < count; at++) {
+            printf(at > 0 ? " %" PRIu32 : "%" PRIu32, refutation[at]);
+        }
+        putchar('\n');
+    } else {
+        print_no(list, refutation, "No. No whole numbers meet all the rules.");
+    }
     return STATUS_NO;
+}
+
+/* The list's numbers: a pointer to something, even where there are none. */
+static const int32_t *numbers_of(const struct list *list)
+{
+    static const int32_t empty[5] = {0, 0, 0, 0, 0};
+    return list->count > 0 ? list->numbers : empty;
 }
 
 /* Decides the list, which the library may refuse. An answer is given only to a
  * list within the limits of the buffers above. */
-static int answer(const struct list *list)
+static int answer(const struct list *list, bool in_numbers)
 {
-    static const int32_t empty[5] = {0, 0, 0, 0, 0};
     int64_t result = utvpi_decide(
-        list->variables, list->count > 0 ? list->numbers : empty, 5 * list->count,
+        list->variables, numbers_of(list), 5 * list->count,
         model, UTVPI_MODEL_ROOM(UTVPI_MOST_VARIABLES),
         bounds, UTVPI_BOUNDS_ROOM(UTVPI_MOST_VARIABLES),
         groups, UTVPI_GROUPS_ROOM(UTVPI_MOST_VARIABLES),
         refutation, UTVPI_REFUTATION_ROOM(UTVPI_MOST_VARIABLES),
         work, UTVPI_WORK_ROOM(UTVPI_MOST_VARIABLES));
     if (UTVPI_IS_REFUSAL(result)) {
-        print_refusal(list, result);
+        print_refusal(list, list->file, result);
         return STATUS_BAD;
     }
-    if (list->variables > UTVPI_MOST_VARIABLES || list->count > UTVPI_MOST_LINES) {
+    if (!within_limits(list)) {
         return disagree("the library answered a list that is beyond its limits");
     }
     if (UTVPI_IS_YES(result)) {
         return answer_yes(list);
     }
-    return UTVPI_IS_NO(result) ? answer_no(list)
+    return UTVPI_IS_NO(result) ? answer_no(list, in_numbers)
                                : disagree("the library gave a number that is no answer");
 }
 
-/* Reads and decides one file. */
-static int run(FILE *from, const char *file)
+/* Checks a proposed refutation, number by number, so that neither it nor the list
+ * need be packed. The answer is printed only if this program finds the same. */
+static int answer_check(const struct list *list, const struct proposal *proposal)
 {
-    static struct list list;
-    list.file = file;
-    if (!load(from, file, &list.input)) {
+    utvpi_progress kept = utvpi_refutation_begin();
+    for (size_t at = 0; at < proposal->count; at++) {
+        kept = utvpi_refutation_take(kept, numbers_of(list), 5 * list->count,
+                                     proposal->numbers[at]);
+    }
+    int64_t result =
+        utvpi_refutation_end(kept, list->variables, numbers_of(list), 5 * list->count);
+    if (UTVPI_IS_REFUSAL(result)) {
+        bool long_one = UTVPI_REFUSAL_NUMBER(result) == UTVPI_LONG_REFUTATION;
+        print_refusal(list, long_one ? proposal->file : list->file, result);
         return STATUS_BAD;
     }
-    int status = read_list(&list) ? answer(&list) : STATUS_BAD;
+    if (!within_limits(list) || proposal->count > UTVPI_MOST_REFUTATION) {
+        return disagree("the library answered what is beyond its limits");
+    }
+    struct fault fault = first_fault(list, proposal);
+    if (UTVPI_IS_YES(result) && fault.reason == NO_FAULT) {
+        print_no(list, proposal->numbers,
+                 "Yes. This shows that no whole numbers meet all the rules.");
+        return STATUS_YES;
+    }
+    if (UTVPI_IS_NO(result) && fault.reason != NO_FAULT &&
+        (size_t)UTVPI_NO_PLACE(result) == fault.place) {
+        print_broken(list, proposal, fault);
+        return STATUS_NO;
+    }
+    return disagree("the library's answer on the refutation is not what this program finds");
+}
+
+static bool is_standard_input(const char *file)
+{
+    return strcmp(file, "-") == 0;
+}
+
+/* How a file is called in what is printed. */
+static const char *called(const char *file)
+{
+    return is_standard_input(file) ? "standard input" : file;
+}
+
+/* Loads a file, or standard input. Says what is wrong where it can't. */
+static bool load_file(const char *file, struct text *input)
+{
+    if (is_standard_input(file)) {
+        return load(stdin, called(file), input);
+    }
+    FILE *from = fopen(file, "rb");
+    if (from == NULL) {
+        fprintf(stderr, "utvpi: %s: %s\n", file, strerror(errno));
+        return false;
+    }
+    bool loaded = load(from, file, input);
+    fclose(from);
+    return loaded;
+}
+
+/* Reads the proposed refutation and checks it. */
+static int run_check(const struct list *list, const char *file)
+{
+    static struct proposal proposal;
+    proposal.file = called(file);
+    if (!load_file(file, &proposal.input)) {
+        return STATUS_BAD;
+    }
+    int status = read_proposal(&proposal) ? answer_check(list, &proposal) : STATUS_BAD;
+    free((void *)proposal.input.at);
+    return status;
+}
+
+/* What is asked for. Without a proposed refutation, the list is decided. */
+struct command {
+    bool help;
+    bool in_numbers;
+    const char *proposed;
+    const char *file;
+};
+
+/* Reads the list and does what is asked for. */
+static int run(const struct command *command)
+{
+    static struct list list;
+    int status = STATUS_BAD;
+    list.file = called(command->file);
+    if (!load_file(command->file, &list.input)) {
+        return STATUS_BAD;
+    }
+    if (read_list(&list)) {
+        status = command->proposed != NULL ? run_check(&list, command->proposed)
+                                           : answer(&list, command->in_numbers);
+    }
     free(list.numbers);
     free(list.origins);
     free((void *)list.input.at);
@@ -173,26 +236,53 @@ static int finish(int status)
     return status;
 }
 
+/* Reads the command line. Gives back what is wrong with it, or NULL. */
+static const char *read_command(int argc, char **argv, struct command *command)
+{
+    for (int at = 1; at < argc; at++) {
+        if (strcmp(argv[at], "--help") == 0 || strcmp(argv[at], "-h") == 0) {
+            command->help = true;
+        } else if (strcmp(argv[at], "--numbers") == 0) {
+            command->in_numbers = true;
+        } else if (strcmp(argv[at], "--check") == 0) {
+            at++;
+            if (at == argc || command->proposed != NULL) {
+                return "--check takes one REFUTATION: a file, or - for standard input";
+            }
+            command->proposed = argv[at];
+        } else if (argv[at][0] == '-' && argv[at][1] != '\0') {
+            return "there are only the options --check, --numbers and --help";
+        } else if (command->file != NULL) {
+            return "this takes one FILE, or none for standard input";
+        } else {
+            command->file = argv[at];
+        }
+    }
+    if (command->file == NULL) {
+        command->file = "-";
+    }
+    if (command->proposed == NULL) {
+        return NULL;
+    }
+    if (command->in_numbers) {
+        return "--numbers is for deciding, and --check decides nothing: give one of them";
+    }
+    return is_standard_input(command->proposed) && is_standard_input(command->file)
+               ? "REFUTATION and FILE can't both be standard input: name one of them"
+               : NULL;
+}
+
 int main(int argc, char **argv)
 {
-    if (argc == 2 && (strcmp(argv[1], "--help") == 0 || strcmp(argv[1], "-h") == 0)) {
+    struct command command = {false, false, NULL, NULL};
+    const char *wrong_use = read_command(argc, argv, &command);
+    if (command.help) {
         fputs(help, stdout);
         return finish(0);
     }
-    if (argc > 2 || (argc == 2 && argv[1][0] == '-' && argv[1][1] != '\0')) {
-        fputs("utvpi: this takes one FILE, or none for standard input; utvpi --help explains\n",
-              stderr);
+    if (wrong_use != NULL) {
+        fprintf(stderr, "utvpi: %s; utvpi --help explains\n", wrong_use);
         return STATUS_BAD;
     }
-    if (argc < 2 || strcmp(argv[1], "-") == 0) {
-        return finish(run(stdin, "standard input"));
-    }
-    FILE *from = fopen(argv[1], "rb");
-    if (from == NULL) {
-        fprintf(stderr, "utvpi: %s: %s\n", argv[1], strerror(errno));
-        return STATUS_BAD;
-    }
-    int status = run(from, argv[1]);
-    fclose(from);
-    return finish(status);
+    return finish(run(&command));
 }

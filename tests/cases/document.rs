@@ -16,7 +16,7 @@ fn refutation(n: u64, lines: &[Line], numbers: &[u32]) -> Answer {
 fn cases_1_and_2_nothing_asked() {
     for n in 0..=64 {
         assert_eq!(model(n, &[], &vec![0; n as usize]), Yes);
-        assert_eq!(refutation(n, &[], &[3, 1, 0, 0]), No(0));
+        assert_eq!(refutation(n, &[], &[3, 1, 0, 0]), No(3));
         assert_eq!(refutation(n, &[], &[]), No(0));
     }
 }
@@ -25,7 +25,7 @@ fn cases_1_and_2_nothing_asked() {
 fn case_3_a_false_line() {
     assert_eq!(refutation(0, &[[0, 0, 0, 0, -1]], &[3, 1, 0, 0]), Yes);
     assert_eq!(model(0, &[[0, 0, 0, 0, -1]], &[]), No(0));
-    assert_eq!(refutation(0, &[[0, 0, 0, 0, 0]], &[3, 1, 0, 0]), No(0));
+    assert_eq!(refutation(0, &[[0, 0, 0, 0, 0]], &[3, 1, 0, 0]), No(3));
     assert_eq!(model(0, &[[0, 0, 0, 0, 0]], &[]), Yes);
 }
 
@@ -33,12 +33,12 @@ fn case_3_a_false_line() {
 fn case_4_only_halves_would_solve_it() {
     assert_eq!(refutation(3, &CASE_4, &[2, 2, 2, 0, 3, 4, 7]), Yes);
     // With S = 1 and T = -1 the sum of both is 0, so one walk is not enough.
-    assert_eq!(refutation(3, &CASE_4, &[1, 4, 0, 0, 3, 4, 7]), No(0));
+    assert_eq!(refutation(3, &CASE_4, &[1, 4, 0, 0, 3, 4, 7]), No(6));
     // The variant without the last line, and one with its bound raised.
-    assert_eq!(refutation(3, &CASE_4[..3], &[2, 2, 2, 0, 3, 4, 7]), No(0));
+    assert_eq!(refutation(3, &CASE_4[..3], &[2, 2, 2, 0, 3, 4, 7]), No(6));
     let mut raised = CASE_4;
     raised[3][4] = 4;
-    assert_eq!(refutation(3, &raised, &[2, 2, 2, 0, 3, 4, 7]), No(0));
+    assert_eq!(refutation(3, &raised, &[2, 2, 2, 0, 3, 4, 7]), No(6));
     assert_eq!(model(3, &raised, &[0, -1, 4]), Yes);
 }
 
@@ -70,7 +70,7 @@ fn case_6_equal_without_a_cycle_of_sum_0() {
 fn case_7_a_variable_below_itself() {
     assert_eq!(refutation(1, &[[1, 0, -1, 0, -1]], &[1, 1, 0, 0]), Yes);
     assert_eq!(refutation(1, &[[1, 0, -1, 0, -1]], &[1, 1, 0, 1]), Yes);
-    assert_eq!(refutation(1, &[[1, 0, -1, 0, 0]], &[1, 1, 0, 0]), No(0));
+    assert_eq!(refutation(1, &[[1, 0, -1, 0, 0]], &[1, 1, 0, 0]), No(3));
     assert_eq!(model(1, &[[1, 0, -1, 0, 0]], &[5]), Yes);
     assert_eq!(model(1, &[[1, 0, -1, 0, -1]], &[5]), No(0));
 }
@@ -81,8 +81,8 @@ fn case_8_one_variable_between_two_bounds() {
     let yes = [[1, 0, 0, 0, 3], [-1, 0, 0, 0, -3]];
     assert_eq!(refutation(1, &no, &[1, 2, 0, 0, 2]), Yes);
     assert_eq!(refutation(1, &no, &[2, 1, 1, 0, 2]), Yes);
-    assert_eq!(refutation(1, &yes, &[1, 2, 0, 0, 2]), No(0));
-    assert_eq!(refutation(1, &yes, &[2, 1, 1, 0, 2]), No(0));
+    assert_eq!(refutation(1, &yes, &[1, 2, 0, 0, 2]), No(4));
+    assert_eq!(refutation(1, &yes, &[2, 1, 1, 0, 2]), No(4));
     assert_eq!(model(1, &yes, &[3]), Yes);
     assert_eq!(model(1, &yes, &[4]), No(0));
     assert_eq!(model(1, &yes, &[2]), No(1));
@@ -113,7 +113,7 @@ fn case_11_the_largest_list() {
     let lines = largest();
     assert_eq!(model(64, &lines, &[500_000; 64]), Yes);
     assert_eq!(model(64, &lines, &[500_001; 64]), No(0));
-    assert_eq!(refutation(64, &lines, &[1, 1, 0, 0]), No(0));
+    assert_eq!(refutation(64, &lines, &[1, 1, 0, 0]), No(3));
     let mut refuted = lines.clone();
     refuted[511] = [0, 0, 0, 0, -1_000_000];
     assert_eq!(refutation(64, &refuted, &[3, 1, 0, 1022]), Yes);
@@ -197,7 +197,8 @@ fn case_12_variables_and_coefficients() {
 
 #[test]
 fn case_13_the_second_walk_breaks() {
-    assert_eq!(refutation(3, &CASE_4, &[2, 2, 2, 0, 3, 4, 6]), No(0));
+    // The last step begins at -x, where z is due.
+    assert_eq!(refutation(3, &CASE_4, &[2, 2, 2, 0, 3, 4, 6]), No(6));
 }
 
 /// A point: a variable, and 1 for it or -1 for its negative.
@@ -230,14 +231,19 @@ const TABLE: [Row; 9] = [
 
 /// Tries step `number` of line 1 against every pair of points: line 0 leads back
 /// from the second to the first, and closes the walk only if the step is `due`.
+/// The place of a no tells a step that is none from one that leads elsewhere.
 fn try_step(line: Line, number: u32, due: Option<(Point, Point)>, weight: i32) {
     let points = [X, Y, NOT_X, NOT_Y];
     for (from, to) in points.map(|from| points.map(|to| (from, to))).concat() {
         for sum in [-1, 0] {
             let back = [to.1, to.0, -from.1, from.0, sum - weight];
-            let yes = due == Some((from, to)) && sum < 0;
+            let expected = match due {
+                None => No(3),
+                Some(step) if step == (from, to) && sum < 0 => Yes,
+                Some(_) => No(4),
+            };
             let answer = refutation(2, &[back, line], &[1, 2, 0, number, 0]);
-            assert_eq!(answer == Yes, yes, "{line:?} {number} {from:?} {to:?}");
+            assert_eq!(answer, expected, "{line:?} {number} {from:?} {to:?}");
         }
     }
 }

@@ -17,7 +17,7 @@ const MOST_NUMBERS: usize = 65_536;
 
 /// A state as it is stored while no checker runs: its numbers, eight bytes each,
 /// and one byte more.
-type Stored = [u8; 65];
+type Stored = [u8; 73];
 
 fn store(kept: Progress) -> Stored {
     let Progress {
@@ -30,8 +30,9 @@ fn store(kept: Progress) -> Stored {
         first,
         second,
         good,
+        wrong,
     } = kept;
-    let counts = [read, kind, p, q, u, here].map(|number| (number as u64).to_le_bytes());
+    let counts = [read, kind, p, q, u, here, wrong].map(|number| (number as u64).to_le_bytes());
     let sums = [first, second].map(i64::to_le_bytes);
     let bytes = [counts.concat(), sums.concat(), vec![u8::from(good)]].concat();
     bytes.try_into().unwrap()
@@ -48,9 +49,10 @@ fn restore(stored: &Stored) -> Progress {
         q: count(3),
         u: count(4),
         here: count(5),
-        first: sum(6),
-        second: sum(7),
-        good: stored[64] == 1,
+        wrong: count(6),
+        first: sum(7),
+        second: sum(8),
+        good: stored[72] == 1,
     }
 }
 
@@ -221,7 +223,8 @@ fn random_pieces() {
 }
 
 /// The description's short refutations, cut in every way there is, empty pieces
-/// at either end among them. No part of one that comes before its end is a yes.
+/// at either end among them. A part of one that comes before its end has no head
+/// yet, or too few numbers for its counts, whatever its steps are.
 #[test]
 fn all_ways_to_cut() {
     let bounds = |d| vec![[1, 0, 0, 0, 3], [-1, 0, 0, 0, d]];
@@ -230,33 +233,37 @@ fn all_ways_to_cut() {
     let cases: [(u64, Vec<Line>, &[u32], Answer); 15] = [
         // Case 3.
         (0, vec![[0, 0, 0, 0, -1]], &[3, 1, 0, 0], Yes),
-        (0, vec![[0, 0, 0, 0, 0]], &[3, 1, 0, 0], No(0)),
+        (0, vec![[0, 0, 0, 0, 0]], &[3, 1, 0, 0], No(3)),
         // Case 4, and case 13 on the same list.
         (3, CASE_4.to_vec(), &[2, 2, 2, 0, 3, 4, 7], Yes),
-        (3, CASE_4.to_vec(), &[1, 4, 0, 0, 3, 4, 7], No(0)),
-        (3, CASE_4.to_vec(), &[2, 2, 2, 0, 3, 4, 6], No(0)),
-        (3, CASE_4[..3].to_vec(), &[2, 2, 2, 0, 3, 4, 7], No(0)),
-        (3, raised, &[2, 2, 2, 0, 3, 4, 7], No(0)),
+        (3, CASE_4.to_vec(), &[1, 4, 0, 0, 3, 4, 7], No(6)),
+        (3, CASE_4.to_vec(), &[2, 2, 2, 0, 3, 4, 6], No(6)),
+        (3, CASE_4[..3].to_vec(), &[2, 2, 2, 0, 3, 4, 7], No(6)),
+        (3, raised, &[2, 2, 2, 0, 3, 4, 7], No(6)),
         // Case 7.
         (1, vec![[1, 0, -1, 0, -1]], &[1, 1, 0, 0], Yes),
         (1, vec![[1, 0, -1, 0, -1]], &[1, 1, 0, 1], Yes),
-        (1, vec![[1, 0, -1, 0, 0]], &[1, 1, 0, 0], No(0)),
+        (1, vec![[1, 0, -1, 0, 0]], &[1, 1, 0, 0], No(3)),
         // Case 8.
         (1, bounds(-4), &[1, 2, 0, 0, 2], Yes),
         (1, bounds(-4), &[2, 1, 1, 0, 2], Yes),
-        (1, bounds(-3), &[1, 2, 0, 0, 2], No(0)),
-        (1, bounds(-3), &[2, 1, 1, 0, 2], No(0)),
+        (1, bounds(-3), &[1, 2, 0, 0, 2], No(4)),
+        (1, bounds(-3), &[2, 1, 1, 0, 2], No(4)),
         // A list that is refused, under a refutation that is read all the same.
         (0, vec![[1, 0, -1, 0, -1]], &[1, 1, 0, 0], Refused(5, 0)),
     ];
     for (n, lines, numbers, due) in cases {
-        let early = if due == Yes { No(0) } else { due };
+        let due_after = |read: usize| match due {
+            Refused(..) => due,
+            _ if read == numbers.len() => due,
+            _ if read < 3 => No(0),
+            _ => No(2),
+        };
         for way in 0..1 << (numbers.len() + 1) {
             let mut reading = Reading::begin(n, &lines.concat(), numbers);
             for place in (0..=numbers.len()).filter(|place| way >> place & 1 == 1) {
                 reading.take_up_to(place);
-                let at_end = place == numbers.len();
-                assert_eq!(reading.answer(), if at_end { due } else { early });
+                assert_eq!(reading.answer(), due_after(place));
             }
             reading.take_up_to(numbers.len());
             assert_eq!(reading.answer(), due, "{numbers:?} cut at {way:b}");
@@ -299,11 +306,11 @@ const LENGTHS: [usize; 4] = [MOST_NUMBERS - 1, MOST_NUMBERS, MOST_NUMBERS + 1, 7
 
 /// The answer that is due on so many numbers, where it is this unless they are
 /// too many.
-fn unless_long(length: usize, yes: bool) -> Answer {
-    match yes {
-        _ if length > MOST_NUMBERS => Refused(11, 0),
-        true => Yes,
-        false => No(0),
+fn unless_long(length: usize, answer: Answer) -> Answer {
+    if length > MOST_NUMBERS {
+        Refused(11, 0)
+    } else {
+        answer
     }
 }
 
@@ -316,19 +323,19 @@ fn lengths_of_one_walk() {
         // x - x ≤ d: each step leads from x to x. The 32 low bits of 65,533 times
         // -983,040 are those of a number above 0.
         for d in [-1_000_000, -983_040, -1, 0] {
-            let due = unless_long(length, d < 0);
+            let due = unless_long(length, if d < 0 { Yes } else { No(length - 1) });
             assert_eq!(answer_if_long(1, &[1, 0, -1, 0, d], &right), due, "{d}");
         }
         let list = [1, 0, -1, 0, -1];
         // Counts that are right where as many numbers are read as are let in.
         let most = of_length(MOST_NUMBERS - 3, length);
-        let due = unless_long(length, length == MOST_NUMBERS);
+        let due = unless_long(length, if length == MOST_NUMBERS { Yes } else { No(2) });
         assert_eq!(answer_if_long(1, &list, &most), due, "{length}");
         // A step that is none, at either end and in the middle.
         for place in [3, length / 2, length - 1] {
             let mut wrong = right.clone();
             wrong[place] = 2;
-            let due = unless_long(length, false);
+            let due = unless_long(length, No(place));
             assert_eq!(answer_if_long(1, &list, &wrong), due, "{place}");
         }
     }
@@ -348,12 +355,12 @@ fn lengths_of_two_walks() {
         }
         for list in [halves, largest] {
             numbers[..3].copy_from_slice(&[1, steps as u32, 0]);
-            let closed = steps % 2 == 0;
-            let due = unless_long(length, closed);
+            let end = if steps % 2 == 0 { Yes } else { No(length - 1) };
+            let due = unless_long(length, end);
             assert_eq!(answer_if_long(1, &list, &numbers), due, "{length}");
             for p in [1, 32_767, steps - 2, steps - 1] {
                 numbers[..3].copy_from_slice(&[2, p as u32, (steps - p) as u32]);
-                let due = unless_long(length, closed && p % 2 == 1);
+                let due = unless_long(length, if p % 2 == 1 { end } else { No(2 + p) });
                 assert_eq!(answer_if_long(1, &list, &numbers), due, "{length}, {p}");
             }
         }
@@ -428,6 +435,7 @@ fn made_wild(chance: &mut Chance, mut kept: Progress) -> Progress {
         &mut kept.q,
         &mut kept.u,
         &mut kept.here,
+        &mut kept.wrong,
     ];
     for count in counts {
         if chance.one_in(often) {
@@ -447,18 +455,26 @@ fn made_wild(chance: &mut Chance, mut kept: Progress) -> Progress {
         kept.read = kept.p.wrapping_add(kept.q).wrapping_add(3);
         kept.here = kept.u;
         kept.good = true;
+        kept.wrong = chance.pick(&[0, kept.wrong, kept.read]);
     }
     kept
 }
 
 /// Takes the numbers. In any state one number more is counted, up to one more
-/// than are let in, and what was wrong stays wrong.
+/// than are let in. What was wrong stays wrong, and the place of it stays too: it
+/// changes only as something turns wrong, and then to the number just taken.
 fn take_all(mut kept: Progress, list: &[i32], numbers: &[u32]) -> Progress {
     for &number in numbers {
         let next = library::refutation_take(kept, list, number);
         let due = kept.read.min(MOST_NUMBERS) + 1;
         assert_eq!(next.read, due, "{kept:?}, {number}");
         assert!(kept.good || !next.good, "{kept:?}, {number}");
+        let turned = kept.good && !next.good && next.wrong == kept.read;
+        let same = next.wrong == kept.wrong;
+        assert!(same || turned, "{kept:?}, {number}, {next:?}");
+        // After the head nothing turns wrong without its place.
+        let placed = turned || kept.good == next.good || kept.read < 3;
+        assert!(placed, "{kept:?}, {number}, {next:?}");
         kept = next;
     }
     kept
@@ -466,27 +482,45 @@ fn take_all(mut kept: Progress, list: &[i32], numbers: &[u32]) -> Progress {
 
 /// What the end answers to any state: the list's refusal as the second
 /// implementation gives it, then 11 where too many numbers were read, then yes
-/// or no.
+/// or no. A yes has all its numbers and nothing wrong. A no's place is not beyond
+/// what was read; past the head it has all its numbers, and its place is the one
+/// that is kept, or the last number's where nothing was wrong before the end.
 fn answer_to(kept: Progress, n: u64, list: &[i32]) -> Answer {
     let result = library::refutation_end(kept, n, list);
     let answer = match second::check_refutation(n, &bytes::numbers(list), &[]) {
         Refused(number, place) => Refused(number, place),
         _ if kept.read > MOST_NUMBERS => Refused(11, 0),
         _ if result == 0 => Yes,
-        _ => No(0),
+        _ => No(usize::try_from(result - 1_000_000).unwrap_or(usize::MAX)),
     };
-    assert_eq!(result, answer.code(), "{kept:?}, n {n}, {list:?}");
+    let shown = || format!("{kept:?}, n {n}, {list:?}: {result}");
+    assert_eq!(result, answer.code(), "{}", shown());
+    let steps = kept.p.checked_add(kept.q);
+    let whole = steps.and_then(|steps| steps.checked_add(3)) == Some(kept.read);
+    match answer {
+        Yes => assert!(whole && kept.good, "{}", shown()),
+        No(0..=2) => assert!(kept.read <= MOST_NUMBERS, "{}", shown()),
+        No(place) => {
+            let last = kept.read.wrapping_sub(1);
+            let due = if kept.good { last } else { kept.wrong };
+            assert!(whole && place == due && place <= kept.read, "{}", shown());
+        }
+        Refused(..) => {}
+    }
     answer
 }
 
 /// States with numbers that no refutation leads to, on lists of which many are
 /// damaged: each call returns, each answer is one of those that there are, and a
-/// state in which something was wrong is never accepted.
+/// state in which something was wrong is never accepted. While nothing is wrong,
+/// the place that is kept means nothing, as long as it is not beyond what was
+/// read.
 #[test]
 fn any_state() {
     let mut chance = Chance::new(81);
     let mut seen = Seen::default();
     let (mut changed, mut changed_yes) = (0, 0);
+    let (mut at_kept_place, mut at_last_number) = (0, 0);
     for _ in 0..200_000 {
         let case = some_case(&mut chance);
         let (mut n, mut list) = (case.n, case.lines.concat());
@@ -511,8 +545,10 @@ fn any_state() {
                 _ => chance.below(2 * case.lines.len() + 2) as u32,
             });
         }
-        let answer = answer_to(take_all(wild, &list, &more), n, &list);
+        let end = take_all(wild, &list, &more);
+        let answer = answer_to(end, n, &list);
         seen.count(answer);
+        at_last_number += usize::from(end.good && matches!(answer, No(3..)));
         changed_yes += usize::from(wild != state && answer == Yes);
 
         // The same after something was wrong.
@@ -522,8 +558,22 @@ fn any_state() {
         };
         let after = answer_to(take_all(wrong, &list, &more), n, &list);
         assert_ne!(after, Yes, "{wrong:?}, n {n}, {list:?}, {more:?}");
+        at_kept_place += usize::from(matches!(after, No(3..)));
+
+        // The same with nothing wrong, and one place or another.
+        let [one, other] = [0, chance.below(wild.read.min(MOST_NUMBERS) + 1)].map(|wrong| {
+            let right = Progress {
+                good: true,
+                wrong,
+                ..wild
+            };
+            answer_to(take_all(right, &list, &more), n, &list)
+        });
+        assert_eq!(one, other, "{wild:?}, n {n}, {list:?}, {more:?}");
     }
     println!("{changed} states were changed, of which {changed_yes} were accepted");
+    println!("{at_kept_place} broke at the place kept, {at_last_number} at the last number");
+    assert!(at_kept_place >= 1_000 && at_last_number >= 1_000);
     seen.must_include(&[1, 2, 3, 4, 5, 6, 11], 200_000);
     assert!(changed >= 100_000 && changed_yes >= 1_000);
 }

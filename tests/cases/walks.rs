@@ -20,12 +20,18 @@ fn kind_2(n: u64, lines: &[Line], first: &[u32], second: &[u32]) -> Answer {
     refutation(n, lines, &[&counts[..], first, second].concat())
 }
 
-fn yes_if(yes: bool) -> Answer {
+/// Yes, or else a no at this place.
+fn yes_or(place: usize, yes: bool) -> Answer {
     if yes {
         Yes
     } else {
-        No(0)
+        No(place)
     }
+}
+
+/// Yes, or else a no for the sums of so many steps in all, at the last of them.
+fn yes_if_low(steps: usize, low: bool) -> Answer {
+    yes_or(2 + steps, low)
 }
 
 #[test]
@@ -39,17 +45,17 @@ fn halving_goes_toward_minus_infinity() {
             for (there, back) in [(0, 2), (0, 3), (1, 2), (1, 3)] {
                 assert_eq!(
                     kind_2(1, &lines, &[there], &[back]),
-                    yes_if(!solvable),
+                    yes_if_low(2, !solvable),
                     "{s} {t}"
                 );
                 assert_eq!(
                     kind_2(1, &lines, &[back], &[there]),
-                    yes_if(!solvable),
+                    yes_if_low(2, !solvable),
                     "{s} {t}"
                 );
                 assert_eq!(
                     kind_1(1, &lines, &[there, back]),
-                    yes_if(s + t < 0),
+                    yes_if_low(2, s + t < 0),
                     "{s} {t}"
                 );
             }
@@ -67,14 +73,14 @@ fn halves_that_are_named() {
     assert_eq!(halved(999_999, -999_999), Yes);
     assert_eq!(halved(-999_999, 999_998), Yes);
     // -7 halved is -4 and no less, 8 halved is 4, 9 halved is 4 and no more.
-    assert_eq!(halved(8, -7), No(0));
-    assert_eq!(halved(9, -7), No(0));
-    assert_eq!(halved(8, -8), No(0));
-    assert_eq!(halved(0, 0), No(0));
-    assert_eq!(halved(1, 0), No(0));
-    assert_eq!(halved(1, 1), No(0));
-    assert_eq!(halved(-1_000_000, 1_000_000), No(0));
-    assert_eq!(halved(-999_999, 1_000_000), No(0));
+    assert_eq!(halved(8, -7), No(4));
+    assert_eq!(halved(9, -7), No(4));
+    assert_eq!(halved(8, -8), No(4));
+    assert_eq!(halved(0, 0), No(4));
+    assert_eq!(halved(1, 0), No(4));
+    assert_eq!(halved(1, 1), No(4));
+    assert_eq!(halved(-1_000_000, 1_000_000), No(4));
+    assert_eq!(halved(-999_999, 1_000_000), No(4));
 }
 
 #[test]
@@ -85,14 +91,14 @@ fn a_lone_variable_counts_twice() {
                 [[1, 0, 0, 0, s], [0, 0, -1, 0, t]],
                 [[0, 0, 1, 0, s], [-1, 0, 0, 0, t]],
             ] {
-                assert_eq!(kind_1(1, &lines, &[0, 2]), yes_if(s + t < 0));
-                assert_eq!(kind_2(1, &lines, &[0], &[2]), yes_if(s + t < 0));
+                assert_eq!(kind_1(1, &lines, &[0, 2]), yes_if_low(2, s + t < 0));
+                assert_eq!(kind_2(1, &lines, &[0], &[2]), yes_if_low(2, s + t < 0));
             }
             // x ≤ s and -2x ≤ t.
             let mixed = [[1, 0, 0, 0, s], [-1, 0, -1, 0, t]];
-            assert_eq!(kind_1(1, &mixed, &[0, 2]), yes_if(2 * s + t < 0));
+            assert_eq!(kind_1(1, &mixed, &[0, 2]), yes_if_low(2, 2 * s + t < 0));
             let solvable = (-9..=9).any(|x| x <= s && -2 * x <= t);
-            assert_eq!(kind_2(1, &mixed, &[0], &[2]), yes_if(!solvable));
+            assert_eq!(kind_2(1, &mixed, &[0], &[2]), yes_if_low(2, !solvable));
         }
     }
 }
@@ -146,9 +152,15 @@ fn every_other_kind_or_count_is_a_no() {
             u32::MAX,
         ] {
             let other = [&[kind], &right[1..]].concat();
+            let place = match (kind, right[0]) {
+                // The counts do, but the false line is no step.
+                (1, 3) => 3,
+                (1..=3, _) => 1,
+                _ => 0,
+            };
             assert_eq!(
                 refutation(n, &lines, &other),
-                yes_if(kind == right[0]),
+                yes_or(place, kind == right[0]),
                 "{other:?}"
             );
         }
@@ -160,9 +172,14 @@ fn every_other_kind_or_count_is_a_no() {
         for &p in &counts {
             for &q in &counts {
                 let other = [&[right[0], p, q], &right[3..]].concat();
+                let suits = match right[0] {
+                    1 => p > 0 && q == 0,
+                    2 => p > 0 && q > 0,
+                    _ => (p, q) == (1, 0),
+                };
                 assert_eq!(
                     refutation(n, &lines, &other),
-                    yes_if(p == right[1] && q == right[2]),
+                    yes_or(1 + usize::from(suits), (p, q) == (right[1], right[2])),
                     "{other:?}"
                 );
             }
@@ -176,20 +193,22 @@ fn every_other_length_is_a_no() {
         for length in 0..right.len() {
             assert_eq!(
                 refutation(n, &lines, &right[..length]),
-                No(0),
+                No(if length < 3 { 0 } else { 2 }),
                 "{length} of {right:?}"
             );
         }
         for more in 1..=4 {
             for number in [0, 2, 6, *right.last().unwrap(), u32::MAX] {
                 let longer = [&right[..], &vec![number; more]].concat();
-                assert_eq!(refutation(n, &lines, &longer), No(0), "{longer:?}");
+                assert_eq!(refutation(n, &lines, &longer), No(2), "{longer:?}");
             }
         }
     }
     // Counts that match an empty rest.
     for kind in 0..=4 {
-        assert_eq!(refutation(3, &accepted()[0].1, &[kind, 0, 0]), No(0));
+        let place = usize::from((1..=3).contains(&kind));
+        let answer = refutation(3, &accepted()[0].1, &[kind, 0, 0]);
+        assert_eq!(answer, No(place), "{kind}");
     }
 }
 
@@ -205,7 +224,15 @@ fn a_step_that_is_none_or_leads_elsewhere_is_a_no() {
                 other[at] = number;
                 // Both sides of the lines on 2z are one and the same step.
                 let same = number == right[at] || (right[at] >= 14 && number == right[at] ^ 1);
-                assert_eq!(refutation(n, &lines, &other), yes_if(same), "{other:?}");
+                let answer = refutation(n, &lines, &other);
+                match answer {
+                    Yes => assert!(same, "{other:?}"),
+                    // A number that names no step is itself the place.
+                    No(place) if number >= 18 || right[0] == 3 => assert_eq!(place, at),
+                    No(place) => assert!(!same && at <= place && place < right.len()),
+                    Answer::Refused(..) => panic!("{other:?} is refused"),
+                }
+                assert_eq!(answer == Yes, same, "{other:?}");
             }
         }
     }
@@ -215,29 +242,29 @@ fn a_step_that_is_none_or_leads_elsewhere_is_a_no() {
 fn walks_that_do_not_meet_are_a_no() {
     let lines = accepted()[0].1.clone();
     // Open: x to y to z.
-    assert_eq!(kind_1(3, &lines, &[0, 2]), No(0));
+    assert_eq!(kind_1(3, &lines, &[0, 2]), No(4));
     // Closed, but two walks that do not meet: x to y to z to x, then z to -z.
-    assert_eq!(kind_1(3, &lines, &[0, 2, 5, 14]), No(0));
+    assert_eq!(kind_1(3, &lines, &[0, 2, 5, 14]), No(6));
     // Kind 2 from z to -z and from -y to y, each of a sum that would do.
-    assert_eq!(kind_2(3, &lines, &[14], &[12]), No(0));
+    assert_eq!(kind_2(3, &lines, &[14], &[12]), No(4));
     // Kind 2 whose second walk begins elsewhere, or whose first ends elsewhere.
-    assert_eq!(kind_2(3, &lines, &[14], &[0, 2]), No(0));
-    assert_eq!(kind_2(3, &lines, &[5], &[17]), No(0));
+    assert_eq!(kind_2(3, &lines, &[14], &[0, 2]), No(4));
+    assert_eq!(kind_2(3, &lines, &[5], &[17]), No(3));
     // Kind 2 from -z to z twice, and from a point to itself twice.
-    assert_eq!(kind_2(3, &lines, &[17], &[17]), No(0));
-    assert_eq!(kind_2(3, &lines, &[0, 2, 5], &[0, 2, 5]), No(0));
+    assert_eq!(kind_2(3, &lines, &[17], &[17]), No(4));
+    assert_eq!(kind_2(3, &lines, &[0, 2, 5], &[0, 2, 5]), No(5));
     // Kind 2 with closed walks of negative sums: not from a point to its opposite.
-    assert_eq!(kind_2(3, &lines, &[0, 2, 5], &[4, 3, 1]), No(0));
+    assert_eq!(kind_2(3, &lines, &[0, 2, 5], &[4, 3, 1]), No(5));
     // A false line is no step of a walk, and a true one refutes nothing.
-    assert_eq!(kind_1(3, &lines, &[6]), No(0));
-    assert_eq!(kind_1(3, &lines, &[7]), No(0));
-    assert_eq!(refutation(3, &lines, &[3, 1, 0, 7]), No(0));
-    assert_eq!(refutation(3, &lines, &[3, 1, 0, 8]), No(0));
-    assert_eq!(refutation(3, &lines, &[3, 2, 0, 6, 6]), No(0));
-    assert_eq!(refutation(3, &lines, &[3, 1, 1, 6, 6]), No(0));
-    assert_eq!(refutation(3, &lines, &[3, 0, 1, 6]), No(0));
+    assert_eq!(kind_1(3, &lines, &[6]), No(3));
+    assert_eq!(kind_1(3, &lines, &[7]), No(3));
+    assert_eq!(refutation(3, &lines, &[3, 1, 0, 7]), No(3));
+    assert_eq!(refutation(3, &lines, &[3, 1, 0, 8]), No(3));
+    assert_eq!(refutation(3, &lines, &[3, 2, 0, 6, 6]), No(1));
+    assert_eq!(refutation(3, &lines, &[3, 1, 1, 6, 6]), No(1));
+    assert_eq!(refutation(3, &lines, &[3, 0, 1, 6]), No(1));
     // Below 0 in its bound, but not without variables.
-    assert_eq!(refutation(3, &lines, &[3, 1, 0, 0]), No(0));
+    assert_eq!(refutation(3, &lines, &[3, 1, 0, 0]), No(3));
     // From y to -y and back.
     assert_eq!(kind_2(3, &lines, &[10], &[12]), Yes);
     assert_eq!(kind_1(3, &lines, &[10, 12]), Yes);
@@ -254,12 +281,12 @@ fn long_walks_of_the_largest_weights() {
         ] {
             assert_eq!(
                 kind_1(1, &same, &vec![0; steps]),
-                yes_if(sign < 0),
+                yes_if_low(steps, sign < 0),
                 "{steps}"
             );
             assert_eq!(
                 kind_1(1, &same, &vec![1; steps]),
-                yes_if(sign < 0),
+                yes_if_low(steps, sign < 0),
                 "{steps}"
             );
         }
@@ -270,11 +297,12 @@ fn long_walks_of_the_largest_weights() {
         ];
         for rounds in [1, 536, 537, 1073, 1074, 1075, 16_384, 32_766] {
             let walk = [0, 2].repeat(rounds);
-            assert_eq!(kind_1(1, &lone, &walk), yes_if(sign < 0), "{rounds}");
+            let due = yes_if_low(2 * rounds, sign < 0);
+            assert_eq!(kind_1(1, &lone, &walk), due, "{rounds}");
             for turn in [1, rounds | 1, 2 * rounds - 1] {
                 assert_eq!(
                     kind_2(1, &lone, &walk[..turn], &walk[turn..]),
-                    yes_if(sign < 0),
+                    due,
                     "{rounds}"
                 );
             }
@@ -303,15 +331,16 @@ fn long_walks_round_a_cycle() {
         for walk in [&round, &back] {
             let long = walk.repeat(MOST_STEPS / 13);
             assert_eq!(long.len(), MOST_STEPS);
-            assert_eq!(kind_1(13, &ring(last), &long), yes_if(last < 0), "{last}");
+            let due = yes_if_low(MOST_STEPS, last < 0);
+            assert_eq!(kind_1(13, &ring(last), &long), due, "{last}");
             // One step less, one more in place of another, one too many.
-            assert_eq!(kind_1(13, &ring(last), &long[1..]), No(0));
+            assert_eq!(kind_1(13, &ring(last), &long[1..]), No(1 + MOST_STEPS));
             let mut wrong = long.clone();
             wrong[MOST_STEPS / 2] ^= 1;
-            assert_eq!(kind_1(13, &ring(last), &wrong), No(0));
+            assert_eq!(kind_1(13, &ring(last), &wrong), No(3 + MOST_STEPS / 2));
             wrong = long.clone();
             wrong[MOST_STEPS - 1] = long[0];
-            assert_eq!(kind_1(13, &ring(last), &wrong), No(0));
+            assert_eq!(kind_1(13, &ring(last), &wrong), No(2 + MOST_STEPS));
         }
     }
 }
@@ -346,19 +375,21 @@ fn long_walks_of_kind_2() {
                 let lines = lines(s as i32, t as i32);
                 assert_eq!(
                     kind_2(1, &lines, &there, &down_at_x),
-                    yes_if(below),
+                    yes_if_low(2 * rounds + 2, below),
                     "{rounds} {s} {t}"
                 );
+                // The first step of `down` itself does not begin at x.
+                let place = 4 + rounds + usize::from(rounds > 0);
                 assert_eq!(
                     kind_2(1, &lines, &there, &back),
-                    yes_if(below && rounds == 0)
+                    yes_or(place, below && rounds == 0)
                 );
                 // The same from -x: there over -x, back over x.
                 let there = [&down[..], &[6]].concat();
                 let back = [&[5], &up.iter().map(|_| 1).collect::<Vec<u32>>()[..]].concat();
                 assert_eq!(
                     kind_2(1, &lines, &there, &back),
-                    yes_if(below),
+                    yes_if_low(2 * rounds + 2, below),
                     "{rounds} {s} {t}"
                 );
             }
@@ -370,11 +401,10 @@ fn long_walks_of_kind_2() {
         let many = vec![step; MOST_STEPS - 2];
         let first = [&many[..], &[4]].concat();
         let second = [&[6], &many[..]].concat();
-        assert_eq!(kind_2(1, &lines(0, 0), &first, &[6]), yes_if(sign < 0));
-        assert_eq!(kind_2(1, &lines(0, 0), &[4], &second), yes_if(sign < 0));
-        assert_eq!(
-            kind_1(1, &lines(0, 0), &[&first[..], &[6]].concat()),
-            yes_if(sign < 0)
-        );
+        let due = yes_if_low(MOST_STEPS, sign < 0);
+        assert_eq!(kind_2(1, &lines(0, 0), &first, &[6]), due);
+        assert_eq!(kind_2(1, &lines(0, 0), &[4], &second), due);
+        let both = [&first[..], &[6]].concat();
+        assert_eq!(kind_1(1, &lines(0, 0), &both), due);
     }
 }

@@ -13,6 +13,7 @@ pub struct Progress {
     pub first: i64,
     pub second: i64,
     pub good: bool,
+    pub wrong: usize,
 }
 
 extern "C" {

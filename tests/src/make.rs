@@ -264,6 +264,18 @@ fn steps(lines: &[Line]) -> Vec<Step> {
     steps
 }
 
+/// Adds a line, n at least 1, that leads from where this step begins to any point,
+/// most likely another than where the step ends, and gives the new step. None
+/// where the number names no step.
+pub fn detour(chance: &mut Chance, n: u64, lines: &mut Vec<Line>, number: u32) -> Option<u32> {
+    let from = steps(lines).iter().find(|step| step.number == number)?.from;
+    let to = point(chance, n);
+    let (mut line, side) = line_between(chance, from, to);
+    line[4] = bound(chance);
+    lines.push(line);
+    Some(2 * (lines.len() as u32 - 1) + side)
+}
+
 /// A walk, taken at random along the lines' steps, that comes back to where it
 /// began: as kind 1, or as kind 2 where it passed the opposite point. None
 /// where it didn't come back soon.

@@ -13,7 +13,7 @@ const MOST_REFUTATION_BYTES: usize = 4 * 65_536;
 #[derive(Clone, Copy, Debug, PartialEq, Eq)]
 pub enum Answer {
     Yes,
-    /// The first line that fails; 0 for a refutation.
+    /// The first line that fails; for a refutation the index at which it breaks.
     No(usize),
     /// The refusal's number and its place.
     Refused(u8, usize),
@@ -24,7 +24,7 @@ impl Answer {
     pub fn code(self) -> i64 {
         match self {
             Answer::Yes => 0,
-            Answer::No(line) => 1_000_000 + line as i64,
+            Answer::No(place) => 1_000_000 + place as i64,
             Answer::Refused(number, place) => -(i64::from(number) * 100_000 + place as i64),
         }
     }
@@ -187,17 +187,47 @@ pub fn check_model(n: u64, list: &[u8], model: &[u8]) -> Answer {
 
 /// What `utvpi_check_refutation` is to answer.
 pub fn check_refutation(n: u64, list: &[u8], refutation: &[u8]) -> Answer {
-    let lines = match read_list(n, list) {
-        Ok(lines) => lines,
-        Err(refused) => return refused,
-    };
-    if refutation.len() > MOST_REFUTATION_BYTES {
-        return Answer::Refused(11, 0);
+    match read_list(n, list) {
+        Err(refused) => refused,
+        Ok(_) if refutation.len() > MOST_REFUTATION_BYTES => Answer::Refused(11, 0),
+        Ok(lines) => match break_in(&lines, refutation) {
+            Some((place, _)) => Answer::No(place),
+            None => Answer::Yes,
+        },
     }
-    if is_refutation(&lines, refutation) {
-        Answer::Yes
-    } else {
-        Answer::No(0)
+}
+
+/// Why a refutation is none at the place that is given for it.
+#[derive(Clone, Copy, Debug, PartialEq, Eq, PartialOrd, Ord)]
+pub enum Fault {
+    /// The bytes are no multiple of four.
+    Bytes,
+    /// There are fewer than three numbers.
+    Short,
+    Kind,
+    Counts,
+    /// As many numbers as the counts ask for, and no more, are not there.
+    Total,
+    /// The step's line is not in the list.
+    NoLine,
+    /// The step's side is none, on a line with one variable.
+    NoSide,
+    ZeroLine,
+    /// The step begins elsewhere than where it must.
+    Apart,
+    /// The step is its walk's last and ends elsewhere than where the walk must.
+    End,
+    Sums,
+    /// Kind 3, and the number is not that of a false line.
+    NotFalse,
+}
+
+/// Where and why a refutation breaks; none where it is right, and where the list
+/// or the length is refused.
+pub fn where_it_breaks(n: u64, list: &[u8], refutation: &[u8]) -> Option<(usize, Fault)> {
+    match read_list(n, list) {
+        Ok(lines) if refutation.len() <= MOST_REFUTATION_BYTES => break_in(&lines, refutation),
+        _ => None,
     }
 }
 
@@ -220,81 +250,130 @@ pub fn decide_refusal(n: u64, list: &[i32], lengths: [usize; 5]) -> Option<Answe
     (lengths[4] < work).then_some(Answer::Refused(8, 0))
 }
 
-fn is_refutation(lines: &[Line], bytes: &[u8]) -> bool {
+/// The head's rules in their order, and then the steps.
+fn break_in(lines: &[Line], bytes: &[u8]) -> Option<(usize, Fault)> {
     if bytes.len() % 4 != 0 {
-        return false;
+        return Some((0, Fault::Bytes));
     }
     let numbers: Vec<u32> = bytes
         .chunks(4)
         .map(|four| u32::from_le_bytes(four.try_into().unwrap()))
         .collect();
     if numbers.len() < 3 {
-        return false;
+        return Some((0, Fault::Short));
     }
     let (kind, p, q) = (numbers[0], u64::from(numbers[1]), u64::from(numbers[2]));
-    let steps = &numbers[3..];
-    if steps.len() as u64 != p + q {
-        return false;
-    }
-    let (first, second) = steps.split_at(p as usize);
-    match kind {
-        1 => p >= 1 && q == 0 && is_negative_cycle(lines, first),
-        2 => p >= 1 && q >= 1 && is_negative_when_halved(lines, first, second),
-        3 => p == 1 && q == 0 && is_false_line(lines, first[0]),
-        _ => false,
-    }
-}
-
-/// Kind 1: a closed walk whose weights sum below 0.
-fn is_negative_cycle(lines: &[Line], numbers: &[u32]) -> bool {
-    match read_walk(lines, numbers) {
-        Some(walk) => walk.from == walk.to && walk.sum < 0,
-        None => false,
-    }
-}
-
-/// Kind 2: from a point to its opposite and back, the halved sums below 0.
-fn is_negative_when_halved(lines: &[Line], first: &[u32], second: &[u32]) -> bool {
-    let (there, back) = match (read_walk(lines, first), read_walk(lines, second)) {
-        (Some(there), Some(back)) => (there, back),
-        _ => return false,
+    let counts_ok = match kind {
+        1 => p >= 1 && q == 0,
+        2 => p >= 1 && q >= 1,
+        3 => p == 1 && q == 0,
+        _ => return Some((0, Fault::Kind)),
     };
-    there.to == there.from.opposite()
-        && back.from == there.to
-        && back.to == there.from
-        && there.sum.div_euclid(2) + back.sum.div_euclid(2) < 0
+    if !counts_ok {
+        return Some((1, Fault::Counts));
+    }
+    if numbers.len() as u64 != 3 + p + q {
+        return Some((2, Fault::Total));
+    }
+    if kind == 3 {
+        return false_line_fault(lines, numbers[3]).map(|fault| (3, fault));
+    }
+    let walks = Walks {
+        lines,
+        turn: (kind == 2).then_some(3 + p as usize),
+        numbers,
+    };
+    walks.first_break()
 }
 
 /// Kind 3: twice the number of a line 0 ≤ d with d below 0.
-fn is_false_line(lines: &[Line], number: u32) -> bool {
-    let line = match lines.get(number as usize / 2) {
-        Some(line) => line,
-        None => return false,
+fn false_line_fault(lines: &[Line], number: u32) -> Option<Fault> {
+    let Some(line) = lines.get(number as usize / 2) else {
+        return Some(Fault::NoLine);
     };
-    number % 2 == 0 && line.a == 0 && line.b == 0 && line.d < 0
+    let is_false = number % 2 == 0 && line.a == 0 && line.b == 0 && line.d < 0;
+    (!is_false).then_some(Fault::NotFalse)
 }
 
-/// The ends of a walk and the sum of its weights.
-struct Walk {
-    from: Point,
-    to: Point,
-    sum: i64,
+/// Kinds 1 and 2 with a right head: all numbers, and the index at which the
+/// second walk begins, if there are two.
+struct Walks<'a> {
+    lines: &'a [Line],
+    numbers: Vec<u32>,
+    turn: Option<usize>,
 }
 
-/// The walk over these steps, where all of them exist, there is at least one,
-/// and each begins where the one before it ends.
-fn read_walk(lines: &[Line], numbers: &[u32]) -> Option<Walk> {
-    let find = |&number: &u32| -> Option<Step> {
-        lines.get(number as usize / 2)?.steps()[number as usize % 2]
-    };
-    let steps: Vec<Step> = numbers.iter().map(find).collect::<Option<_>>()?;
-    let connected = steps.windows(2).all(|pair| pair[0].to == pair[1].from);
-    if !connected {
-        return None;
+impl Walks<'_> {
+    /// The first index whose step is at fault, else the last if the sums are.
+    fn first_break(&self) -> Option<(usize, Fault)> {
+        let indexes = 3..self.numbers.len();
+        let mut broken = indexes.filter_map(|at| Some((at, self.fault_at(at)?)));
+        let high = || (!self.sums_are_low()).then_some((self.numbers.len() - 1, Fault::Sums));
+        broken.next().or_else(high)
     }
-    Some(Walk {
-        from: steps.first()?.from,
-        to: steps.last()?.to,
-        sum: steps.iter().map(|step| step.weight).sum(),
-    })
+
+    /// What is wrong with the step at this index, where all before it are right.
+    fn fault_at(&self, at: usize) -> Option<Fault> {
+        let step = match self.step(at) {
+            Ok(step) => step,
+            Err(fault) => return Some(fault),
+        };
+        if self.due_start(at).is_some_and(|due| due != step.from) {
+            Some(Fault::Apart)
+        } else if self.due_end(at).is_some_and(|due| due != step.to) {
+            Some(Fault::End)
+        } else {
+            None
+        }
+    }
+
+    fn step(&self, at: usize) -> Result<Step, Fault> {
+        let number = self.numbers[at] as usize;
+        let line = self.lines.get(number / 2).ok_or(Fault::NoLine)?;
+        let none = if line.a == 0 && line.b == 0 {
+            Fault::ZeroLine
+        } else {
+            Fault::NoSide
+        };
+        line.steps()[number % 2].ok_or(none)
+    }
+
+    /// The point at which all begins.
+    fn start(&self) -> Point {
+        self.step(3).unwrap().from
+    }
+
+    /// Where the step at this index must begin; the first may begin anywhere.
+    fn due_start(&self, at: usize) -> Option<Point> {
+        match at {
+            3 => None,
+            _ if Some(at) == self.turn => Some(self.start().opposite()),
+            _ => Some(self.step(at - 1).unwrap().to),
+        }
+    }
+
+    /// Where it must end, if it is the last of a walk.
+    fn due_end(&self, at: usize) -> Option<Point> {
+        if at + 1 == self.numbers.len() {
+            Some(self.start())
+        } else if Some(at + 1) == self.turn {
+            Some(self.start().opposite())
+        } else {
+            None
+        }
+    }
+
+    /// Whether the sum is below 0, or of two sums the halves together.
+    fn sums_are_low(&self) -> bool {
+        let sum = |part: std::ops::Range<usize>| -> i64 {
+            part.map(|at| self.step(at).unwrap().weight).sum()
+        };
+        match self.turn {
+            None => sum(3..self.numbers.len()) < 0,
+            Some(turn) => {
+                let (there, back) = (sum(3..turn), sum(turn..self.numbers.len()));
+                there.div_euclid(2) + back.div_euclid(2) < 0
+            }
+        }
+    }
 }

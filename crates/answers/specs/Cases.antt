@@ -13,8 +13,8 @@ use Rattle.steps.specs.Table.{entry, digit}
 use Rattle.steps.specs.Step.{stepOf, stepNumbered, stepsOf}
 use Rattle.steps.specs.Walk.{total, Names}
 use Rattle.refutation.specs.declared.RefutationAnswer.the-variants.{Yes}
-use Rattle.refutation.specs.Progress.{countsOk, isFalseStep, headOn, joins, turns, along, advance, run, closes, accepted, accepts}
-use Rattle.refutation.specs.Answer.{refutationValidity, refutationAnswer}
+use Rattle.refutation.specs.Progress.{countsOk, isFalseStep, headOn, joins, turns, along, advance, run, closes, accepted}
+use Rattle.refutation.specs.Answer.{verdict, refutationValidity, refutationAnswer}
 use Rattle.walks.specs.Row.{relaxRow, startRow, rounds, rowAt, best}
 use Rattle.walks.specs.Negative.{noNegative}
 use Rattle.bounds.specs.Points.{assign}
@@ -137,7 +137,7 @@ a then b = (a, b)
 pub all-cases : AllHold cases
 unfolding cases coefficientsOk variableOk variablesOk constantOk linesValidity validityOf lineAt isFalse
     opposite entry digit stepOf stepNumbered stepsOf
-    countsOk isFalseStep headOn joins turns along advance run closes accepted accepts refutationValidity refutationAnswer
+    countsOk isFalseStep headOn joins turns along advance run closes accepted verdict refutationValidity refutationAnswer
     relaxRow startRow rounds rowAt best noNegative
     assign above atMost near halves tight limit pick model tableModel
     hasFalse consistentHalves verdictOf dueKind modelOf boundsOf groupsOf

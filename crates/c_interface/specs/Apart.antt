@@ -109,13 +109,13 @@ models-apart (Refused r) (Refused s) h k e = ap Refused (refusals-apart r s h k 
 
 pub refutations-apart : (a b : RefutationAnswer) → refutation.Below refusalUnit a → refutation.Below refusalUnit b → refutationCode a ≡ refutationCode b → a ≡ b
 refutations-apart answer.Yes answer.Yes h k e = refl
-refutations-apart answer.Yes answer.No h k e = let q : 0 ≡ noCode = same-pos _ _ e in absurd (omega arith)
+refutations-apart answer.Yes (answer.No j) h k e = let q : 0 ≡ noCode + j = same-pos _ _ e in absurd (omega arith)
 refutations-apart answer.Yes (answer.Refused s) h k e = absurd (no-refusal 0 s e)
-refutations-apart answer.No answer.Yes h k e = let q : noCode ≡ 0 = same-pos _ _ e in absurd (omega arith)
-refutations-apart answer.No answer.No h k e = refl
-refutations-apart answer.No (answer.Refused s) h k e = absurd (no-refusal noCode s e)
+refutations-apart (answer.No i) answer.Yes h k e = let q : noCode + i ≡ 0 = same-pos _ _ e in absurd (omega arith)
+refutations-apart (answer.No i) (answer.No j) h k e = let q : noCode + i ≡ noCode + j = same-pos _ _ e in let p : i ≡ j = omega arith in ap answer.No p
+refutations-apart (answer.No i) (answer.Refused s) h k e = absurd (no-refusal (noCode + i) s e)
 refutations-apart (answer.Refused r) answer.Yes h k e = absurd (no-refusal 0 r (sym e))
-refutations-apart (answer.Refused r) answer.No h k e = absurd (no-refusal noCode r (sym e))
+refutations-apart (answer.Refused r) (answer.No j) h k e = absurd (no-refusal (noCode + j) r (sym e))
 refutations-apart (answer.Refused r) (answer.Refused s) h k e = ap answer.Refused (refusals-apart r s h k e)
 
 pub decisions-apart : (a b : Answer) → decide.Below refusalUnit a → decide.Below refusalUnit b → decideCode a ≡ decideCode b → a ≡ b
@@ -133,14 +133,14 @@ decisions-apart (decision.Refused r) (decision.Refused s) h k e = ap decision.Re
 module _ (n : ℕ) (b r : List ℕ) where
   code-yes : (a : RefutationAnswer) → refutationCode a ≡ pos 0 → a ≡ answer.Yes
   code-yes answer.Yes e = refl
-  code-yes answer.No e = let q : noCode ≡ 0 = same-pos _ _ e in absurd (omega arith)
+  code-yes (answer.No k) e = let q : noCode + k ≡ 0 = same-pos _ _ e in absurd (omega arith)
   code-yes (answer.Refused s) e = absurd (no-refusal 0 s (sym e))
 
   unless-yes : (v : Validity) (a : RefutationAnswer) → unlessRefused v a ≡ answer.Yes → (v ≡ validity.Valid) × (a ≡ answer.Yes)
   unless-yes validity.Valid a e = (refl, e)
   unless-yes (validity.Refused s) a e = never (cc)
 
-  whole-yes : (t : Bool) (a : RefutationAnswer) → cond t a answer.No ≡ answer.Yes → (t ≡ true) × (a ≡ answer.Yes)
+  whole-yes : (t : Bool) (a : RefutationAnswer) → cond t a (answer.No 0) ≡ answer.Yes → (t ≡ true) × (a ≡ answer.Yes)
   whole-yes true a e = (refl, e)
   whole-yes false a e = never (cc)
 

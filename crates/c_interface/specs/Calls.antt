@@ -39,11 +39,11 @@ bytesValidity n b =
 unfoldable pub modelOfValues : ℕ → List ℤ → List ℕ → ModelAnswer
 modelOfValues n L m = model.unlessRefused (refuseIf (not (eqb (length m) (valueBytes * n))) WrongModelLength) (modelAnswer n L (int64s m))
 
--- 11 for too many bytes; no for bytes that are no multiple of four; then the answer on numbers
+-- 11 for too many bytes; no, at place 0, for bytes that are no multiple of four; then the answer on numbers
 unfoldable pub refutationOfNumbers : ℕ → List ℤ → List ℕ → RefutationAnswer
 refutationOfNumbers n L r =
     refutation.unlessRefused (refuseIf (ltb (numberBytes * maxRefutation) (length r)) LongRefutation)
-    (cond (eqb (length r % numberBytes) 0) (refutationAnswer n L (nat32s r)) No)
+    (cond (eqb (length r % numberBytes) 0) (refutationAnswer n L (nat32s r)) (No 0))
 
 -- the list's refusals first
 unfoldable pub modelOfBytes : ℕ → List ℕ → List ℕ → ModelAnswer

@@ -12,7 +12,7 @@ use Rattle.refutation.specs.declared.RefutationAnswer.the-variants.{Yes as yes�
 use Rattle.decide.specs.declared.Answer.{Answer}
 use Rattle.decide.specs.declared.Answer.the-variants as decide
 
--- a no is this and, of a model, the number of the line that fails
+-- a no is this and, of a model, the number of the line that fails, of a refutation the place where it breaks
 abbrev pub noCode : ℕ
 noCode = 1_000_000
 
@@ -30,7 +30,7 @@ modelCode (Refused r) = refusalCode r
 
 abbrev pub refutationCode : RefutationAnswer → ℤ
 refutationCode yes′ = pos 0
-refutationCode no′ = pos noCode
+refutationCode (no′ k) = pos (noCode + k)
 refutationCode (refused′ r) = refusalCode r
 
 abbrev pub decideCode : Answer → ℤ

@@ -1,6 +1,6 @@
 -- What the code uses of the calls: the numbers that were decoded, that the places in an answer are small, and what deciding returns.
 use mathlib.Core.Path.{_≡_, refl, sym, ap, subst, _∙_}
-use mathlib.Core.Bool.{Bool, true, false, not, cond, _&&_}
+use mathlib.Core.Bool.{Bool, true, false, not, cond}
 use mathlib.Core.List.{List, [], _∷_}
 use Prim.Native.Nat.{ℕ, _+_, _*_, _/_, _%_, _<_, _≤_}
 use native.Mathlib.Omega.{arith}
@@ -22,10 +22,9 @@ use Rattle.model.specs.Places as model
 use Rattle.refutation.specs.declared.Progress.{Progress}
 use Rattle.refutation.specs.declared.RefutationAnswer.{RefutationAnswer}
 use Rattle.refutation.specs.declared.RefutationAnswer.the-variants.{No}
-use Rattle.refutation.specs.Progress.{accepted}
-use Rattle.refutation.specs.Answer.{refutationAnswer}
+use Rattle.refutation.specs.Answer.{verdict, refutationAnswer}
 use Rattle.refutation.specs.Places as refutation
-use Rattle.pieces.specs.Taken.{isSmall, endAnswer}
+use Rattle.pieces.specs.Taken.{isSmall, endAnswer, small-test}
 use Rattle.decide.specs.declared.Answer.{Answer}
 use Rattle.decide.specs.Decided.{Lent, answerFor, Leaves, Decided}
 use Rattle.decide.specs.Places as decide
@@ -82,18 +81,22 @@ pub refutation-below : (n : ℕ) (L : List ℤ) (r : List ℕ) → refutation.Be
 unfolding refutationOfNumbers
 refutation-below n L r =
     refutation.below-unless refusalUnit _ _ (placed-if refusalUnit (ltb (numberBytes * maxRefutation) (length r)) LongRefutation (omega arith))
-    (go (eqb (length r % numberBytes) 0))
+    (λ _. go (eqb (length r % numberBytes) 0))
   where
-    go : (t : Bool) → refutation.Below refusalUnit (cond t (refutationAnswer n L (nat32s r)) No)
-    go true = refutation.answer-below refusalUnit (omega arith) n L (nat32s r)
-    go false = tt
+    go : (t : Bool) → refutation.Below refusalUnit (cond t (refutationAnswer n L (nat32s r)) (No 0))
+    go true = refutation.answer-below refusalUnit (omega arith) (omega arith) n L (nat32s r)
+    go false = omega arith
 
 pub end-below : (n : ℕ) (L : List ℤ) (s : Progress) → refutation.Below refusalUnit (endAnswer n L s)
 unfolding endAnswer
 end-below n L s =
     refutation.below-unless refusalUnit _ _
     (placed-or refusalUnit _ _ (placed-list refusalUnit n L (omega arith)) (placed-if refusalUnit (ltb maxRefutation (s .read)) LongRefutation (omega arith)))
-    (refutation.verdict-below refusalUnit (isSmall s && accepted s))
+    (λ e. go (isSmall s) refl)
+  where
+    go : (b : Bool) → isSmall s ≡ b → refutation.Below refusalUnit (cond b (verdict s) (No 0))
+    go true e = let k = small-test s e in refutation.verdict-below refusalUnit s (k .wrong) (omega (arith, k .read))
+    go false e = omega arith
 
 pub model-bytes-below : (n : ℕ) (b m : List ℕ) → model.Below refusalUnit (modelOfBytes n b m)
 unfolding modelOfBytes
@@ -101,7 +104,7 @@ model-bytes-below n b m = model.below-unless refusalUnit _ _ (bytes-placed n b) 
 
 pub refutation-bytes-below : (n : ℕ) (b r : List ℕ) → refutation.Below refusalUnit (refutationOfBytes n b r)
 unfolding refutationOfBytes
-refutation-bytes-below n b r = refutation.below-unless refusalUnit _ _ (bytes-placed n b) (refutation-below n (int32s b) r)
+refutation-bytes-below n b r = refutation.below-unless refusalUnit _ _ (bytes-placed n b) (λ _. refutation-below n (int32s b) r)
 
 -- ---- deciding
 module _ {n : ℕ} {L : List ℤ} {answer : Answer} {b a : Lent} (d : Decided n L answer b a) where

@@ -35,7 +35,7 @@ ghost use Rattle.c_interface.specs.Codes.{refusalUnit, refusalCode, mode
 ghost use Rattle.c_interface.specs.Calls.{modelOfValues, refutationOfNumbers, checkModel, checkRefutation, DecideReturns};
 ghost use Rattle.c_interface.specs.Laws.{Decoded};
 
-// The answer no is this and, of a model, the number of the line that fails.
+// The answer no is this and, of a model, the number of the line that fails, of a refutation the place where it breaks.
 const NO: usize = 1_000_000;
 // A refusal's number counts this much, and then its place.
 const REFUSAL_UNIT: usize = 100_000;
@@ -114,7 +114,7 @@ fn refutation_code(a: RefutationAnswer) -> i64
 {
     match a {
         RefutationAnswer::Yes => 0,
-        RefutationAnswer::No => NO as i64,
+        RefutationAnswer::No(k) => (NO + k) as i64,
         RefutationAnswer::Refused(r) => refusal_code(r),
     }
 }
@@ -185,7 +185,7 @@ fn refutation_of_numbers(n: usize, list: &[i32], refutation: &[u8]) -> Refutatio
         return RefutationAnswer::Refused(Refusal::LongRefutation);
     }
     if refutation.len() % NUMBER_BYTES != 0 {
-        return RefutationAnswer::No;
+        return RefutationAnswer::No(0);
     }
     end(take_bytes(list, refutation), n, list)
 }

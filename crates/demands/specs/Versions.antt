@@ -1,5 +1,5 @@
 -- Versions of the checkers that answer idly or by guessing, each a definition, and at a named input what breaks the promise.
-use mathlib.Core.Path.{_≡_, refl, _∙_}
+use mathlib.Core.Path.{_≡_, refl, sym, ap, _∙_}
 use mathlib.Core.List.{List, [], _∷_}
 use Prim.Native.Nat.{ℕ}
 use lib.IntN.{ℤ, pos, negℤ}
@@ -13,8 +13,8 @@ use Rattle.model.specs.Model as model-check
 use Rattle.model.specs.Model.{valuesValidity, modelValidity, firstFailing, modelAnswer}
 use Rattle.refutation.specs.declared.RefutationAnswer.{RefutationAnswer}
 use Rattle.refutation.specs.declared.RefutationAnswer.the-variants.{Yes, No, Refused}
-use Rattle.refutation.specs.Progress.{countsOk, isFalseStep, headOn, advance, run, closes, accepted, accepts}
-use Rattle.refutation.specs.Answer.{unlessRefused, refutationValidity, refutationAnswer}
+use Rattle.refutation.specs.Progress.{countsOk, isFalseStep, headOn, advance, run, closes, accepted, brokenAt}
+use Rattle.refutation.specs.Answer.{unlessRefused, verdict, refutationValidity, refutationAnswer}
 
 -- ---- the refutation checker's promise, of any version of it
 abbrev KeepsRefutation : (ℕ → List ℤ → List ℕ → RefutationAnswer) → Type 0
@@ -28,21 +28,21 @@ falseRefutation : List ℕ
 falseRefutation = 3 ∷ 1 ∷ 0 ∷ 0 ∷ []
 
 case-3 : refutationAnswer 0 falseList falseRefutation ≡ Yes
-unfolding refutationAnswer refutationValidity validityOf linesValidity coefficientsOk variableOk variablesOk constantOk lineAt isFalse falseRefutation countsOk isFalseStep headOn advance run closes accepted accepts
+unfolding refutationAnswer refutationValidity validityOf linesValidity coefficientsOk variableOk variablesOk constantOk lineAt isFalse falseRefutation countsOk isFalseStep headOn advance run closes accepted verdict
 case-3 = refl
 
 -- no numbers are no refutation, of no lines
-nothing : refutationAnswer 0 [] [] ≡ No
-unfolding refutationAnswer refutationValidity validityOf linesValidity run closes accepted accepts
+nothing : refutationAnswer 0 [] [] ≡ No 0
+unfolding refutationAnswer refutationValidity validityOf linesValidity run closes accepted brokenAt verdict
 nothing = refl
 
 -- it accepts nothing
 pub acceptsNothing : ℕ → List ℤ → List ℕ → RefutationAnswer
-acceptsNothing n L R = unlessRefused (refutationValidity n L R) No
+acceptsNothing n L R = unlessRefused (refutationValidity n L R) (No 0)
 
 pub accepts-nothing-breaks : KeepsRefutation acceptsNothing → ⊥
 unfolding acceptsNothing refutationValidity validityOf linesValidity coefficientsOk variableOk variablesOk constantOk lineAt falseRefutation
-accepts-nothing-breaks k = let e : No ≡ Yes = k 0 falseList falseRefutation ∙ case-3 in never (cc)
+accepts-nothing-breaks k = let e : No 0 ≡ Yes = k 0 falseList falseRefutation ∙ case-3 in never (cc)
 
 -- it accepts everything that is not refused
 pub acceptsEverything : ℕ → List ℤ → List ℕ → RefutationAnswer
@@ -50,7 +50,25 @@ acceptsEverything n L R = unlessRefused (refutationValidity n L R) Yes
 
 pub accepts-everything-breaks : KeepsRefutation acceptsEverything → ⊥
 unfolding acceptsEverything refutationValidity validityOf linesValidity
-accepts-everything-breaks k = let e : Yes ≡ No = k 0 [] [] ∙ nothing in never (cc)
+accepts-everything-breaks k = let e : Yes ≡ No 0 = k 0 [] [] ∙ nothing in never (cc)
+
+-- it answers right, but never says where a refutation breaks
+abbrev atStart : RefutationAnswer → RefutationAnswer
+atStart Yes = Yes
+atStart (No k) = No 0
+atStart (Refused r) = Refused r
+
+pub saysNowhere : ℕ → List ℤ → List ℕ → RefutationAnswer
+saysNowhere n L R = atStart (refutationAnswer n L R)
+
+-- kind 1 without steps: the counts are wrong
+no-steps : refutationAnswer 0 [] (1 ∷ 0 ∷ 0 ∷ []) ≡ No 1
+unfolding refutationAnswer refutationValidity validityOf linesValidity countsOk headOn advance run closes accepted brokenAt verdict
+no-steps = refl
+
+pub says-nowhere-breaks : KeepsRefutation saysNowhere → ⊥
+unfolding saysNowhere
+says-nowhere-breaks k = let e : No 0 ≡ No 1 = ap atStart (sym no-steps) ∙ k 0 [] (1 ∷ 0 ∷ 0 ∷ []) ∙ no-steps in never (cc)
 
 -- it refuses every list
 pub refusesEvery : ℕ → List ℤ → List ℕ → RefutationAnswer
@@ -58,7 +76,7 @@ refusesEvery n L R = Refused TooManyVariables
 
 pub refuses-every-breaks : KeepsRefutation refusesEvery → ⊥
 unfolding refusesEvery
-refuses-every-breaks k = let e : Refused TooManyVariables ≡ No = k 0 [] [] ∙ nothing in never (cc)
+refuses-every-breaks k = let e : Refused TooManyVariables ≡ No 0 = k 0 [] [] ∙ nothing in never (cc)
 
 -- ---- the model checker's promise, of any version of it
 abbrev KeepsModel : (ℕ → List ℤ → List ℤ → ModelAnswer) → Type 0

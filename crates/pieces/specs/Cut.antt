@@ -14,7 +14,8 @@ use Rattle.lines.specs.declared.Validity.the-variants.{Valid, Refused}
 use Rattle.lines.specs.Limits.{maxVariables, maxRefutation}
 use Rattle.lines.specs.Refusal.{_orElse_, refuseIf, validityOf}
 use Rattle.refutation.specs.declared.Progress.{Progress}
-use Rattle.refutation.specs.Progress.{start, onlyIf, advance, run, accepted, accepts}
+use Rattle.refutation.specs.declared.RefutationAnswer.the-variants.{No}
+use Rattle.refutation.specs.Progress.{start, advance, run}
 use Rattle.refutation.specs.Small.{Small, start-small, advance-small, advance-read}
 use Rattle.refutation.specs.Answer.{unlessRefused, verdict, refutationValidity, refutationAnswer}
 use Rattle.pieces.specs.Taken.{namesValid, isSmall, tooLong, takeOn, takeAll, endAnswer, names-ok, valid-names, test-small}
@@ -93,18 +94,18 @@ module _ (n : ℕ) (L : List ℤ) (v : validityOf n L ≡ Valid) where
 
 -- whatever the list, the end answers what the checker answers on the whole refutation
 pub whole : (n : ℕ) (L : List ℤ) (R : List ℕ) → Words R → endAnswer n L (takeAll L start R) ≡ refutationAnswer n L R
-unfolding endAnswer refutationAnswer refutationValidity accepts
+unfolding endAnswer refutationAnswer refutationValidity
 whole n L R w = go (validityOf n L) refl
   where
     go : (u : Validity) → validityOf n L ≡ u
-        → unlessRefused (u orElse refuseIf (ltb maxRefutation ((takeAll L start R) .read)) LongRefutation) (verdict (isSmall (takeAll L start R) && accepted (takeAll L start R)))
-        ≡ unlessRefused (u orElse refuseIf (ltb maxRefutation (length R)) LongRefutation) (verdict (accepted (run L start R)))
+        → unlessRefused (u orElse refuseIf (ltb maxRefutation (takeAll L start R .read)) LongRefutation) (cond (isSmall (takeAll L start R)) (verdict (takeAll L start R)) (No 0))
+        ≡ unlessRefused (u orElse refuseIf (ltb maxRefutation (length R)) LongRefutation) (verdict (run L start R))
     go (Refused r) e = refl
     go Valid e = long (ltb maxRefutation (length R)) refl
       where
         long : (b : Bool) → ltb maxRefutation (length R) ≡ b
-            → unlessRefused (refuseIf (ltb maxRefutation ((takeAll L start R) .read)) LongRefutation) (verdict (isSmall (takeAll L start R) && accepted (takeAll L start R)))
-            ≡ unlessRefused (refuseIf b LongRefutation) (verdict (accepted (run L start R)))
+            → unlessRefused (refuseIf (ltb maxRefutation (takeAll L start R .read)) LongRefutation) (cond (isSmall (takeAll L start R)) (verdict (takeAll L start R)) (No 0))
+            ≡ unlessRefused (refuseIf b LongRefutation) (verdict (run L start R))
         long true z = rw (lt-ltb _ _ (past-limit n L e start R start-small (omega (arith, ltb-true maxRefutation (length R) z)) w))
         long false z =
             let k = within-limit n L e start R start-small (omega (arith, ltb-false maxRefutation (length R) z)) w in

@@ -19,7 +19,8 @@ use Rattle.lines.specs.Valid.{ListOk, line-ok, valid-list, line-valid-more}
 use Rattle.steps.specs.Step.{maxWeight, NamedOk}
 use Rattle.refutation.specs.declared.Progress.{Progress}
 use Rattle.refutation.specs.declared.RefutationAnswer.{RefutationAnswer}
-use Rattle.refutation.specs.Progress.{onlyIf, advance, accepted}
+use Rattle.refutation.specs.declared.RefutationAnswer.the-variants.{No}
+use Rattle.refutation.specs.Progress.{onlyIf, advance}
 use Rattle.refutation.specs.Small.{Small}
 use Rattle.refutation.specs.Answer.{unlessRefused, verdict}
 
@@ -36,13 +37,13 @@ namesValid L k = cond (ltb (k / 2) (lineCount L)) (isValid (lineValidity maxVari
 unfoldable pub isSmall : Progress → Bool
 isSmall s =
     not (ltb maxRefutation (s .read))
-    && (isWithin (s .read * maxWeight) (s .first) && (isWithin (s .read * maxWeight) (s .second) && (ltb (s .p) (2 ^ 32) && ltb (s .q) (2 ^ 32))))
+    && (isWithin (s .read * maxWeight) (s .first) && (isWithin (s .read * maxWeight) (s .second) && (ltb (s .p) (2 ^ 32) && (ltb (s .q) (2 ^ 32) && not (ltb (s .read) (s .wrong))))))
 
 -- ---- one number, and all numbers of a piece
 -- more numbers than a refutation may have: that is all that is known from here on
 abbrev pub tooLong : Progress → Progress
 tooLong s =
-    record { read = maxRefutation + 1; kind = s .kind; p = s .p; q = s .q; u = s .u; here = s .here; first = s .first; second = s .second; good = s .good }
+    record { read = maxRefutation + 1; kind = s .kind; p = s .p; q = s .q; u = s .u; here = s .here; first = s .first; second = s .second; good = s .good; wrong = s .wrong }
 
 -- the checker's own step; what no refutation could have left, and a line that is refused, make it wrong for good
 unfoldable pub takeOn : List ℤ → Progress → ℕ → Progress
@@ -53,9 +54,9 @@ takeAll L s [] = s
 takeAll L s (r ∷ R) = takeAll L (takeOn L s r) R
 
 -- ---- the end
--- 1 to 6; then 11; then yes or no
+-- 1 to 6; then 11; then yes, or no with the place; what no refutation could have left breaks at once
 unfoldable pub endAnswer : ℕ → List ℤ → Progress → RefutationAnswer
-endAnswer n L s = unlessRefused (validityOf n L orElse refuseIf (ltb maxRefutation (s .read)) LongRefutation) (verdict (isSmall s && accepted s))
+endAnswer n L s = unlessRefused (validityOf n L orElse refuseIf (ltb maxRefutation (s .read)) LongRefutation) (cond (isSmall s) (verdict s) (No 0))
 
 -- ---- what the tests grant
 pub names-ok : (L : List ℤ) (k : ℕ) → namesValid L k ≡ true → NamedOk maxVariables L k
@@ -84,14 +85,16 @@ small-test s e =
     let b = and-true _ _ (a .1) in
     let c = and-true _ _ (b .1) in
     let d = and-true _ _ (c .1) in
+    let e = and-true _ _ (d .1) in
     record {
       read = ltb-false _ _ (not-true _ (a .0));
       first = is-within _ _ (b .0);
       second = is-within _ _ (c .0);
       p = ltb-true _ _ (d .0);
-      q = ltb-true _ _ (d .1);
+      q = ltb-true _ _ (e .0);
+      wrong = ltb-false _ _ (not-true _ (e .1));
     }
 
 pub test-small : (s : Progress) → Small s → isSmall s ≡ true
 unfolding isSmall
-test-small s h = rw (le-ltb maxRefutation (s .read) (h .read), within-is _ _ (h .first), within-is _ _ (h .second), lt-ltb (s .p) (2 ^ 32) (h .p), lt-ltb (s .q) (2 ^ 32) (h .q))
+test-small s h = rw (le-ltb maxRefutation (s .read) (h .read), within-is _ _ (h .first), within-is _ _ (h .second), lt-ltb (s .p) (2 ^ 32) (h .p), lt-ltb (s .q) (2 ^ 32) (h .q), le-ltb (s .read) (s .wrong) (h .wrong))

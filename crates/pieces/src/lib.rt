@@ -1,5 +1,5 @@
 // A refutation that arrives in pieces: begin, take the numbers as they come, and ask for the answer at the end. What is
-// kept between two numbers is the checker's own state, nine numbers; the refutation itself is never kept.
+// kept between two numbers is the checker's own state, ten numbers; the refutation itself is never kept.
 use integers::between;
 use lines::Refusal;
 use lines::Validity;
@@ -42,7 +42,8 @@ fn is_small(kept: Progress) -> bool
         return false;
     }
     is_sum(kept.read, kept.first)
-        & (is_sum(kept.read, kept.second) & ((kept.p < NUMBERS) & (kept.q < NUMBERS)))
+        & (is_sum(kept.read, kept.second)
+            & ((kept.p < NUMBERS) & ((kept.q < NUMBERS) & !(kept.read < kept.wrong))))
 }
 
 // Whether the line that a number names, where there is one, keeps the line rules.
@@ -93,11 +94,7 @@ pub fn end(kept: Progress, n: usize, list: &[i32]) -> RefutationAnswer
         return RefutationAnswer::Refused(Refusal::LongRefutation);
     }
     if !is_small(kept) {
-        return RefutationAnswer::No;
+        return RefutationAnswer::No(0);
     }
-    if kept.is_accepted() {
-        RefutationAnswer::Yes
-    } else {
-        RefutationAnswer::No
-    }
+    kept.judge()
 }

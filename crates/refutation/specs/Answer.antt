@@ -1,5 +1,5 @@
 -- What the refutation checker answers: refusals 1 to 6, then 11, then yes or no.
-use mathlib.Core.Bool.{Bool, true, false}
+use mathlib.Core.Bool.{cond}
 use mathlib.Core.List.{List}
 use Prim.Native.Nat.{ℕ}
 use lib.Dec.{ltb}
@@ -13,7 +13,8 @@ use Rattle.lines.specs.Limits.{maxRefutation}
 use Rattle.lines.specs.Refusal.{_orElse_, refuseIf, validityOf}
 use Rattle.refutation.specs.declared.RefutationAnswer.{RefutationAnswer}
 use Rattle.refutation.specs.declared.RefutationAnswer.the-variants.{Yes, No, Refused}
-use Rattle.refutation.specs.Progress.{accepts}
+use Rattle.refutation.specs.declared.Progress.{Progress}
+use Rattle.refutation.specs.Progress.{start, run, accepted, brokenAt}
 
 -- 1 to 6; then 11
 unfoldable pub refutationValidity : ℕ → List ℤ → List ℕ → Validity
@@ -24,10 +25,9 @@ abbrev pub unlessRefused : Validity → RefutationAnswer → RefutationAnswer
 unlessRefused Valid a = a
 unlessRefused (validity.Refused r) a = Refused r
 
--- yes or no by the checker's rule
-abbrev pub verdict : Bool → RefutationAnswer
-verdict true = Yes
-verdict false = No
+-- yes, or no with the place where it breaks, by the checker's rule
+unfoldable pub verdict : Progress → RefutationAnswer
+verdict s = cond (accepted s) Yes (No (brokenAt s))
 
 unfoldable pub refutationAnswer : ℕ → List ℤ → List ℕ → RefutationAnswer
-refutationAnswer n L R = unlessRefused (refutationValidity n L R) (verdict (accepts L R))
+refutationAnswer n L R = unlessRefused (refutationValidity n L R) (verdict (run L start R))

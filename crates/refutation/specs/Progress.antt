@@ -1,7 +1,7 @@
 -- The refutation checker's rule: what is kept between two numbers of a refutation, how one number takes it on, and when the end says yes.
 use mathlib.Core.Bool.{Bool, true, false, not, cond, _&&_, _||_}
 use mathlib.Core.List.{List, [], _∷_}
-use Prim.Native.Nat.{ℕ, _+_, _/_, _%_}
+use Prim.Native.Nat.{ℕ, _+_, _-_, _/_, _%_}
 use lib.Dec.{eqb, ltb}
 use lib.IntN.{ℤ, pos, _+ℤ_}
 use lib.Signed.{ltZ}
@@ -19,7 +19,7 @@ abbrev pub headSize : ℕ
 headSize = 3
 
 abbrev pub start : Progress
-start = record { read = 0; kind = 0; p = 0; q = 0; u = 0; here = 0; first = pos 0; second = pos 0; good = true }
+start = record { read = 0; kind = 0; p = 0; q = 0; u = 0; here = 0; first = pos 0; second = pos 0; good = true; wrong = 0 }
 
 -- the counts that a kind takes
 unfoldable pub countsOk : ℕ → ℕ → ℕ → Bool
@@ -36,14 +36,18 @@ isFalseStep L k = eqb (k % 2) 0 && (ltb (k / 2) (lineCount L) && isFalse (lineAt
 unfoldable pub headOn : Progress → ℕ → Progress
 headOn s r =
     cond (eqb (s .read) 0)
-    (record { read = s .read + 1; kind = r; p = s .p; q = s .q; u = s .u; here = s .here; first = s .first; second = s .second; good = s .good })
+    (record { read = s .read + 1; kind = r; p = s .p; q = s .q; u = s .u; here = s .here; first = s .first; second = s .second; good = s .good; wrong = s .wrong })
     (cond (eqb (s .read) 1)
-    (record { read = s .read + 1; kind = s .kind; p = r; q = s .q; u = s .u; here = s .here; first = s .first; second = s .second; good = s .good })
-    (record { read = s .read + 1; kind = s .kind; p = s .p; q = r; u = s .u; here = s .here; first = s .first; second = s .second; good = s .good && countsOk (s .kind) (s .p) r }))
+    (record { read = s .read + 1; kind = s .kind; p = r; q = s .q; u = s .u; here = s .here; first = s .first; second = s .second; good = s .good; wrong = s .wrong })
+    (record { read = s .read + 1; kind = s .kind; p = s .p; q = r; u = s .u; here = s .here; first = s .first; second = s .second; good = s .good && countsOk (s .kind) (s .p) r; wrong = s .wrong }))
+
+-- the first step number that was wrong, if one was, once this one is judged
+unfoldable pub wrongAfter : Progress → Bool → ℕ
+wrongAfter s b = cond (s .good && not b) (s .read) (s .wrong)
 
 -- one number more, with one more thing that has to hold
 abbrev pub onlyIf : Progress → Bool → Progress
-onlyIf s b = record { read = s .read + 1; kind = s .kind; p = s .p; q = s .q; u = s .u; here = s .here; first = s .first; second = s .second; good = s .good && b }
+onlyIf s b = record { read = s .read + 1; kind = s .kind; p = s .p; q = s .q; u = s .u; here = s .here; first = s .first; second = s .second; good = s .good && b; wrong = wrongAfter s b }
 
 -- a step starts where the walk is; the first may start anywhere
 unfoldable pub joins : Progress → ℕ → Bool
@@ -68,6 +72,7 @@ along s t =
       first = s .first +ℤ cond isFirst (t .weight) (pos 0);
       second = s .second +ℤ cond isFirst (pos 0) (t .weight);
       good = s .good && (joins s (t .from) && turns s u (t .to));
+      wrong = wrongAfter s (joins s (t .from) && turns s u (t .to));
     }
 
 abbrev pub walkOn : Progress → NamedStep → Progress
@@ -92,6 +97,19 @@ closes s =
 -- nothing was wrong, as many numbers as the counts say, and the walk closes
 unfoldable pub accepted : Progress → Bool
 accepted s = s .good && (eqb (s .read) (headSize + s .p + s .q) && closes s)
+
+-- 1, 2 or 3
+abbrev pub kindOk : ℕ → Bool
+kindOk k = ltb 0 k && ltb k 4
+
+-- where it breaks: a bad kind or no whole head is 0, bad counts 1, a length that disagrees with them 2; then the first wrong step number; last, a walk
+-- that does not end where it began and sums that are not low enough: the last number
+unfoldable pub brokenAt : Progress → ℕ
+brokenAt s =
+    cond (ltb (s .read) headSize || not (kindOk (s .kind))) 0
+    (cond (not (countsOk (s .kind) (s .p) (s .q))) 1
+    (cond (not (eqb (s .read) (headSize + s .p + s .q))) 2
+    (cond (s .good) (s .read - 1) (s .wrong))))
 
 -- the checker's rule: R is accepted against the list L
 unfoldable pub accepts : List ℤ → List ℕ → Bool

@@ -1,11 +1,12 @@
 -- The numbers of a progress are small, and stay so with each number read: sums of at most maxRefutation weights, so that none overflows.
-use mathlib.Core.Path.{_≡_, refl}
-use mathlib.Core.Bool.{Bool, true, false, cond}
+use mathlib.Core.Path.{_≡_, refl, _∙_}
+use mathlib.Core.Bool.{Bool, true, false, not, cond, _&&_}
 use mathlib.Core.List.{List, [], _∷_, _++_}
 use Prim.Native.Nat.{ℕ, _+_, _*_, _^_, _<_, _≤_}
 use native.Mathlib.Omega.{arith}
 use lib.Dec.{eqb, ltb}
 use lib.IntN.{ℤ, pos, _+ℤ_}
+use lib.ListN.{length}
 use Rattle.integers.specs.Integer.{Within}
 use Rattle.integers.specs.Linear.{ints, zs, given, given₂}
 use Rattle.lines.specs.Limits.{maxRefutation}
@@ -15,7 +16,7 @@ use Rattle.steps.specs.declared.NamedStep.the-variants.{Found, Nothing}
 use Rattle.steps.specs.Step.{maxWeight, stepNumbered, NamedOk}
 use Rattle.steps.specs.Laws.{numbered-weight}
 use Rattle.refutation.specs.declared.Progress.{Progress}
-use Rattle.refutation.specs.Progress.{headSize, start, isFalseStep, headOn, onlyIf, along, walkOn, advance, run}
+use Rattle.refutation.specs.Progress.{headSize, start, isFalseStep, headOn, wrongAfter, onlyIf, along, walkOn, advance, run}
 
 pub record Small (s : Progress) : Type 0 where
   pub read : s .read ≤ maxRefutation
@@ -23,6 +24,7 @@ pub record Small (s : Progress) : Type 0 where
   pub q : s .q < 2 ^ 32
   pub first : Within (s .read * maxWeight) (s .first)
   pub second : Within (s .read * maxWeight) (s .second)
+  pub wrong : s .wrong ≤ s .read
 
 -- what holds either way holds of the choice
 pub either : {A : Type 0} (P : A → Type 0) (b : Bool) {x y : A} → P x → P y → P (cond b x y)
@@ -49,7 +51,12 @@ second-within s h = more-within (s .read) maxRefutation (s .second) (h .read) (h
 pub start-small : Small start
 start-small =
     let zero : Within 0 (pos 0) = record { low = omega zs; high = omega zs } in
-    record { read = omega arith; p = omega arith; q = omega arith; first = zero; second = zero }
+    record { read = omega arith; p = omega arith; q = omega arith; first = zero; second = zero; wrong = omega arith }
+
+-- a step number that is found wrong now is the one just read
+wrong-after : (s : Progress) (b : Bool) → s .wrong ≤ s .read → wrongAfter s b ≤ s .read + 1
+unfolding wrongAfter
+wrong-after s b h = either (λ k. k ≤ s .read + 1) (s .good && not b) (omega arith) (omega arith)
 
 -- one number more keeps the numbers small
 module _ (s : Progress) (small : Small s) (more : s .read < maxRefutation) where
@@ -59,10 +66,10 @@ module _ (s : Progress) (small : Small s) (more : s .read < maxRefutation) where
       let first = more-within (s .read) (s .read + 1) (s .first) (omega arith) (small .first) in
       let second = more-within (s .read) (s .read + 1) (s .second) (omega arith) (small .second) in
       either Small (eqb (s .read) 0)
-      (record { read = omega arith; p = small .p; q = small .q; first = first; second = second })
+      (record { read = omega arith; p = small .p; q = small .q; first = first; second = second; wrong = omega (arith, small .wrong) })
       (either Small (eqb (s .read) 1)
-      (record { read = omega arith; p = h; q = small .q; first = first; second = second })
-      (record { read = omega arith; p = small .p; q = h; first = first; second = second }))
+      (record { read = omega arith; p = h; q = small .q; first = first; second = second; wrong = omega (arith, small .wrong) })
+      (record { read = omega arith; p = small .p; q = h; first = first; second = second; wrong = omega (arith, small .wrong) }))
 
   only-small : (b : Bool) → Small (onlyIf s b)
   only-small b =
@@ -72,6 +79,7 @@ module _ (s : Progress) (small : Small s) (more : s .read < maxRefutation) where
         q = small .q;
         first = more-within (s .read) (s .read + 1) (s .first) (omega arith) (small .first);
         second = more-within (s .read) (s .read + 1) (s .second) (omega arith) (small .second);
+        wrong = wrong-after s b (small .wrong);
       }
 
   along-small : (t : Step) → Within maxWeight (t .weight) → Small (along s t)
@@ -83,6 +91,7 @@ module _ (s : Progress) (small : Small s) (more : s .read < maxRefutation) where
         q = small .q;
         first = sum-within (s .read) (s .first) _ (small .first) (either (Within maxWeight) (ltb (s .read) (headSize + s .p)) w none-within);
         second = sum-within (s .read) (s .second) _ (small .second) (either (Within maxWeight) (ltb (s .read) (headSize + s .p)) none-within w);
+        wrong = wrong-after s _ (small .wrong);
       }
 
   walk-small : (m : NamedStep) → ((t : Step) → m ≡ Found t → Within maxWeight (t .weight)) → Small (walkOn s m)
@@ -107,6 +116,29 @@ advance-read L s r =
     let P : Progress → Type 0 = λ t. t .read ≡ s .read + 1 in
     either P (ltb (s .read) headSize) (either P (eqb (s .read) 0) refl (either P (eqb (s .read) 1) refl refl))
     (either P (eqb (s .kind) 3) refl (walk-read s (stepNumbered L r)))
+
+pub run-read : (L : List ℤ) (s : Progress) (R : List ℕ) → run L s R .read ≡ s .read + length R
+unfolding run
+run-read L s [] = omega arith
+run-read L s (r ∷ R) = run-read L (advance L s r) R ∙ omega (arith, advance-read L s r)
+
+-- what was wrong first was read, whatever is read
+walk-wrong : (s : Progress) (m : NamedStep) → s .wrong ≤ s .read → (walkOn s m) .wrong ≤ s .read + 1
+unfolding along
+walk-wrong s (Found t) h = wrong-after s _ h
+walk-wrong s Nothing h = wrong-after s false h
+
+advance-wrong : (L : List ℤ) (s : Progress) (r : ℕ) → s .wrong ≤ s .read → (advance L s r) .wrong ≤ s .read + 1
+unfolding advance headOn
+advance-wrong L s r h =
+    let P : Progress → Type 0 = λ t. t .wrong ≤ s .read + 1 in
+    either P (ltb (s .read) headSize) (either P (eqb (s .read) 0) (omega arith) (either P (eqb (s .read) 1) (omega arith) (omega arith)))
+    (either P (eqb (s .kind) 3) (wrong-after s _ h) (walk-wrong s (stepNumbered L r) h))
+
+pub run-wrong : (L : List ℤ) (s : Progress) (R : List ℕ) → s .wrong ≤ s .read → (run L s R) .wrong ≤ (run L s R) .read
+unfolding run
+run-wrong L s [] h = h
+run-wrong L s (r ∷ R) h = run-wrong L (advance L s r) R (omega (arith, advance-read L s r, advance-wrong L s r h))
 
 -- the last number of all is taken last
 pub run-snoc : (L : List ℤ) (s : Progress) (R : List ℕ) (r : ℕ) → run L s (R ++ r ∷ []) ≡ advance L (run L s R) r

@@ -20,15 +20,16 @@ ghost use Rattle.integers.specs.Integer.{Within};
 ghost use Rattle.lines.specs.Limits.{maxVariables, maxRefutation};
 ghost use Rattle.lines.specs.Valid.{LinesOk};
 ghost use Rattle.steps.specs.Step.{maxWeight, NamedOk};
-ghost use Rattle.refutation.specs.Progress.{headSize, start, countsOk, headOn, isFalseStep, onlyIf, joins, turns, along, advance, run, closes, accepted};
+ghost use Rattle.refutation.specs.Progress.{headSize, start, countsOk, headOn, isFalseStep, onlyIf, joins, turns, along, advance, run, closes, accepted, kindOk, brokenAt};
 ghost use Rattle.refutation.specs.Small.{Small};
-ghost use Rattle.refutation.specs.Answer.{refutationAnswer};
+ghost use Rattle.refutation.specs.Answer.{verdict, refutationAnswer};
 
 // The numbers before the steps: kind, first count, second count.
 pub const HEAD_SIZE: usize = 3;
 
 // What is kept between two numbers: how many were read; the head; where the first walk began and where the walk is; the
-// sums of the first and of the second walk; and whether nothing was wrong so far. In kind 2 the second walk goes on
+// sums of the first and of the second walk; whether nothing was wrong so far, and the index of the first wrong step
+// number. In kind 2 the second walk goes on
 // where the first ended, so that both are one walk that turns round after p steps.
 #[repr(C)]
 pub struct Progress {
@@ -41,12 +42,20 @@ pub struct Progress {
     pub first: i64,
     pub second: i64,
     pub good: bool,
+    pub wrong: usize,
 }
 
 pub enum RefutationAnswer {
     Yes,
-    No,
+    No(usize),
     Refused(Refusal),
+}
+
+// Whether a kind is one of the three.
+fn kind_ok(kind: usize) -> bool
+    ensures { λ r. ⌜ r ≡ kindOk kind ⌝ }
+{
+    (0 < kind) & (kind < 4)
 }
 
 // Whether the counts suit the kind.
@@ -106,6 +115,7 @@ impl Progress {
             first: 0,
             second: 0,
             good: true,
+            wrong: 0,
         }
     }
 
@@ -138,6 +148,7 @@ impl Progress {
     {
         let read = self.read;
         let good = self.good;
+        self.wrong = choose(good & !holds, read, self.wrong);
         self.read = read + 1;
         self.good = good & holds;
         self
@@ -212,13 +223,41 @@ impl Progress {
     }
 
     // Whether what was read is a refutation.
-    pub fn is_accepted(self) -> bool
+    fn is_accepted(self) -> bool
         requires { ⌜ Small self ⌝ }
         ensures { λ r. ⌜ r ≡ accepted self ⌝ }
     {
         let counted = self.read == HEAD_SIZE + self.p + self.q;
         let low = self.closes_low();
         self.good & (counted & low)
+    }
+
+    // Where what was read breaks, if it is no refutation.
+    fn broken_at(self) -> usize
+        requires { ⌜ Small self ⌝ }
+        ensures { λ r. ⌜ r ≡ brokenAt self ⌝ }
+    {
+        if (self.read < HEAD_SIZE) | !kind_ok(self.kind) {
+            return 0;
+        }
+        if !counts_ok(self.kind, self.p, self.q) {
+            return 1;
+        }
+        if self.read != HEAD_SIZE + self.p + self.q {
+            return 2;
+        }
+        choose(self.good, self.read - 1, self.wrong)
+    }
+
+    // Yes, or no with the place where what was read breaks.
+    pub fn judge(self) -> RefutationAnswer
+        requires { ⌜ Small self ⌝ }
+        ensures { λ r. ⌜ r ≡ verdict self ⌝ }
+    {
+        if self.is_accepted() {
+            return RefutationAnswer::Yes;
+        }
+        RefutationAnswer::No(self.broken_at())
     }
 }
 
@@ -236,7 +275,7 @@ fn read_all(list: &[i32], refutation: &[u32]) -> Progress
     s
 }
 
-// Refusals 1 to 6, then 11, then whether the refutation is accepted against the list.
+// Refusals 1 to 6, then 11, then yes, or no with the place where the refutation breaks.
 pub fn check_refutation(n: usize, list: &[i32], refutation: &[u32]) -> RefutationAnswer
     ensures { λ r. ⌜ r ≡ refutationAnswer n (now (list .entry)) (now (refutation .entry)) ⌝ }
 {
@@ -247,10 +286,5 @@ pub fn check_refutation(n: usize, list: &[i32], refutation: &[u32]) -> Refutatio
     if MAX_REFUTATION < refutation.len() {
         return RefutationAnswer::Refused(Refusal::LongRefutation);
     }
-    let end = read_all(list, refutation);
-    if end.is_accepted() {
-        RefutationAnswer::Yes
-    } else {
-        RefutationAnswer::No
-    }
+    read_all(list, refutation).judge()
 }

@@ -21,7 +21,8 @@ use Rattle.steps.specs.Point.{opposite}
 use Rattle.steps.specs.Walk.{Path, total, Names, path-append}
 use Rattle.refutation.specs.declared.Progress.{Progress}
 use Rattle.refutation.specs.Progress.{headSize, start, countsOk, isFalseStep, headOn, onlyIf, advance, run, closes, accepted, accepts}
-use Rattle.soundness.specs.Run.{no-true, run-read, run-good, run-same, endAfter, Body, Headed, body}
+use Rattle.refutation.specs.Small.{run-read}
+use Rattle.soundness.specs.Run.{no-true, run-good, run-same, endAfter, Body, Headed, body}
 use Rattle.soundness.specs.Good.{body-good}
 use Rattle.soundness.specs.Refutes.{Closed, There-and-back, Falsehood, Refutes, kind-1, kind-2, kind-3}
 
@@ -45,22 +46,22 @@ names-cut L (suc n) (k ∷ ks) [] h = absurd h
 names-cut L (suc n) (k ∷ ks) (t ∷ ts) h = let r = names-cut L n ks ts (h .1) in ((h .0, r .0), r .1)
 
 -- ---- the head
-headed : ℕ → ℕ → ℕ → Progress
-headed k p q = record { read = headSize; kind = k; p = p; q = q; u = 0; here = 0; first = pos 0; second = pos 0; good = countsOk k p q }
+unfoldable pub headed : ℕ → ℕ → ℕ → Progress
+headed k p q = record { read = headSize; kind = k; p = p; q = q; u = 0; here = 0; first = pos 0; second = pos 0; good = countsOk k p q; wrong = 0 }
 
-run-headed : (L : List ℤ) (k p q : ℕ) (R : List ℕ) → run L start (k ∷ p ∷ q ∷ R) ≡ run L (headed k p q) R
+pub run-headed : (L : List ℤ) (k p q : ℕ) (R : List ℕ) → run L start (k ∷ p ∷ q ∷ R) ≡ run L (headed k p q) R
 unfolding run advance headOn headed
 run-headed L k p q R = refl
 
 -- what an accepted end says
-record End (L : List ℤ) (k p q : ℕ) (R : List ℕ) : Type 0 where
-  good : run L (headed k p q) R .good ≡ true
-  counts : countsOk k p q ≡ true
-  size : length R ≡ p + q
-  closed : closes (run L (headed k p q) R) ≡ true
-  kind : run L (headed k p q) R .kind ≡ k
+pub record End (L : List ℤ) (k p q : ℕ) (R : List ℕ) : Type 0 where
+  pub good : run L (headed k p q) R .good ≡ true
+  pub counts : countsOk k p q ≡ true
+  pub size : length R ≡ p + q
+  pub closed : closes (run L (headed k p q) R) ≡ true
+  pub kind : run L (headed k p q) R .kind ≡ k
 
-end-of : (L : List ℤ) (k p q : ℕ) (R : List ℕ) → accepts L (k ∷ p ∷ q ∷ R) ≡ true → End L k p q R
+pub end-of : (L : List ℤ) (k p q : ℕ) (R : List ℕ) → accepts L (k ∷ p ∷ q ∷ R) ≡ true → End L k p q R
 unfolding accepts accepted headed
 end-of L k p q R e =
     let f = run L (headed k p q) R in

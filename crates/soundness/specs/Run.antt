@@ -39,11 +39,6 @@ advance-good L s r = either (From s) (ltb (s .read) headSize) head (either (From
     walk (Found t) = λ e. and-true (s .good) _ e .0
     walk Nothing = λ e. and-true (s .good) _ e .0
 
-pub run-read : (L : List ℤ) (s : Progress) (R : List ℕ) → run L s R .read ≡ s .read + length R
-unfolding run
-run-read L s [] = omega arith
-run-read L s (r ∷ R) = run-read L (advance L s r) R ∙ omega (arith, advance-read L s r)
-
 pub run-good : (L : List ℤ) (s : Progress) (R : List ℕ) → run L s R .good ≡ true → s .good ≡ true
 unfolding run
 run-good L s [] e = e

@@ -1,6 +1,6 @@
 -- `pieces::end` meets its contract: each way out has the tests that led there.
 use mathlib.Core.Path.{_≡_, sym, ap, _∙_}
-use mathlib.Core.Bool.{Bool, true, false, _&&_}
+use mathlib.Core.Bool.{Bool, true, false, cond}
 use mathlib.Core.List.{List}
 use Prim.Native.Nat.{ℕ}
 use borrow.Author.Needs.{needs}
@@ -14,7 +14,7 @@ use Rattle.lines.specs.Limits.{maxRefutation}
 use Rattle.lines.specs.Refusal.{_orElse_, refuseIf}
 use Rattle.refutation.specs.declared.Progress.{Progress}
 use Rattle.refutation.specs.declared.RefutationAnswer.{RefutationAnswer}
-use Rattle.refutation.specs.Progress.{accepted}
+use Rattle.refutation.specs.declared.RefutationAnswer.the-variants.{No}
 use Rattle.refutation.specs.Answer.{unlessRefused, verdict}
 use Rattle.pieces.specs.Taken.{isSmall, endAnswer, small-test}
 use Rattle.pieces.proofs.end.Statement.{statement}
@@ -32,7 +32,7 @@ module _ (c : tie.After-list-validity) where
   kept = c .before .args .kept
 
   abbrev answerAfter : Validity → RefutationAnswer
-  answerAfter v = unlessRefused (v orElse refuseIf (ltb maxRefutation (kept .read)) LongRefutation) (verdict (isSmall kept && accepted kept))
+  answerAfter v = unlessRefused (v orElse refuseIf (ltb maxRefutation (kept .read)) LongRefutation) (cond (isSmall kept) (verdict kept) (No 0))
 
   answered : (v : Validity) → c .list-validity .result ≡ v → answerAfter v ≡ endAnswer n L kept
   unfolding endAnswer
@@ -54,32 +54,19 @@ module _ (c : tie.After-is-small) where
   abbrev v : tie.After-list-validity
   v = c .before .before .before .before .before
 
-  judged : (b : Bool) → c .is-small .result ≡ b → verdict (b && accepted (kept v)) ≡ endAnswer (n v) (L v) (kept v)
+  judged : (b : Bool) → c .is-small .result ≡ b → cond b (verdict (kept v)) (No 0) ≡ endAnswer (n v) (L v) (kept v)
   judged b e =
-      ap (λ (t : Bool). verdict (t && accepted (kept v))) (sym e ∙ c .is-small .ensures)
+      ap (λ (t : Bool). cond t (verdict (kept v)) (No 0)) (sym e ∙ c .is-small .ensures)
       ∙ (rw (le-ltb _ _ (c .before .if1 .left)) at (valid (c .before .before .before)))
 
 returns-3 : tie.Need-returns-3
 returns-3 c = judged (c .before) false (not-true _ (c .if2 .taken))
 
-is-accepted-requires : tie.Need-is-accepted-requires
-is-accepted-requires c κs = small-test (kept (v (c .before))) (sym (c .before .is-small .ensures) ∙ not-false _ (c .if2 .left))
-
--- nor impossible
-module _ (c : tie.After-is-accepted) where
-  abbrev w : tie.After-list-validity
-  w = v (c .before .before)
-
-  decided : (b : Bool) → c .is-accepted .result ≡ b → verdict b ≡ endAnswer (n w) (L w) (kept w)
-  decided b e = ap verdict (sym e ∙ c .is-accepted .ensures) ∙ judged (c .before .before) true (not-false _ (c .before .if2 .left))
+judge-requires : tie.Need-judge-requires
+judge-requires c κs = small-test (kept (v (c .before))) (sym (c .before .is-small .ensures) ∙ not-false _ (c .if2 .left))
 
 returns-4 : tie.Need-returns-4
-returns-4 c = decided (c .before) true (c .if3 .taken)
-
-returns-5 : tie.Need-returns-5
-returns-5 c = decided (c .before) false (c .if3 .left)
+returns-4 c = let e = c .before in c .judge .ensures ∙ judged (e .before) true (not-false _ (e .if2 .left))
 
 pub end-spec : {M : Type 1} → statement M
-end-spec =
-    tie.close
-    (tie.spec (search needs) (search needs) returns (search needs) returns-2 (search needs) returns-3 is-accepted-requires returns-4 returns-5)
+end-spec = tie.close (tie.spec (search needs) (search needs) returns (search needs) returns-2 (search needs) returns-3 judge-requires returns-4)

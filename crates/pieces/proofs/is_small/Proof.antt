@@ -1,6 +1,6 @@
 -- `pieces::is_small` meets its contract.
 use mathlib.Core.Path.{_≡_, ap₂, _∙_}
-use mathlib.Core.Bool.{Bool, _&&_}
+use mathlib.Core.Bool.{Bool, not, _&&_}
 use Prim.Native.Nat.{_^_}
 use borrow.Author.Needs.{needs}
 use borrow.Author.Tests.{lt-ltb, le-ltb}
@@ -18,12 +18,12 @@ returns c = rw (lt-ltb _ _ (c .if1 .taken))
 returns-2 : tie.Need-returns-2
 unfolding isSmall
 returns-2 c =
-    let b = c .before .before in
+    let b = c .before .before .before in
     let a = b .before .before in
     let e = a .before .before in
     let s = e .before .before in
     rw (le-ltb _ _ (e .if1 .left))
-    (ap₂ (λ (x y : Bool). x && (y && (ltb (s .args .kept .p) (2 ^ 32) && ltb (s .args .kept .q) (2 ^ 32))))
+    (ap₂ (λ (x y : Bool). x && (y && (ltb (s .args .kept .p) (2 ^ 32) && (ltb (s .args .kept .q) (2 ^ 32) && not (ltb (s .args .kept .read) (s .args .kept .wrong))))))
     (rw (kept w64 (s .args .kept .first) (a .before .struct-told .given .1 .1 .1 .1 .1 .1 .0 .1)) at (a .is-sum .ensures))
     (rw (kept w64 (s .args .kept .second) (b .before .struct-told2 .given .1 .1 .1 .1 .1 .1 .1 .0 .1)) at (b .is-sum2 .ensures)))
 

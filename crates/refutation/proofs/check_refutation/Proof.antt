@@ -14,7 +14,7 @@ use Rattle.lines.specs.Limits.{maxVariables, maxRefutation}
 use Rattle.lines.specs.Refusal.{_orElse_, refuseIf}
 use Rattle.lines.specs.Valid.{ListOk, valid-list, lines-more}
 use Rattle.refutation.specs.declared.RefutationAnswer.{RefutationAnswer}
-use Rattle.refutation.specs.Progress.{accepted, accepts}
+use Rattle.refutation.specs.Progress.{start, run}
 use Rattle.refutation.specs.Answer.{unlessRefused, verdict, refutationValidity, refutationAnswer}
 use Rattle.refutation.proofs.check_refutation.Statement.{statement}
 use Rattle.refutation.proofs.check_refutation.Tie as tie
@@ -31,7 +31,7 @@ module _ (c : tie.After-list-validity) where
   R = c .before .before .args .refutation .now
 
   abbrev answerAfter : Validity → RefutationAnswer
-  answerAfter v = unlessRefused (v orElse refuseIf (ltb maxRefutation (length R)) LongRefutation) (verdict (accepts L R))
+  answerAfter v = unlessRefused (v orElse refuseIf (ltb maxRefutation (length R)) LongRefutation) (verdict (run L start R))
 
   answered : answerAfter (c .list-validity .result) ≡ refutationAnswer n L R
   unfolding refutationAnswer refutationValidity
@@ -63,39 +63,15 @@ read-all-requires c κs =
     let w = v (c .before) in
     (lines-more (n w) maxVariables (L w) (o .variables) (o .lines), c .if1 .left)
 
-is-accepted-requires : tie.Need-is-accepted-requires
-is-accepted-requires c κs = search needs
-
--- all numbers were read
-module _ (c : tie.After-is-accepted) where
-  abbrev e : tie.Else1
-  e = c .before .before
-
-  abbrev w : tie.After-list-validity
-  w = v (e .before)
-
-  judged : verdict (c .is-accepted .result) ≡ refutationAnswer (n w) (L w) (R w)
-  unfolding accepts
-  judged =
-      ap verdict (c .is-accepted .ensures ∙ ap accepted (c .before .read-all .ensures .0))
-      ∙ (rw (le-ltb _ _ (e .if1 .left)) at (valid (e .before)))
+judge-requires : tie.Need-judge-requires
+judge-requires c κs = search needs
 
 returns-3 : tie.Need-returns-3
-returns-3 c = ap verdict (sym (c .if2 .taken)) ∙ judged (c .before)
-
-returns-4 : tie.Need-returns-4
-returns-4 c = ap verdict (sym (c .if2 .left)) ∙ judged (c .before)
+returns-3 c =
+    let e = c .before .before in
+    c .judge .ensures ∙ ap verdict (c .before .read-all .ensures .0) ∙ (rw (le-ltb _ _ (e .if1 .left)) at (valid (e .before)))
 
 pub check-refutation-spec : {M : Type 1} → statement M
 check-refutation-spec =
     tie.close
-    (tie.spec
-    (search needs)
-    (search needs)
-    returns
-    (search needs)
-    returns-2
-    read-all-requires
-    is-accepted-requires
-    returns-3
-    returns-4)
+    (tie.spec (search needs) (search needs) returns (search needs) returns-2 read-all-requires judge-requires returns-3)

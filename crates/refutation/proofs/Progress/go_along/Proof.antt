@@ -15,7 +15,7 @@ use Rattle.lines.specs.Limits.{maxRefutation}
 use Rattle.steps.specs.declared.Step.{Step}
 use Rattle.steps.specs.Step.{maxWeight}
 use Rattle.refutation.specs.declared.Progress.{Progress}
-use Rattle.refutation.specs.Progress.{headSize, joins, turns, along}
+use Rattle.refutation.specs.Progress.{headSize, wrongAfter, joins, turns, along}
 use Rattle.refutation.specs.Small.{first-within, second-within, either, none-within}
 use Rattle.refutation.proofs.Progress.go_along.Statement.{statement}
 use Rattle.refutation.proofs.Progress.go_along.Tie as tie
@@ -40,11 +40,16 @@ module _ (c : tie.After-only-if) where
   abbrev u : ℕ
   u = cond (eqb (s .read) headSize) (t .from) (s .u)
 
-  good-is : c .only-if .result .good ≡ (s .good && (joins s (t .from) && turns s u (t .to)))
-  good-is =
-      ap (λ (p : Progress). p .good) (c .only-if .ensures)
-      ∙ ap₂ (λ (a b : Bool). s .good && (a && b)) (c .before .before .joins-with .ensures)
+  suits : (c .before .before .joins-with .result && c .before .turns-at .result) ≡ (joins s (t .from) && turns s u (t .to))
+  suits =
+      ap₂ (λ (a b : Bool). a && b) (c .before .before .joins-with .ensures)
       (c .before .turns-at .ensures ∙ ap (λ (v : ℕ). turns s v (t .to)) (c .before .before .before .choose .ensures))
+
+  good-is : c .only-if .result .good ≡ (s .good && (joins s (t .from) && turns s u (t .to)))
+  good-is = ap (λ (p : Progress). p .good) (c .only-if .ensures) ∙ ap (λ (b : Bool). s .good && b) suits
+
+  wrong-is : c .only-if .result .wrong ≡ wrongAfter s (joins s (t .from) && turns s u (t .to))
+  wrong-is = ap (λ (p : Progress). p .wrong) (c .only-if .ensures) ∙ ap (wrongAfter s) suits
 
 sum-fits : (z w : ℤ) → Within (maxRefutation * maxWeight) z → Within maxWeight w → SFits w64 (z +ℤ w)
 sum-fits z w h k = simp ints (omega zs)
@@ -118,6 +123,7 @@ returns c =
       first = first i;
       second = second i;
       good = good-is g i;
+      wrong = wrong-is g i;
     }
 
 pub go-along-spec : {M : Type 1} → statement M

@@ -1,0 +1,13 @@
+-- `refutation::Progress::only_if` meets its contract.
+use mathlib.Core.Path.{_≡_}
+use borrow.Author.Needs.{needs}
+use Rattle.refutation.specs.Progress.{wrongAfter}
+use Rattle.refutation.proofs.Progress.only_if.Statement.{statement}
+use Rattle.refutation.proofs.Progress.only_if.Tie as tie
+
+returns : tie.Need-returns
+unfolding wrongAfter
+returns c = rw (c .choose .ensures)
+
+pub only-if-spec : {M : Type 1} → statement M
+only-if-spec = tie.close (tie.spec (search needs) (search needs) returns)

@@ -1,0 +1,116 @@
+/* Printing a no on a proposed refutation: which of its numbers is wrong, and why. */
+#include "list.h"
+
+#include <inttypes.h>
+
+/* Prints a point: an event, or its opposite with a minus. */
+static void print_point(const struct list *list, struct point point)
+{
+    fputs(point.sign < 0 ? "-" : "", stdout);
+    print_event(stdout, list, point.variable);
+}
+
+static void print_head(const struct proposal *proposal, enum reason reason)
+{
+    uint32_t kind = proposal->numbers[0], p = proposal->numbers[1], q = proposal->numbers[2];
+    if (reason == TOO_FEW) {
+        printf("  Of the three numbers that come first, the kind and two counts, it has %zu.\n",
+               proposal->count);
+    } else if (reason == BAD_KIND) {
+        printf("  The kind is %" PRIu32 ", but there are only the kinds 1, 2 and 3.\n", kind);
+    } else if (reason == BAD_COUNTS) {
+        printf("  The counts, at index 1 and 2, are %" PRIu32 " and %" PRIu32 ".\n"
+               "  Kind %" PRIu32 " has %s.\n",
+               p, q, kind,
+               kind == 1   ? "a first count of at least 1, and a second of 0"
+               : kind == 2 ? "two counts of at least 1"
+                           : "a first count of 1, and a second of 0");
+    } else {
+        printf("  The counts %" PRIu32 " and %" PRIu32 " ask for %" PRIu64 " numbers: three, and"
+               " then the steps.\n  There are %zu.\n",
+               p, q, (uint64_t)3 + p + q, proposal->count);
+    }
+}
+
+/* Prints why a step number names nothing that its kind can use. */
+static void print_no_step(const struct list *list, uint32_t step, enum reason reason)
+{
+    uint32_t rule = step / 2;
+    if (reason == NO_RULE) {
+        printf("  Step %" PRIu32 " is of rule %" PRIu32 ", but ", step, rule);
+        if (list->count == 0) {
+            puts("there are no rules.");
+        } else {
+            printf("the last is rule %zu.\n", list->count - 1);
+        }
+        return;
+    }
+    print_rule(list, step);
+    if (reason == NO_SIDE) {
+        printf("  Rule %" PRIu32 " is on one event and has only side 0: step %" PRIu32
+               " in place of %" PRIu32 ".\n",
+               rule, step - 1, step);
+    } else if (reason == NO_STEPS) {
+        printf("  Step %" PRIu32 " would be side %" PRIu32 " of rule %" PRIu32
+               ", but a rule without events has no steps.\n",
+               step, step % 2, rule);
+    } else if (reason == HAS_EVENTS) {
+        puts("  Kind 3 takes a rule without events, which is false by itself.");
+    } else if (reason == IS_TRUE) {
+        puts("  Kind 3 takes a rule that is false by itself, and this one is true.");
+    } else {
+        printf("  Kind 3 names rule %" PRIu32 " by twice its number: %" PRIu32
+               " in place of %" PRIu32 ".\n",
+               rule, step - 1, step);
+    }
+}
+
+/* Prints why a step can't stand here: what it joins or where a walk has to end. */
+static void print_walk_fault(const struct list *list, const struct proposal *proposal,
+                             struct fault fault)
+{
+    uint32_t number = proposal->numbers[fault.place];
+    struct step step = step_of(list, number);
+    struct point start = step_of(list, proposal->numbers[3]).from;
+    print_rule(list, number);
+    printf("  Step %" PRIu32 ", side %" PRIu32 " of rule %" PRIu32 ", leads from ", number,
+           number % 2, number / 2);
+    print_point(list, step.from);
+    fputs(" to ", stdout);
+    print_point(list, step.to);
+    if (fault.reason == NOT_JOINED) {
+        fputs(".\n  It does not join: the walk is at ", stdout);
+        print_point(list, step_of(list, proposal->numbers[fault.place - 1]).to);
+    } else if (fault.reason == FIRST_ENDS_WRONG) {
+        fputs(".\n  The first walk ends there. It has to end at the opposite of where it began: ",
+              stdout);
+        print_point(list, opposite(start));
+    } else {
+        printf(".\n  The %swalk ends there. It has to end where %s began: ",
+               proposal->numbers[0] == 2 ? "second " : "",
+               proposal->numbers[0] == 2 ? "the first" : "it");
+        print_point(list, start);
+    }
+    puts(".");
+}
+
+void print_broken(const struct list *list, const struct proposal *proposal, struct fault fault)
+{
+    printf("No. The refutation shows nothing. It breaks at index %zu, ", fault.place);
+    if (fault.place < proposal->count) {
+        printf("the number %" PRIu32 ":\n\n", proposal->numbers[fault.place]);
+    } else {
+        puts("which is missing:\n");
+    }
+    if (fault.reason <= BAD_LENGTH) {
+        print_head(proposal, fault.reason);
+    } else if (fault.reason <= IS_ODD) {
+        print_no_step(list, proposal->numbers[fault.place], fault.reason);
+    } else if (fault.reason <= LAST_ENDS_WRONG) {
+        print_walk_fault(list, proposal, fault);
+    } else {
+        print_walks(list, proposal->numbers);
+        puts("  The sums are not low enough: the rules have to add up to something false.");
+    }
+    puts("\nIndexes and rules count from 0, lines from 1. A rule with = counts as two.");
+}
