@@ -220,6 +220,47 @@ utvpi_progress utvpi_refutation_take(utvpi_progress kept, const int32_t *list, s
 int64_t utvpi_refutation_end(utvpi_progress kept, uint64_t n,
                              const int32_t *list, size_t list_len);
 
+/* A FILE for a list is records, each a two-byte length of its body, a two-byte
+ * kind and the body, all with the lowest byte first: one of kind 1 and length 4,
+ * which is n; then the lines, each of kind 2 and length 20, five signed 32-bit
+ * numbers; then one of kind 3 and length 0; then nothing. Each valid list has
+ * exactly one file.
+ *
+ * Reading writes the list's numbers to the front of the buffer: 5 for each line.
+ * On a refusal the buffer is left as it was; else what lies beyond the lines is.
+ * On a refusal n and lines are 0, else refusal and place are.
+ * Besides the refusals of a list below, with their places, which come last:
+ *
+ *     20   a record is cut: the place is its byte offset
+ *     21   an unknown kind, at the record's offset
+ *     22   the wrong length for the kind, at the record's offset
+ *     23   a record out of place, at its offset
+ *     24   bytes after the end, at the first of them
+ *     25   the buffer has no room for this line, at its record's offset
+ *
+ * Where refusal is 0, the list was read. */
+typedef struct utvpi_file_read {
+    uint64_t refusal, place, n, lines;
+} utvpi_file_read;
+
+utvpi_file_read utvpi_read_list(const uint8_t *bytes, size_t bytes_len,
+                                int32_t *numbers, size_t numbers_len);
+
+/* The bytes of the file of a list with so many lines. */
+#define UTVPI_FILE_SIZE(lines) ((size_t)12 + (size_t)24 * (size_t)(lines))
+
+/* Writing writes the file to the front of the buffer. It refuses what the list's
+ * own refusals refuse, then 25 at place 0 where the buffer is shorter than the
+ * file; a refusal leaves the buffer as it was, and bytes is 0. Where refusal is 0,
+ * the file was written and has so many bytes; what lies beyond it is left as it
+ * was. */
+typedef struct utvpi_file_written {
+    uint64_t refusal, place, bytes;
+} utvpi_file_written;
+
+utvpi_file_written utvpi_write_list(uint64_t n, const int32_t *list, size_t list_len,
+                                    uint8_t *out, size_t out_len);
+
 /* What a result says, and its parts. Each takes a result as its argument. */
 #define UTVPI_IS_YES(result) ((result) == 0)
 #define UTVPI_IS_NO(result) ((result) >= 1000000)

@@ -4,6 +4,8 @@
 const char help[] =
     "Usage: utvpi [--numbers] [FILE]\n"
     "       utvpi --check REFUTATION [FILE]\n"
+    "       utvpi --text [FILE]\n"
+    "       utvpi --write NEW [FILE]\n"
     "\n"
     "Says whether whole numbers exist that meet all the rules in FILE, or on standard\n"
     "input where there is no FILE or it is \"-\".\n"
@@ -32,6 +34,19 @@ const char help[] =
     "coefficient 0. At most 64 events and 512 rules (one with = counts twice), and\n"
     "bounds from -1,000,000 to 1,000,000.\n"
     "\n"
+    "FILE may also be records, for programs to exchange. Each is the length of its body\n"
+    "in two bytes, its kind in two bytes and the body, lowest bytes first: one of kind 1,\n"
+    "the number of variables in four bytes; then for each rule one of kind 2, its five\n"
+    "numbers in four bytes each; then one of kind 3, without a body, that ends the list.\n"
+    "\n"
+    "    --text         prints the list as text, as five numbers for each rule\n"
+    "    --write NEW    writes the list as records to NEW, a file that must not exist\n"
+    "                   yet, or to standard output where NEW is \"-\"\n"
+    "\n"
+    "Both only convert, whatever form FILE has, and decide nothing. Names and comments\n"
+    "are lost: records have none, and their events are called x0, x1 and so on. A no\n"
+    "about records counts its lines as --text prints them.\n"
+    "\n"
     "The answer is one of these:\n"
     "\n"
     "    Yes, with a value for each event; the least and the greatest value that it can\n"
@@ -43,7 +58,10 @@ const char help[] =
     "    x <= 0, and others to -2*x <= -1, which means -x <= -1. Together: 0 <= -1.\n"
     "    With --numbers a no is printed as a refutation in numbers, one line and no\n"
     "    more, which --check can take: utvpi --numbers FILE | utvpi --check - FILE\n"
-    "\n"
+    "\n";
+
+/* A compiler need not take it all as one string. */
+const char help_of_check[] =
     "With --check nothing is decided. REFUTATION is a file with the numbers of a\n"
     "refutation of the rules, or \"-\" for standard input; blanks, commas or new lines\n"
     "stand between them, and # begins a comment. The answer is one of these:\n"
@@ -77,5 +95,6 @@ const char help[] =
     "    3   p is 1 and q is 0. The one step number is twice the number of a rule 0 <= d\n"
     "        with d below 0.\n"
     "\n"
-    "Exit status: 0 yes; 1 no; 2 no answer, as something is wrong with the input; 3 the\n"
-    "answer did not pass its check, so that it can't be trusted.\n";
+    "Exit status: 0 yes, or converted; 1 no; 2 no answer, as something is wrong with the\n"
+    "input or can't be written; 3 the answer did not pass its check, so that it can't be\n"
+    "trusted.\n";

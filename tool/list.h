@@ -6,6 +6,7 @@
 
 #include "utvpi.h"
 
+#include <inttypes.h>
 #include <stdbool.h>
 #include <stdio.h>
 
@@ -19,6 +20,19 @@
 /* The most names that are ever kept: reading ends with the line that passes the
  * library's limit, and a line has fewer names than characters. */
 #define MOST_NAMES (UTVPI_MOST_VARIABLES + MOST_RULE)
+
+/* A line as five numbers, and the most characters that it has, with its end. */
+#define LINE_FORMAT "%" PRId32 " %" PRId32 " %" PRId32 " %" PRId32 " %" PRId32
+#define MOST_SHOWN_LINE 64
+
+/* The refusals of a list that is given as records. */
+enum record_refusal {
+    RECORD_CUT = 20,
+    RECORD_UNKNOWN = 21,
+    RECORD_LENGTH = 22,
+    RECORD_MISPLACED = 23,
+    RECORD_AFTER_END = 24
+};
 
 /* The exit statuses. */
 enum status { STATUS_YES = 0, STATUS_NO = 1, STATUS_BAD = 2, STATUS_DISAGREE = 3 };
@@ -35,7 +49,7 @@ struct origin {
     struct text rule;
 };
 
-/* The two forms of a file. */
+/* The two forms of a text. Records are read as if they were one of numbers. */
 enum form { FORM_OPEN, FORM_NUMBERS, FORM_NAMES };
 
 struct list {
@@ -58,6 +72,11 @@ struct list {
     enum form form;
     size_t form_line;
     struct text names[MOST_NAMES];
+
+    /* Whether the input is records, and then their text: the line that says how
+     * many variables there are, and up to one rule too many. */
+    bool records;
+    char shown[1 + UTVPI_MOST_LINES + 1][MOST_SHOWN_LINE];
 };
 
 /* A refutation that someone proposes. Reading ends with the number that passes
@@ -96,8 +115,9 @@ struct step {
     struct point to;
 };
 
-/* help.c: what --help prints. */
+/* help.c: what --help prints, one after the other. */
 extern const char help[];
+extern const char help_of_check[];
 
 /* text.c: the bytes of an input, showing parts of it, and its lines. */
 bool load(FILE *from, const char *file, struct text *input);
@@ -137,6 +157,18 @@ bool same_point(struct point one, struct point other);
 /* faults.c: where a proposed refutation breaks, and why. */
 struct fault first_fault(const struct list *list, const struct proposal *proposal);
 
+/* records.c: a list as records, and as text in numbers. */
+bool is_records(struct text input);
+bool read_records(struct list *list);
+size_t record_of(size_t line);
+void write_records(FILE *to, const struct list *list);
+void write_text(FILE *to, const struct list *list);
+
+/* convert.c: the list's numbers for the library, and the list in another form:
+ * records where a file is named, else text. */
+const int32_t *numbers_of(const struct list *list);
+int convert(const struct list *list, const char *to);
+
 /* yes.c, no.c, broken.c and refusal.c: the answers in words. */
 void print_event(FILE *to, const struct list *list, uint64_t variable);
 int event_width(const struct list *list, uint64_t variable);
@@ -148,5 +180,6 @@ void print_walks(const struct list *list, const uint32_t *refutation);
 void print_no(const struct list *list, const uint32_t *refutation, const char *shown);
 void print_broken(const struct list *list, const struct proposal *proposal, struct fault fault);
 void print_refusal(const struct list *list, const char *file, int64_t result);
+void print_fault(const struct list *list, int number, size_t at);
 
 #endif

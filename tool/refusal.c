@@ -1,5 +1,5 @@
-/* Printing a refusal of the library: its number and place, the line of the file,
- * and what to do. */
+/* Printing a refusal of the library, or of records: its number and place, the line
+ * or the byte of the file, and what to do. */
 #include "list.h"
 
 struct words {
@@ -42,6 +42,41 @@ static struct words words_of(int number)
     }
 }
 
+/* The same for a refusal of records. */
+static struct words words_of_fault(int number)
+{
+    static const char again[] = "look for a damaged part, or get the file again";
+    switch (number) {
+    case RECORD_CUT:
+        return (struct words){"the file ends before this record does, or before the record of"
+                              " kind 3 that ends a list",
+                              "get the file again: the end is missing"};
+    case RECORD_UNKNOWN:
+        return (struct words){"this record's kind, its third and fourth byte, is not 1, 2 or 3",
+                              again};
+    case RECORD_LENGTH:
+        return (struct words){"this record's length, its first two bytes, is not 4 for kind 1, 20"
+                              " for kind 2 or 0 for kind 3",
+                              again};
+    case RECORD_MISPLACED:
+        return (struct words){"this record is out of place: kind 1, the number of variables,"
+                              " stands first and only there",
+                              again};
+    default:
+        return (struct words){"something follows the record that ends the list",
+                              "cut the file off at this byte, or get it again"};
+    }
+}
+
+/* Prints a refusal of records, and the byte where the record begins. */
+void print_fault(const struct list *list, int number, size_t at)
+{
+    struct words words = words_of_fault(number);
+    fprintf(stderr, "utvpi: %s, byte %zu: refused with number %d, place %zu: %s.\n", list->file,
+            at, number, at, words.what);
+    fprintf(stderr, "  What to do: %s.\n", words.advice);
+}
+
 /* The rule that a refusal is about; line 0 where it is about none. */
 static struct origin offender(const struct list *list, int number, int place)
 {
@@ -67,7 +102,8 @@ void print_refusal(const struct list *list, const char *file, int64_t result)
     struct origin origin = offender(list, number, place);
     fprintf(stderr, "utvpi: %s", file);
     if (origin.line > 0) {
-        fprintf(stderr, ", line %zu", origin.line);
+        fprintf(stderr, list->records ? ", byte %zu" : ", line %zu",
+                list->records ? record_of(origin.line) : origin.line);
     }
     fprintf(stderr, ": refused with number %d, place %d: %s.\n", number, place, words.what);
     if (origin.line > 0) {

@@ -145,7 +145,8 @@ static bool is_plain(const char *file, size_t number, struct text line)
         if ((c < 32 && c != '\t') || c == 127) {
             struct text part = {line.at + at, 1};
             return wrong_in(file, origin, part, "is a character that no text has",
-                            "give a plain text file whose lines end with LF or CR LF");
+                            "give a plain text file whose lines end with LF or CR LF, or records,"
+                            " which begin with the bytes 04 00 01 00");
         }
     }
     return true;

@@ -1,6 +1,7 @@
 /* The command: decides a list of rules given as text, checks the answer with the
  * library's two checkers, and prints it in words. Or it checks a refutation that
- * someone proposes. */
+ * someone proposes, or writes the list in another form. Lists come as text or as
+ * records. */
 #include "list.h"
 
 #include <errno.h>
@@ -92,13 +93,6 @@ static int answer_no(const struct list *list, bool in_numbers)
         print_no(list, refutation, "No. No whole numbers meet all the rules.");
     }
     return STATUS_NO;
-}
-
-/* The list's numbers: a pointer to something, even where there are none. */
-static const int32_t *numbers_of(const struct list *list)
-{
-    static const int32_t empty[5] = {0, 0, 0, 0, 0};
-    return list->count > 0 ? list->numbers : empty;
 }
 
 /* Decides the list, which the library may refuse. An answer is given only to a
@@ -199,10 +193,12 @@ static int run_check(const struct list *list, const char *file)
     return status;
 }
 
-/* What is asked for. Without a proposed refutation, the list is decided. */
+/* What is asked for. Where nothing is to be checked or written, the list is decided. */
 struct command {
     bool help;
     bool in_numbers;
+    bool to_text;
+    const char *to_records;
     const char *proposed;
     const char *file;
 };
@@ -216,9 +212,14 @@ static int run(const struct command *command)
     if (!load_file(command->file, &list.input)) {
         return STATUS_BAD;
     }
-    if (read_list(&list)) {
-        status = command->proposed != NULL ? run_check(&list, command->proposed)
-                                           : answer(&list, command->in_numbers);
+    if (is_records(list.input) ? read_records(&list) : read_list(&list)) {
+        if (command->proposed != NULL) {
+            status = run_check(&list, command->proposed);
+        } else if (command->to_text || command->to_records != NULL) {
+            status = convert(&list, command->to_records);
+        } else {
+            status = answer(&list, command->in_numbers);
+        }
     }
     free(list.numbers);
     free(list.origins);
@@ -236,48 +237,81 @@ static int finish(int status)
     return status;
 }
 
-/* Reads the command line. Gives back what is wrong with it, or NULL. */
-static const char *read_command(int argc, char **argv, struct command *command)
+/* Reads one option's argument, of which there may be one. */
+static bool take_argument(int argc, char **argv, int *at, const char **argument)
+{
+    *at += 1;
+    if (*at == argc || *argument != NULL) {
+        return false;
+    }
+    *argument = argv[*at];
+    return true;
+}
+
+/* Takes the arguments apart. Gives back what is wrong with them, or NULL. */
+static const char *read_arguments(int argc, char **argv, struct command *command)
 {
     for (int at = 1; at < argc; at++) {
         if (strcmp(argv[at], "--help") == 0 || strcmp(argv[at], "-h") == 0) {
             command->help = true;
         } else if (strcmp(argv[at], "--numbers") == 0) {
             command->in_numbers = true;
+        } else if (strcmp(argv[at], "--text") == 0) {
+            command->to_text = true;
+        } else if (strcmp(argv[at], "--write") == 0) {
+            if (!take_argument(argc, argv, &at, &command->to_records)) {
+                return "--write takes one NEW file, or - for standard output";
+            }
         } else if (strcmp(argv[at], "--check") == 0) {
-            at++;
-            if (at == argc || command->proposed != NULL) {
+            if (!take_argument(argc, argv, &at, &command->proposed)) {
                 return "--check takes one REFUTATION: a file, or - for standard input";
             }
-            command->proposed = argv[at];
         } else if (argv[at][0] == '-' && argv[at][1] != '\0') {
-            return "there are only the options --check, --numbers and --help";
+            return "there are only the options --check, --numbers, --text, --write and --help";
         } else if (command->file != NULL) {
             return "this takes one FILE, or none for standard input";
         } else {
             command->file = argv[at];
         }
     }
-    if (command->file == NULL) {
-        command->file = "-";
+    return NULL;
+}
+
+/* Whether what is asked for fits together. Gives back what does not, or NULL. */
+static const char *suits(const struct command *command)
+{
+    int orders = command->in_numbers + command->to_text + (command->to_records != NULL) +
+                 (command->proposed != NULL);
+    if (orders > 1) {
+        return "give only one of --check, --numbers, --text and --write";
     }
-    if (command->proposed == NULL) {
-        return NULL;
+    if (command->to_records != NULL && command->to_records[0] == '-' &&
+        command->to_records[1] != '\0') {
+        return "--write takes a NEW file, and this is an option";
     }
-    if (command->in_numbers) {
-        return "--numbers is for deciding, and --check decides nothing: give one of them";
-    }
-    return is_standard_input(command->proposed) && is_standard_input(command->file)
+    return command->proposed != NULL && is_standard_input(command->proposed) &&
+                   is_standard_input(command->file)
                ? "REFUTATION and FILE can't both be standard input: name one of them"
                : NULL;
 }
 
+/* Reads the command line. Gives back what is wrong with it, or NULL. */
+static const char *read_command(int argc, char **argv, struct command *command)
+{
+    const char *wrong_use = read_arguments(argc, argv, command);
+    if (command->file == NULL) {
+        command->file = "-";
+    }
+    return wrong_use != NULL ? wrong_use : suits(command);
+}
+
 int main(int argc, char **argv)
 {
-    struct command command = {false, false, NULL, NULL};
+    struct command command = {false, false, false, NULL, NULL, NULL};
     const char *wrong_use = read_command(argc, argv, &command);
     if (command.help) {
         fputs(help, stdout);
+        fputs(help_of_check, stdout);
         return finish(0);
     }
     if (wrong_use != NULL) {

@@ -22,7 +22,8 @@ pub struct Guarded<T> {
 }
 
 impl<T: Copy> Guarded<T> {
-    fn new(length: usize, rubbish: impl FnMut() -> T) -> Guarded<T> {
+    /// So many numbers and their guards, full of this rubbish.
+    pub fn new(length: usize, rubbish: impl FnMut() -> T) -> Guarded<T> {
         let whole = std::iter::repeat_with(rubbish)
             .take(length + 2 * GUARD)
             .collect();

@@ -9,10 +9,12 @@ pub mod closure;
 pub mod damage;
 pub mod decision;
 pub mod document;
+pub mod files;
 pub mod library;
 pub mod make;
 pub mod make_cases;
 pub mod make_lists;
+pub mod records;
 pub mod second;
 pub mod seen;
 

@@ -1,4 +1,4 @@
-//! The library under test: its six C functions, and safe functions over them.
+//! The library under test: its eight C functions, and safe functions over them.
 
 /// What the check of a refutation keeps between two numbers.
 #[repr(C)]
@@ -14,6 +14,25 @@ pub struct Progress {
     pub second: i64,
     pub good: bool,
     pub wrong: usize,
+}
+
+/// What reading a file returns.
+#[repr(C)]
+#[derive(Clone, Copy, PartialEq, Debug)]
+pub struct FileRead {
+    pub refusal: u64,
+    pub place: u64,
+    pub n: u64,
+    pub lines: u64,
+}
+
+/// What writing a file returns.
+#[repr(C)]
+#[derive(Clone, Copy, PartialEq, Debug)]
+pub struct FileWritten {
+    pub refusal: u64,
+    pub place: u64,
+    pub bytes: u64,
 }
 
 extern "C" {
@@ -59,6 +78,21 @@ extern "C" {
     ) -> Progress;
 
     fn utvpi_refutation_end(kept: Progress, n: u64, list: *const i32, list_len: usize) -> i64;
+
+    fn utvpi_read_list(
+        bytes: *const u8,
+        bytes_len: usize,
+        numbers: *mut i32,
+        numbers_len: usize,
+    ) -> FileRead;
+
+    fn utvpi_write_list(
+        n: u64,
+        list: *const i32,
+        list_len: usize,
+        out: *mut u8,
+        out_len: usize,
+    ) -> FileWritten;
 }
 
 /// One of the two checkers: n, list and what is proposed in, the result out.
@@ -131,4 +165,23 @@ pub fn refutation_take(kept: Progress, list: &[i32], number: u32) -> Progress {
 pub fn refutation_end(kept: Progress, n: u64, list: &[i32]) -> i64 {
     // The function reads the list within its length and keeps no pointer.
     unsafe { utvpi_refutation_end(kept, n, list.as_ptr(), list.len()) }
+}
+
+/// The result of `utvpi_read_list`.
+pub fn read_list(file: &[u8], numbers: &mut [i32]) -> FileRead {
+    // The function stays within the lengths and keeps no pointer.
+    unsafe {
+        utvpi_read_list(
+            file.as_ptr(),
+            file.len(),
+            numbers.as_mut_ptr(),
+            numbers.len(),
+        )
+    }
+}
+
+/// The result of `utvpi_write_list`.
+pub fn write_list(n: u64, list: &[i32], out: &mut [u8]) -> FileWritten {
+    // The function stays within the lengths and keeps no pointer.
+    unsafe { utvpi_write_list(n, list.as_ptr(), list.len(), out.as_mut_ptr(), out.len()) }
 }

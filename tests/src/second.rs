@@ -231,14 +231,19 @@ pub fn where_it_breaks(n: u64, list: &[u8], refutation: &[u8]) -> Option<(usize,
     }
 }
 
-/// What `utvpi_decide` is to refuse this list with, if it is to: the lengths are
-/// those of model, bounds, groups, refutation and work area.
-pub fn decide_refusal(n: u64, list: &[i32], lengths: [usize; 5]) -> Option<Answer> {
+/// What this list itself is refused with, if it is.
+pub fn list_refusal(n: u64, list: &[i32]) -> Option<Answer> {
     let bytes: Vec<u8> = list
         .iter()
         .flat_map(|number| number.to_le_bytes())
         .collect();
-    if let Err(refused) = read_list(n, &bytes) {
+    read_list(n, &bytes).err()
+}
+
+/// What `utvpi_decide` is to refuse this list with, if it is to: the lengths are
+/// those of model, bounds, groups, refutation and work area.
+pub fn decide_refusal(n: u64, list: &[i32], lengths: [usize; 5]) -> Option<Answer> {
+    if let Some(refused) = list_refusal(n, list) {
         return Some(refused);
     }
     let n = n as usize;

@@ -1,4 +1,5 @@
 pub mod Codes
 pub mod Calls
+pub mod Files
 pub mod Laws
 pub mod Apart

@@ -9,6 +9,12 @@ use lines::limits::MAX_LINES;
 use lines::limits::MAX_REFUTATION;
 use lines::limits::MAX_VARIABLES;
 use lines::list_validity;
+use lines::number_of;
+use lines::place_of;
+use list_file::ReadAnswer;
+use list_file::WriteAnswer;
+use list_file::read_list;
+use list_file::write_list;
 use little_endian::decode_i32;
 use little_endian::decode_i64;
 use little_endian::u32_at;
@@ -17,13 +23,15 @@ use model::check_model;
 use pieces::begin;
 use pieces::end;
 use pieces::take_on;
+use records::file_number;
+use records::file_place;
 use refutation::Progress;
 use refutation::RefutationAnswer;
 ghost use mathlib.Core.Path.{_≡_};
 ghost use Prim.Native.Nat.{_*_, _<_, _≤_};
 ghost use lib.ListN.{length};
 ghost use Rattle.lines.specs.Limits.{lineSize, maxVariables, maxLines};
-ghost use Rattle.lines.specs.Refusal.{numberOf, placeOf};
+ghost use Rattle.lines.specs.Refusal.{placeOf};
 ghost use Rattle.model.specs.Places as model;
 ghost use Rattle.little_endian.specs.Bytes.{nat32s};
 ghost use Rattle.refutation.specs.Progress.{start};
@@ -33,6 +41,7 @@ ghost use Rattle.pieces.specs.Cut.{Words};
 ghost use Rattle.decide.specs.Places as deciding;
 ghost use Rattle.c_interface.specs.Codes.{refusalUnit, refusalCode, modelCode, refutationCode, decideCode};
 ghost use Rattle.c_interface.specs.Calls.{modelOfValues, refutationOfNumbers, checkModel, checkRefutation, DecideReturns};
+ghost use Rattle.c_interface.specs.Files.{fileRead, fileWritten, ReadReturns, WriteReturns};
 ghost use Rattle.c_interface.specs.Laws.{Decoded};
 
 // The answer no is this and, of a model, the number of the line that fails, of a refutation the place where it breaks.
@@ -47,44 +56,6 @@ const VALUE_BYTES: usize = 8;
 const LINE_BYTES: usize = NUMBER_BYTES * LINE_SIZE;
 // The numbers of the longest list.
 const MOST_NUMBERS: usize = LINE_SIZE * MAX_LINES;
-
-// Document 01's number of a refusal.
-fn number_of(r: Refusal) -> usize
-    ensures { λ k. ⌜ k ≡ numberOf r ⌝ }
-{
-    match r {
-        Refusal::TooManyVariables => 1,
-        Refusal::BrokenLength => 2,
-        Refusal::TooManyLines => 3,
-        Refusal::BadCoefficient(_) => 4,
-        Refusal::BadVariable(_) => 5,
-        Refusal::BadConstant(_) => 6,
-        Refusal::ShortOutput(_) => 7,
-        Refusal::ShortWorkArea => 8,
-        Refusal::WrongModelLength => 9,
-        Refusal::BadValue(_) => 10,
-        Refusal::LongRefutation => 11,
-    }
-}
-
-// Document 01's place of a refusal.
-fn place_of(r: Refusal) -> usize
-    ensures { λ k. ⌜ k ≡ placeOf r ⌝ }
-{
-    match r {
-        Refusal::TooManyVariables => 0,
-        Refusal::BrokenLength => 0,
-        Refusal::TooManyLines => 0,
-        Refusal::BadCoefficient(k) => k,
-        Refusal::BadVariable(k) => k,
-        Refusal::BadConstant(k) => k,
-        Refusal::ShortOutput(k) => k,
-        Refusal::ShortWorkArea => 0,
-        Refusal::WrongModelLength => 0,
-        Refusal::BadValue(k) => k,
-        Refusal::LongRefutation => 0,
-    }
-}
 
 // The number that a refusal is returned as.
 fn refusal_code(r: Refusal) -> i64
@@ -260,4 +231,75 @@ pub extern "C" fn utvpi_refutation_end(kept: Progress, n: u64, list: &[i32]) -> 
     ensures { λ r. ⌜ r ≡ refutationCode (endAnswer n (now (list .entry)) kept) ⌝ }
 {
     refutation_code(end(kept, n as usize, list))
+}
+
+// What reading a file returns: a refusal's number and place, or 0, 0, n and the number of lines.
+#[repr(C)]
+pub struct FileRead {
+    pub refusal: u64,
+    pub place: u64,
+    pub n: u64,
+    pub lines: u64,
+}
+
+// What writing a file returns: a refusal's number and place, or 0, 0 and how many bytes were written.
+#[repr(C)]
+pub struct FileWritten {
+    pub refusal: u64,
+    pub place: u64,
+    pub bytes: u64,
+}
+
+// The struct that an answer on a file is returned as.
+fn read_result(a: ReadAnswer) -> FileRead
+    ensures { λ r. ⌜ r ≡ fileRead a ⌝ }
+{
+    match a {
+        ReadAnswer::Read(z) => FileRead {
+            refusal: 0,
+            place: 0,
+            n: z.n as u64,
+            lines: z.lines as u64,
+        },
+        ReadAnswer::Refused(r) => FileRead {
+            refusal: file_number(r) as u64,
+            place: file_place(r) as u64,
+            n: 0,
+            lines: 0,
+        },
+    }
+}
+
+// The struct that an answer on writing is returned as.
+fn write_result(a: WriteAnswer) -> FileWritten
+    ensures { λ r. ⌜ r ≡ fileWritten a ⌝ }
+{
+    match a {
+        WriteAnswer::Written(k) => FileWritten {
+            refusal: 0,
+            place: 0,
+            bytes: k as u64,
+        },
+        WriteAnswer::Refused(r) => FileWritten {
+            refusal: file_number(r) as u64,
+            place: file_place(r) as u64,
+            bytes: 0,
+        },
+    }
+}
+
+// Reads the list of a file into the front of a buffer.
+#[no_mangle]
+pub extern "C" fn utvpi_read_list(bytes: &[u8], numbers: &mut [i32]) -> FileRead
+    ensures { λ r. ⌜ ReadReturns (now (bytes .entry)) r (now (numbers .entry)) (now (numbers .exit)) ⌝ }
+{
+    read_result(read_list(bytes, numbers))
+}
+
+// Writes the one file of a list into the front of a buffer.
+#[no_mangle]
+pub extern "C" fn utvpi_write_list(n: u64, list: &[i32], out: &mut [u8]) -> FileWritten
+    ensures { λ r. ⌜ WriteReturns n (now (list .entry)) r (now (out .entry)) (now (out .exit)) ⌝ }
+{
+    write_result(write_list(n as usize, list, out))
 }

@@ -1,3 +1,4 @@
 pub mod Searched
 pub mod Decided
 pub mod Places
+pub mod Parts

@@ -7,7 +7,7 @@ use Prim.Native.Nat.{ℕ, _+_, _*_, _≤_}
 use native.Mathlib.Omega.{arith}
 use lib.IntN.{ℤ}
 use lib.ListN.{length, take, drop, getD, length-append}
-use lib.Seq.{take-at, drop-at}
+use lib.Seq.{drop-at}
 use Rattle.integers.specs.Laws.{never}
 use Rattle.integers.specs.Sequence.{length-tabulate}
 use Rattle.lines.specs.declared.Refusal.{Refusal}
@@ -16,17 +16,15 @@ use Rattle.lines.specs.declared.Validity.the-variants.{Valid}
 use Rattle.lines.specs.declared.Validity.the-variants as validity
 use Rattle.lines.specs.Line.{linesOf}
 use Rattle.lines.specs.Refusal.{validityOf}
-use Rattle.refutation.specs.Progress.{headSize}
-use Rattle.soundness.specs.Refutes.{Refutes, kind-1, kind-2, kind-3}
 use Rattle.answers.specs.Semantics.{Written}
 use Rattle.answers.specs.Meaning.{computed-written}
 use Rattle.answers.specs.Decided.{lines-ok}
 use Rattle.answers.specs.Verdict.{verdictOf}
 use Rattle.answers.specs.Answers.{modelOf, boundsOf, groupsOf}
-use Rattle.answers.specs.Refuted.{Due, stepsIn}
 use Rattle.buffers.specs.Room.{boundsRoom}
 use Rattle.decide.specs.declared.Answer.{Answer}
 use Rattle.decide.specs.declared.Answer.the-variants.{Yes, No, Refused}
+use Rattle.decide.specs.Parts.{modelIn, boundsIn, groupsIn, model-in, bounds-in, groups-in}
 use Rattle.decide.specs.Decided.{Lent, unlessRefused, decideAnswer, cleared, OnYes, OnNo, Leaves, Decided, validityFor, decide-ok}
 
 -- A call of `decide` that was not refused, whatever stood in the lent buffers before.
@@ -36,43 +34,6 @@ pub record Call (n : ℕ) (L : List ℤ) : Type 0 where
   pub after : Lent
   pub decided : Decided n L answer before after
   pub not-refused : (r : Refusal) → answer ≡ Refused r → ⊥
-
--- The parts that are written: of a refutation, the 3 + p + q numbers that its counts tell.
-abbrev pub modelIn : ℕ → Lent → List ℤ
-modelIn n a = take n (a .model)
-
-abbrev pub boundsIn : ℕ → Lent → List ℤ
-boundsIn n a = take (boundsRoom n) (a .bounds)
-
-abbrev pub groupsIn : ℕ → Lent → List ℕ
-groupsIn n a = take n (a .groups)
-
-abbrev pub refutationIn : Lent → List ℕ
-refutationIn a = take (headSize + stepsIn (a .refutation)) (a .refutation)
-
--- ---- the written part is the refutation
-stated-length : (L : List ℤ) (R : List ℕ) → Refutes L R → (rest : List ℕ) → length R ≡ headSize + stepsIn (R ++ rest)
-stated-length L R (kind-1 c) rest = rw (c .is) (omega arith)
-stated-length L R (kind-2 c) rest = rw (c .is) (omega (arith, length-append (c .numbers) (c .more)))
-stated-length L R (kind-3 c) rest = rw (c .is) refl
-
-module _ {n : ℕ} {L : List ℤ} {b a : Lent} where
-  pub model-in : OnYes n L b a → modelIn n a ≡ modelOf n (linesOf L)
-  unfolding modelOf
-  model-in w = ap (take n) (w .model) ∙ take-at (modelOf n (linesOf L)) _ n (length-tabulate n _)
-
-  pub bounds-in : OnYes n L b a → boundsIn n a ≡ boundsOf n (linesOf L)
-  unfolding boundsOf
-  bounds-in w = ap (take (boundsRoom n)) (w .bounds) ∙ take-at (boundsOf n (linesOf L)) _ (boundsRoom n) (length-tabulate (boundsRoom n) _)
-
-  pub groups-in : OnYes n L b a → groupsIn n a ≡ groupsOf n (linesOf L)
-  unfolding groupsOf
-  groups-in w = ap (take n) (w .groups) ∙ take-at (groupsOf n (linesOf L)) _ n (length-tabulate n _)
-
-  pub refutation-in : (w : OnNo n L b a) → refutationIn a ≡ w .numbers
-  refutation-in w =
-      let size = stated-length L (w .numbers) (w .due .refutes) (drop (length (w .numbers)) (b .refutation)) in
-      ap (λ (R : List ℕ). take (headSize + stepsIn R) R) (w .refutation) ∙ take-at (w .numbers) _ _ size
 
 -- ---- a refusal is answered exactly if it is the first that applies
 pub refused-when : {n : ℕ} {L : List ℤ} {answer : Answer} {b a : Lent} → Decided n L answer b a

@@ -48,7 +48,14 @@ use Rattle.buffers.specs.Room.{boundsRoom}
 use Rattle.decide.specs.declared.Answer.{Answer}
 use Rattle.decide.specs.declared.Answer.the-variants as decide
 use Rattle.decide.specs.Decided.{Lent, cleared, answerFor, Decided, validityFor}
-use Rattle.demands.specs.Calls.{Call, modelIn, boundsIn, groupsIn, refutationIn, refutation-in, refused-when, call-valid, yes-verdict, no-verdict, verdict-yes, verdict-no, on-yes, on-no, call-written, call-work, beyond-model, beyond-bounds, beyond-groups}
+use Rattle.decide.specs.Parts.{modelIn, boundsIn, groupsIn, refutationIn, refutation-in}
+use Rattle.demands.specs.Calls.{Call, refused-when, call-valid, yes-verdict, no-verdict, verdict-yes, verdict-no, on-yes, on-no, call-written, call-work, beyond-model, beyond-bounds, beyond-groups}
+use Rattle.list_file.specs.declared.Listed.{Listed}
+use Rattle.list_file.specs.declared.ReadAnswer.the-variants.{Read}
+use Rattle.list_file.specs.File.{fileOf, fileList}
+use Rattle.list_file.specs.Read.{readAnswer}
+use Rattle.list_file.specs.Bytes.{AreBytes}
+use Rattle.list_file.specs.Back.{OneFile, read-written, list-in-file, written-read, one-file, one-list}
 use Rattle.c_interface.specs.Codes.{decideCode}
 use Rattle.c_interface.specs.Calls.{numberBytes, bytesValidity, modelOfBytes, refutationOfBytes, checkModel, checkRefutation}
 use Rattle.c_interface.specs.Laws.{model-bytes-below, refutation-bytes-below, decision-below}
@@ -266,3 +273,22 @@ refutation-answers-apart n k b c r s = refutations-apart _ _ (refutation-bytes-b
 
 pub decisions-returned-apart : (n k : ℕ) (L M : List ℤ) (b c : Lent) → decideCode (answerFor n L b) ≡ decideCode (answerFor k M c) → answerFor n L b ≡ answerFor k M c
 decisions-returned-apart n k L M b c = decisions-apart _ _ (decision-below n L b) (decision-below k M c)
+
+-- ---- files
+
+-- Reading what was written gives n and the list back.
+pub written-is-read-back : (n : ℕ) (L : List ℤ) → ValidFor n L → (most room : ℕ) → n ≤ most → length L ≤ room
+    → (readAnswer most (fileOf n L) room ≡ Read (record { n = n; lines = lineCount L })) × (fileList (fileOf n L) (lineCount L) ≡ L)
+written-is-read-back n L v most room h k = (written-read n L v most room h k, list-in-file n L v)
+
+-- Whatever is read is the list of valid lines whose one file these bytes are.
+pub read-is-written-again : (most : ℕ) (b : List ℕ) (room : ℕ) (z : Listed) → AreBytes b → readAnswer most b room ≡ Read z
+    → ValidFor (z .n) (fileList b (z .lines)) × (fileOf (z .n) (fileList b (z .lines)) ≡ b)
+read-is-written-again most b room z h e = read-written most b room z h e
+
+-- So every slice of bytes is refused or is the one file of its list, and two lists never have one file.
+pub refused-or-one-file : (most : ℕ) (b : List ℕ) (room : ℕ) → AreBytes b → OneFile most b room
+refused-or-one-file most b room h = one-file most b room h
+
+pub one-list-of-a-file : (n m : ℕ) (L M : List ℤ) → ValidFor n L → ValidFor m M → fileOf n L ≡ fileOf m M → (n ≡ m) × (L ≡ M)
+one-list-of-a-file n m L M v w e = one-list n m L M v w e

@@ -10,7 +10,7 @@ ghost use mathlib.Core.Path.{_≡_};
 ghost use Prim.Native.Nat.{_<_, _≤_};
 ghost use Rattle.lines.specs.Limits.{maxVariables};
 ghost use Rattle.lines.specs.Line.{lineAt, lineCount, linesOf, isFalse};
-ghost use Rattle.lines.specs.Refusal.{coefficientsOk, variableOk, variablesOk, constantOk, lineValidity, linesValidity, validityOf};
+ghost use Rattle.lines.specs.Refusal.{numberOf, placeOf, coefficientsOk, variableOk, variablesOk, constantOk, lineValidity, linesValidity, validityOf};
 ghost use Rattle.integers.specs.Integer.{isBetween};
 
 // One line: a·x + b·y <= d. x and y are the numbers of variables (the field's term: a UTVPI constraint).
@@ -41,6 +41,44 @@ pub enum Refusal {
 pub enum Validity {
     Valid,
     Refused(Refusal),
+}
+
+// Document 01's number of a refusal.
+pub fn number_of(r: Refusal) -> usize
+    ensures { λ k. ⌜ k ≡ numberOf r ⌝ }
+{
+    match r {
+        Refusal::TooManyVariables => 1,
+        Refusal::BrokenLength => 2,
+        Refusal::TooManyLines => 3,
+        Refusal::BadCoefficient(_) => 4,
+        Refusal::BadVariable(_) => 5,
+        Refusal::BadConstant(_) => 6,
+        Refusal::ShortOutput(_) => 7,
+        Refusal::ShortWorkArea => 8,
+        Refusal::WrongModelLength => 9,
+        Refusal::BadValue(_) => 10,
+        Refusal::LongRefutation => 11,
+    }
+}
+
+// Document 01's place of a refusal.
+pub fn place_of(r: Refusal) -> usize
+    ensures { λ k. ⌜ k ≡ placeOf r ⌝ }
+{
+    match r {
+        Refusal::TooManyVariables => 0,
+        Refusal::BrokenLength => 0,
+        Refusal::TooManyLines => 0,
+        Refusal::BadCoefficient(k) => k,
+        Refusal::BadVariable(k) => k,
+        Refusal::BadConstant(k) => k,
+        Refusal::ShortOutput(k) => k,
+        Refusal::ShortWorkArea => 0,
+        Refusal::WrongModelLength => 0,
+        Refusal::BadValue(k) => k,
+        Refusal::LongRefutation => 0,
+    }
 }
 
 // Line number k.

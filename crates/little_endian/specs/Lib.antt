@@ -1,2 +1,3 @@
 -- The definitions and laws of this crate.
 pub mod Bytes
+pub mod Writing

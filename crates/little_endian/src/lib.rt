@@ -1,11 +1,13 @@
-// Bytes read as little-endian numbers: one number at a place, and a whole slice decoded into numbers.
+// Bytes read as little-endian numbers, one number at a place and a whole slice decoded into numbers; and a number's bytes
+// written to a place.
 ghost use mathlib.Core.Path.{_≡_};
 ghost use mathlib.Core.List.{_++_};
 ghost use Prim.Native.Nat.{_+_, _/_, _<_, _≤_};
 ghost use lib.ListN.{length, drop};
-ghost use mir.Val.{toZ};
+ghost use mir.Val.{toZ, ofZ};
 ghost use mir.Syntax.{w32, w64};
 ghost use Rattle.little_endian.specs.Bytes.{le32, le64, int32, int64, int32s, int64s};
+ghost use Rattle.little_endian.specs.Writing.{bytes16, bytes32, signedBytes, put};
 
 // A byte as a number of four bytes.
 fn wide(x: u8) -> u32
@@ -55,7 +57,7 @@ fn signed64(n: u64) -> i64
 }
 
 // The four bytes from `at`, signed.
-fn i32_at(b: &[u8], at: usize) -> i32
+pub fn i32_at(b: &[u8], at: usize) -> i32
     requires { ⌜ at + 4 ≤ length (now b) ⌝ }
     ensures { λ r. ⌜ r ≡ int32 (now (b .entry)) at ⌝ }
 {
@@ -94,4 +96,43 @@ pub fn decode_i64(b: &[u8], out: &mut [i64])
         out[i] = i64_at(b, 8 * i);
         i += 1;
     }
+}
+
+// The two bytes of v, from `at` on. v has no more than these.
+pub fn put_u16(out: &mut [u8], at: usize, v: usize)
+    requires { ⌜ (at + 2 ≤ length (now out)) × (v < 65536) ⌝ }
+    ensures { λ _. ⌜ now (out .exit) ≡ put (now (out .entry)) at (bytes16 v) ⌝ }
+{
+    out[at] = (v % 256) as u8;
+    out[at + 1] = (v / 256 % 256) as u8;
+}
+
+// The four bytes of v, from `at` on.
+pub fn put_u32(out: &mut [u8], at: usize, v: u32)
+    requires { ⌜ at + 4 ≤ length (now out) ⌝ }
+    ensures { λ _. ⌜ now (out .exit) ≡ put (now (out .entry)) at (bytes32 v) ⌝ }
+{
+    out[at] = (v % 256) as u8;
+    out[at + 1] = (v / 256 % 256) as u8;
+    out[at + 2] = (v / 65536 % 256) as u8;
+    out[at + 3] = (v / 16777216 % 256) as u8;
+}
+
+// The bits of a signed number: a negative one counts down from all ones, which stand for -1.
+fn bits32(z: i32) -> u32
+    ensures { λ r. ⌜ r ≡ ofZ w32 z ⌝ }
+{
+    if 0 <= z {
+        z as u32
+    } else {
+        u32::MAX - (-1 - z) as u32
+    }
+}
+
+// The four bytes of a signed number, from `at` on.
+pub fn put_i32(out: &mut [u8], at: usize, z: i32)
+    requires { ⌜ at + 4 ≤ length (now out) ⌝ }
+    ensures { λ _. ⌜ now (out .exit) ≡ put (now (out .entry)) at (signedBytes z) ⌝ }
+{
+    put_u32(out, at, bits32(z));
 }

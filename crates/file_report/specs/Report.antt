@@ -1,0 +1,34 @@
+-- What the program prints for the bytes of a file: the text of a yes, of a no or of a refusal.
+use mathlib.Core.Path.{_≡_}
+use mathlib.Core.Bool.{true, false}
+use mathlib.Core.List.{List}
+use Prim.Native.Nat.{ℕ, _+_, _*_}
+use Rattle.lines.specs.Limits.{lineSize}
+use Rattle.lines.specs.Line.{linesOf}
+use Rattle.answers.specs.Verdict.{verdictOf}
+use Rattle.answers.specs.Answers.{modelOf, boundsOf, groupsOf}
+use Rattle.answers.specs.Refuted.{Due}
+use Rattle.records.specs.declared.FileRefusal.{FileRefusal}
+use Rattle.records.specs.Refusal.{fileNumber, filePlace}
+use Rattle.list_file.specs.declared.Listed.{Listed}
+use Rattle.list_file.specs.declared.ReadAnswer.the-variants.{Read, Refused}
+use Rattle.list_file.specs.File.{fileList}
+use Rattle.list_file.specs.Read.{readAnswer}
+use Rattle.report.specs.Text.{yesText, noText, refusedText}
+
+-- the program's own limits
+abbrev pub mostVariables : ℕ
+mostVariables = 16
+
+abbrev pub mostLines : ℕ
+mostLines = 256
+
+-- a list decided: of a refutation of kind 1 or 2 only the walks are free
+pub data Decided (n : ℕ) (L : List _) : List ℕ → Type 0 where
+  yes : verdictOf n (linesOf L) ≡ true → Decided n L (yesText n (modelOf n (linesOf L)) (boundsOf n (linesOf L)) (groupsOf n (linesOf L)))
+  no : verdictOf n (linesOf L) ≡ false → (numbers : List ℕ) → Due n L numbers → Decided n L (noText numbers)
+
+-- a file read and its list decided, or refused
+pub data Reported (b : List ℕ) : List ℕ → Type 0 where
+  refused : (r : FileRefusal) → readAnswer mostVariables b (lineSize * mostLines) ≡ Refused r → Reported b (refusedText (fileNumber r) (filePlace r))
+  decided : (z : Listed) → readAnswer mostVariables b (lineSize * mostLines) ≡ Read z → {T : List ℕ} → Decided (z .n) (fileList b (z .lines)) T → Reported b T

@@ -1,0 +1,76 @@
+// What the program does: the bytes of a file read, its list decided, and the answer as text.
+use decide::Answer;
+use decide::decide;
+use lines::limits::LINE_SIZE;
+use list_file::ReadAnswer;
+use list_file::read_within;
+use records::file_number;
+use records::file_place;
+use refutation::HEAD_SIZE;
+use report::write_no;
+use report::write_refused;
+use report::write_yes;
+ghost use lib.ListN.{take};
+ghost use Rattle.io.specs.Counts.{Counts};
+ghost use Rattle.report.specs.Text.{noText};
+ghost use Rattle.report.specs.Put.{Wrote};
+ghost use Rattle.file_report.specs.Report.{Decided, Reported};
+ghost use Rattle.file_report.specs.Ready.{stated, RefutationReady, ListReady};
+
+// The program's own limits.
+const MOST_VARIABLES: usize = 16;
+
+const MOST_LINES: usize = 256;
+// The numbers of so many lines, and the work area of so many variables.
+const MOST_NUMBERS: usize = LINE_SIZE * MOST_LINES;
+
+const WORK_SIZE: usize = 16 * MOST_VARIABLES * MOST_VARIABLES + 64 * MOST_VARIABLES + 64;
+// The text of so many variables takes less.
+pub const TEXT_SIZE: usize = 2_048;
+
+// The refutation that deciding left: as many numbers as its counts say.
+fn report_no(refutation: &[u32], text: &mut [u8]) -> usize
+    requires { ⌜ RefutationReady (now refutation) (now text) ⌝ }
+    ensures { λ r. ⌜ Wrote (noText (stated (now (refutation .entry)))) (now (text .entry)) (now (text .exit)) r ⌝ }
+{
+    let count = HEAD_SIZE + refutation[1] as usize + refutation[2] as usize;
+    write_no(&refutation[0..count], text)
+}
+
+// A list decided, as text.
+fn report_list(n: usize, list: &[i32], text: &mut [u8]) -> usize
+    requires { ⌜ ListReady n (now list) (now text) ⌝ }
+    ensures { λ r. ⌜ Decided n (now (list .entry)) (take r (now (text .exit))) × Counts r (now (text .exit)) ⌝ }
+{
+    let mut model = [0i64; MOST_VARIABLES];
+    let mut bounds = [0i64; 2 * MOST_VARIABLES];
+    let mut groups = [0u32; MOST_VARIABLES];
+    let mut refutation = [0u32; 4 + 4 * MOST_VARIABLES];
+    let mut work = [0i64; WORK_SIZE];
+    let answer = decide(
+        n,
+        list,
+        &mut model,
+        &mut bounds,
+        &mut groups,
+        &mut refutation,
+        &mut work,
+    );
+    match answer {
+        Answer::Yes => write_yes(n, &model[0..n], &bounds[0..2 * n], &groups[0..n], text),
+        Answer::No => report_no(&refutation, text),
+        // Never: the buffers are as long as this many variables need.
+        Answer::Refused(_) => 0,
+    }
+}
+
+// What the program prints for the bytes of a file: how many bytes of text stand in front.
+pub fn report_file(bytes: &[u8], text: &mut [u8; TEXT_SIZE]) -> usize
+    ensures { λ r. ⌜ Reported (now (bytes .entry)) (take r (now (text .exit))) × Counts r (now (text .exit)) ⌝ }
+{
+    let mut numbers = [0i32; MOST_NUMBERS];
+    match read_within(bytes, MOST_VARIABLES, &mut numbers) {
+        ReadAnswer::Read(z) => report_list(z.n, &numbers[0..LINE_SIZE * z.lines], text),
+        ReadAnswer::Refused(r) => write_refused(file_number(r), file_place(r), text),
+    }
+}

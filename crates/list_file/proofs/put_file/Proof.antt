@@ -1,0 +1,29 @@
+-- `list_file::put_file` meets its contract.
+use borrow.Author.Needs.{needs}
+use denote.Ref.{now}
+use Rattle.list_file.specs.Putting.{put-all}
+use Rattle.list_file.proofs.put_file.Statement.{statement}
+use Rattle.list_file.proofs.put_file.Tie as tie
+
+returns : tie.Need-returns
+returns c =
+    let e = c .before .before in
+    let l = e .before .before .before .before in
+    let n = l .before .before .before .before in
+    let h = n .before .before .before .before in
+    let s = h .before .before .before in
+    put-all (s .args .n) (now (s .args .list)) (now (s .args .out)) (h .put-header .ensures) (n .put-u32 .ensures) (l .put-lines .ensures) (e .put-header2 .ensures)
+
+pub put-file-spec : {M : Type 1} → statement M
+put-file-spec =
+    tie.close
+    (tie.spec
+    (search needs)
+    (search needs)
+    (search needs)
+    (search needs)
+    (search needs)
+    (search needs)
+    (search needs)
+    (search needs)
+    returns)

@@ -1,0 +1,42 @@
+-- `list_file::put_numbers` meets its contract.
+use borrow.Author.Needs.{needs}
+use denote.Ref.{now}
+use Rattle.list_file.specs.Putting.{put-read, put-body}
+use Rattle.list_file.proofs.put_numbers.Statement.{statement}
+use Rattle.list_file.proofs.put_numbers.Tie as tie
+
+returns : tie.Need-returns
+returns c =
+    let d = c .before .before in
+    let y = d .before .before .before .before .before in
+    let b = y .before .before .before .before .before in
+    let x = b .before .before .before .before .before in
+    let a = x .before .before .before .before .before in
+    let s = a .before .before .before .before in
+    let l = s .args .line in
+    let g = a .before .struct-told .given in
+    put-body (now (s .args .out)) (s .args .at) l
+    (put-read _ _ (l .a) (g .0 .1) (a .put-i32 .ensures))
+    (put-read _ _ (l .x) (g .1 .0 .1) (x .put-i322 .ensures))
+    (put-read _ _ (l .b) (g .1 .1 .0 .1) (b .put-i323 .ensures))
+    (put-read _ _ (l .y) (g .1 .1 .1 .0 .1) (y .put-i324 .ensures))
+    (put-read _ _ (l .d) (g .1 .1 .1 .1 .0 .1) (d .put-i325 .ensures))
+
+pub put-numbers-spec : {M : Type 1} → statement M
+put-numbers-spec =
+    tie.close
+    (tie.spec
+    (search needs)
+    (search needs)
+    (search needs)
+    (search needs)
+    (search needs)
+    (search needs)
+    (search needs)
+    (search needs)
+    (search needs)
+    (search needs)
+    (search needs)
+    (search needs)
+    (search needs)
+    returns)

@@ -1,0 +1,10 @@
+pub mod File
+pub mod Read
+pub mod Write
+pub mod Putting
+pub mod Written
+pub mod Bytes
+pub mod Layout
+pub mod Scanned
+pub mod Fits
+pub mod Back

@@ -1,0 +1,34 @@
+-- `records::taken` meets its contract: each way out has the tests that led there, and the record of n has four bytes.
+use mathlib.Core.Path.{sym, ap, _∙_}
+use native.Mathlib.Omega.{arith}
+use borrow.Author.Needs.{needs}
+use borrow.Author.Tests.{eq-eqb, ne-eqb}
+use Rattle.records.specs.Table.{bodySize}
+use Rattle.records.specs.Scan.{taken}
+use Rattle.records.specs.Laws.{variables-size}
+use Rattle.records.proofs.taken.Statement.{statement}
+use Rattle.records.proofs.taken.Tie as tie
+
+u32-at-requires : tie.Need-u32-at-requires
+u32-at-requires c κs =
+    let s = c .before .before .before in
+    let four = variables-size _ (ap bodySize (sym (c .if1 .taken)) ∙ s .pre .1) in
+    omega (arith, four, s .pre .2)
+
+returns : tie.Need-returns
+unfolding taken
+returns c = rw (eq-eqb _ _ (c .before .if1 .taken), c .u32-at .ensures)
+
+returns-2 : tie.Need-returns-2
+unfolding taken
+returns-2 c =
+    let t = c .before in
+    rw (ne-eqb _ _ (t .before .if1 .left), eq-eqb _ _ (t .if2 .taken))
+
+returns-3 : tie.Need-returns-3
+unfolding taken
+returns-3 c = rw (ne-eqb _ _ (c .before .if1 .left), ne-eqb _ _ (c .if2 .left))
+
+pub taken-spec : {M : Type 1} → statement M
+taken-spec =
+    tie.close (tie.spec (search needs) (search needs) u32-at-requires (search needs) returns (search needs) returns-2 returns-3)

@@ -1,0 +1,4 @@
+pub mod Table
+pub mod Scan
+pub mod Laws
+pub mod Refusal

@@ -1,0 +1,44 @@
+-- The records of a file: their kinds, and the length of each kind's body, in one table.
+use mathlib.Core.Bool.{cond}
+use mathlib.Core.List.{List, [], _∷_}
+use Prim.Native.Nat.{ℕ, _+_, _*_}
+use lib.Dec.{eqb}
+use lib.ListN.{getD}
+use Rattle.records.specs.declared.BodySize.{BodySize}
+use Rattle.records.specs.declared.BodySize.the-variants.{Known, Unknown}
+
+-- a record is the length of its body, its kind, and the body
+abbrev pub headerSize : ℕ
+headerSize = 4
+
+-- n; one line; the end
+abbrev pub variablesKind : ℕ
+variablesKind = 1
+
+abbrev pub lineKind : ℕ
+lineKind = 2
+
+abbrev pub endKind : ℕ
+endKind = 3
+
+pub record Row : Type 0 where
+  pub kind : ℕ
+  pub size : ℕ
+
+abbrev pub table : List Row
+table =
+    record { kind = variablesKind; size = 4 }
+    ∷ record { kind = lineKind; size = 20 }
+    ∷ record { kind = endKind; size = 0 }
+    ∷ []
+
+abbrev pub sizeIn : List Row → ℕ → BodySize
+sizeIn [] k = Unknown
+sizeIn (r ∷ rs) k = cond (eqb k (r .kind)) (Known (r .size)) (sizeIn rs k)
+
+unfoldable pub bodySize : ℕ → BodySize
+bodySize k = sizeIn table k
+
+-- two bytes, the first the lowest
+abbrev pub le16 : List ℕ → ℕ → ℕ
+le16 b at = getD b at 0 + getD b (at + 1) 0 * 256

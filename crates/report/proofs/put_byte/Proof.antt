@@ -1,0 +1,18 @@
+-- `report::put_byte` meets its contract.
+use mathlib.Core.Path.{refl}
+use mathlib.Core.List.{[], _∷_}
+use native.Mathlib.Omega.{arith}
+use borrow.Author.Needs.{needs}
+use denote.Ref.{now}
+use Rattle.report.specs.Put.{is-put}
+use Rattle.report.specs.Steps.{byte-put}
+use Rattle.report.proofs.put_byte.Statement.{statement}
+use Rattle.report.proofs.put_byte.Tie as tie
+
+returns : tie.Need-returns
+returns c =
+    let a = c .args in
+    is-put 1 (a .at) (a .byte ∷ []) (now (a .out)) _ _ (byte-put (now (a .out)) (a .at) (a .byte) (omega arith)) refl (omega arith) (c .pre)
+
+pub put-byte-spec : {M : Type 1} → statement M
+put-byte-spec = tie.close (tie.spec (search needs) (search needs) (search needs) returns)

@@ -1,0 +1,5 @@
+pub mod Text
+pub mod Rooms
+pub mod Decimal
+pub mod Put
+pub mod Steps

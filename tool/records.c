@@ -1,0 +1,172 @@
+/* Lists as records: a two-byte length of the body, a two-byte kind, the body, the
+ * lowest byte of each number first. One record of kind 1 has the number of
+ * variables, each of kind 2 a line, and one of kind 3, without a body, is the end. */
+#include "list.h"
+
+#include <string.h>
+
+#define HEADER 4
+#define KIND_VARIABLES 1
+#define KIND_LINE 2
+#define KIND_END 3
+
+/* The length of the body for each kind, and of the records that a good file has
+ * before the first line and for each line. */
+static const uint32_t body_of[] = {0, 4, 20, 0};
+#define BEFORE_LINES (HEADER + 4)
+#define LINE (HEADER + 20)
+
+/* A refusal with its place, a byte offset; number 0 where nothing is wrong. */
+struct damage {
+    int number;
+    size_t at;
+};
+
+static uint32_t unpack(const char *from, size_t bytes)
+{
+    uint32_t number = 0;
+    for (size_t at = 0; at < bytes; at++) {
+        number |= (uint32_t)(unsigned char)from[at] << (8 * at);
+    }
+    return number;
+}
+
+/* The number whose lowest 32 bits these are, in a way that every compiler takes. */
+static int32_t with_sign(uint32_t bits)
+{
+    return bits <= INT32_MAX ? (int32_t)bits : (int32_t)((int64_t)bits - UINT32_MAX - 1);
+}
+
+/* Whether the input is records and not text. A cut may leave less than a header,
+ * but its first byte is still one that no text has. */
+bool is_records(struct text input)
+{
+    static const char first[HEADER] = {4, 0, KIND_VARIABLES, 0};
+    size_t length = input.length < HEADER ? input.length : HEADER;
+    return length > 0 && memcmp(input.at, first, length) == 0;
+}
+
+/* What is wrong with the record at an offset: the number of a refusal, or 0. The
+ * format settles the order. Of its refusals 25, no room for the line, can't occur,
+ * as there is room for more lines than a list may have. */
+static int fault_of(struct text input, size_t at)
+{
+    size_t left = input.length - at;
+    if (left < HEADER) {
+        return RECORD_CUT;
+    }
+    uint32_t length = unpack(input.at + at, 2), kind = unpack(input.at + at + 2, 2);
+    if (kind < KIND_VARIABLES || kind > KIND_END) {
+        return RECORD_UNKNOWN;
+    }
+    if (length != body_of[kind]) {
+        return RECORD_LENGTH;
+    }
+    if (left - HEADER < length) {
+        return RECORD_CUT;
+    }
+    return (kind == KIND_VARIABLES) == (at == 0) ? 0 : RECORD_MISPLACED;
+}
+
+/* Looks at all records, however many: what is wrong with the last of them comes
+ * before a line too many, which the library refuses. */
+static struct damage first_damage(struct text input)
+{
+    struct damage fault = {0, 0};
+    uint32_t kind = 0;
+    while (kind != KIND_END) {
+        fault.number = fault_of(input, fault.at);
+        if (fault.number != 0) {
+            return fault;
+        }
+        kind = unpack(input.at + fault.at + 2, 2);
+        fault.at += HEADER + body_of[kind];
+    }
+    fault.number = fault.at < input.length ? RECORD_AFTER_END : 0;
+    return fault;
+}
+
+/* Where the record is that --text prints as this line, counted from 1. */
+size_t record_of(size_t line)
+{
+    return line <= 1 ? 0 : BEFORE_LINES + (line - 2) * LINE;
+}
+
+static void read_count(struct list *list)
+{
+    char *shown = list->shown[0];
+    list->form = FORM_NUMBERS;
+    list->declared = true;
+    list->variables = unpack(list->input.at + HEADER, 4);
+    int length = snprintf(shown, MOST_SHOWN_LINE, "variables %" PRIu64, list->variables);
+    list->variables_from = (struct origin){1, {shown, (size_t)length}};
+}
+
+/* Adds the line in the record at an offset, and makes the text that it has none of. */
+static bool read_line(struct list *list, size_t at)
+{
+    char *shown = list->shown[1 + list->count];
+    int32_t n[5];
+    for (size_t part = 0; part < 5; part++) {
+        n[part] = with_sign(unpack(list->input.at + at + HEADER + 4 * part, 4));
+    }
+    int length = snprintf(shown, MOST_SHOWN_LINE, LINE_FORMAT, n[0], n[1], n[2], n[3], n[4]);
+    return add_line(list, (struct origin){2 + list->count, {shown, (size_t)length}}, n);
+}
+
+/* Reads the input, which is records. Of too many lines one is enough to be
+ * refused, so that the rest is left out. */
+bool read_records(struct list *list)
+{
+    struct damage fault = first_damage(list->input);
+    list->records = true;
+    if (fault.number != 0) {
+        print_fault(list, fault.number, fault.at);
+        return false;
+    }
+    size_t end = fault.at - HEADER;
+    read_count(list);
+    for (size_t at = BEFORE_LINES; at < end && list->count <= UTVPI_MOST_LINES; at += LINE) {
+        if (!read_line(list, at)) {
+            return false;
+        }
+    }
+    return true;
+}
+
+static void put(FILE *to, uint32_t number, size_t bytes)
+{
+    for (size_t at = 0; at < bytes; at++) {
+        fputc((int)(number >> (8 * at) & 255), to);
+    }
+}
+
+static void put_header(FILE *to, uint32_t kind)
+{
+    put(to, body_of[kind], 2);
+    put(to, kind, 2);
+}
+
+/* Writes a list that the library has accepted as records. */
+void write_records(FILE *to, const struct list *list)
+{
+    put_header(to, KIND_VARIABLES);
+    put(to, (uint32_t)list->variables, 4);
+    for (size_t line = 0; line < list->count; line++) {
+        put_header(to, KIND_LINE);
+        for (size_t part = 0; part < 5; part++) {
+            put(to, (uint32_t)list->numbers[5 * line + part], 4);
+        }
+    }
+    put_header(to, KIND_END);
+}
+
+/* Writes a list as text, five numbers to a line. */
+void write_text(FILE *to, const struct list *list)
+{
+    fprintf(to, "variables %" PRIu64 "\n", list->variables);
+    for (size_t line = 0; line < list->count; line++) {
+        const int32_t *n = list->numbers + 5 * line;
+        fprintf(to, LINE_FORMAT "\n", n[0], n[1], n[2], n[3], n[4]);
+    }
+}
