@@ -3,10 +3,12 @@ use mathlib.Core.Path.{_≡_, refl, sym, ap, _∙_}
 use mathlib.Core.Bool.{Bool, true, false, not, cond}
 use mathlib.Core.List.{List}
 use Prim.Native.Nat.{ℕ, zero, suc, _+_, _*_, _^_, _<_, _≤_}
+use native.Mathlib.Nat.{add-zero}
 use native.Mathlib.Omega.{arith}
 use borrow.Author.Tests.{ltb-false, eqb-true}
 use lib.Dec.{eqb, ltb}
-use lib.ListN.{length, getD}
+use lib.ListN.{length, getD, take, drop}
+use lib.Seq.{getD-take, getD-drop}
 use Rattle.lines.specs.Limits.{lineSize}
 use Rattle.little_endian.specs.Bytes.{le32}
 use Rattle.integers.specs.Laws.{never}
@@ -255,3 +257,17 @@ module _ (b : List ℕ) (room : ℕ) where
       go : (k : ℕ) → length b < c .at + k → scanFrom k b room c ≡ scanFrom (suc (length b)) b room start → wholeFile b m ≡ wholeFile b (scanFrom (suc (length b)) b room start)
       go zero p q = absurd (omega (arith, h .reached .within))
       go (suc k) p q = ap (wholeFile b) (sym (f k) ∙ turn k c m e ∙ q)
+
+-- ---- a part of the file says what the file says there
+module _ (b : List ℕ) (at k : ℕ) where
+  part-at : (i : ℕ) → i < k → getD (take k (drop at b)) i 0 ≡ getD b (at + i) 0
+  part-at i h = getD-take k (drop at b) i 0 h ∙ getD-drop at b i 0
+
+  part-first : 0 < k → getD (take k (drop at b)) 0 0 ≡ getD b at 0
+  part-first h = part-at 0 h ∙ ap (λ (j : ℕ). getD b j 0) (add-zero at)
+
+  pub part-le16 : 2 ≤ k → le16 (take k (drop at b)) 0 ≡ le16 b at
+  part-le16 h = rw (part-first (omega arith), part-at 1 (omega arith))
+
+  pub part-le32 : 4 ≤ k → le32 (take k (drop at b)) 0 ≡ le32 b at
+  part-le32 h = rw (part-first (omega arith), part-at 1 (omega arith), part-at 2 (omega arith), part-at 3 (omega arith))

@@ -94,12 +94,20 @@ fn wide(x: u8) -> usize
     x as usize
 }
 
-// The two bytes from `at`.
+// Two bytes, the first the lowest.
+fn u16_of(two: &[u8]) -> usize
+    requires { ⌜ 2 ≤ length (now two) ⌝ }
+    ensures { λ r. ⌜ (r ≡ le16 (now (two .entry)) 0) × (r < 2 ^ 16) ⌝ }
+{
+    wide(two[0]) + wide(two[1]) * 256
+}
+
+// The two bytes from `at`, a part of the file.
 fn u16_at(b: &[u8], at: usize) -> usize
     requires { ⌜ at + 2 ≤ length (now b) ⌝ }
     ensures { λ r. ⌜ (r ≡ le16 (now (b .entry)) at) × (r < 2 ^ 16) ⌝ }
 {
-    wide(b[at]) + wide(b[at + 1]) * 256
+    u16_of(&b[at..at + 2])
 }
 
 // The length of a kind's body, by the table in specs/.
@@ -144,7 +152,7 @@ fn taken(bytes: &[u8], mut cursor: Cursor, kind: usize, size: usize) -> Next
     let body = cursor.at + HEADER_SIZE;
     cursor.at = body + size;
     if kind == VARIABLES_KIND {
-        cursor.n = u32_at(bytes, body) as usize;
+        cursor.n = u32_at(&bytes[body..body + size], 0) as usize;
         cursor.begun = true;
         return Next::More(cursor);
     }

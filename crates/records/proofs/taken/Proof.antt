@@ -1,23 +1,35 @@
 -- `records::taken` meets its contract: each way out has the tests that led there, and the record of n has four bytes.
-use mathlib.Core.Path.{sym, ap, _∙_}
+use mathlib.Core.Path.{_≡_, sym, ap, _∙_}
+use Prim.Native.Nat.{ℕ, _+_, _-_}
 use native.Mathlib.Omega.{arith}
 use borrow.Author.Needs.{needs}
 use borrow.Author.Tests.{eq-eqb, ne-eqb}
-use Rattle.records.specs.Table.{bodySize}
+use Rattle.little_endian.specs.Bytes.{le32}
+use Rattle.records.specs.Table.{headerSize, bodySize}
 use Rattle.records.specs.Scan.{taken}
-use Rattle.records.specs.Laws.{variables-size}
+use Rattle.records.specs.Laws.{variables-size, part-le32}
 use Rattle.records.proofs.taken.Statement.{statement}
 use Rattle.records.proofs.taken.Tie as tie
 
+-- the record of n
+module _ (c : tie.Then1) where
+  abbrev s : tie.Start
+  s = c .before .before .before
+
+  four : s .args .size ≡ 4
+  four = variables-size _ (ap bodySize (sym (c .if1 .taken)) ∙ s .pre .1)
+
 u32-at-requires : tie.Need-u32-at-requires
-u32-at-requires c κs =
-    let s = c .before .before .before in
-    let four = variables-size _ (ap bodySize (sym (c .if1 .taken)) ∙ s .pre .1) in
-    omega (arith, four, s .pre .2)
+u32-at-requires c κs = let t = c .before in omega (arith, four t, s t .pre .2)
 
 returns : tie.Need-returns
 unfolding taken
-returns c = rw (eq-eqb _ _ (c .before .if1 .taken), c .u32-at .ensures)
+returns c =
+    let t = c .before .before in
+    let body : ℕ = s t .args .cursor .at + headerSize in
+    let n : c .u32-at .result ≡ le32 (s t .args .bytes .now) body =
+    c .u32-at .ensures ∙ part-le32 (s t .args .bytes .now) body (body + s t .args .size - body) (omega (arith, four t)) in
+    rw (eq-eqb _ _ (t .if1 .taken), n)
 
 returns-2 : tie.Need-returns-2
 unfolding taken
@@ -31,4 +43,17 @@ returns-3 c = rw (ne-eqb _ _ (c .before .if1 .left), ne-eqb _ _ (c .if2 .left))
 
 pub taken-spec : {M : Type 1} → statement M
 taken-spec =
-    tie.close (tie.spec (search needs) (search needs) u32-at-requires (search needs) returns (search needs) returns-2 returns-3)
+    tie.close
+    (tie.spec
+    (search needs)
+    (search needs)
+    (search needs)
+    (search needs)
+    (search needs)
+    (search needs)
+    u32-at-requires
+    (search needs)
+    returns
+    (search needs)
+    returns-2
+    returns-3)
