@@ -8,7 +8,7 @@ use borrow.Author.Tests.{le-ltb}
 use lib.Dec.{ltb}
 use lib.IntN.{ℤ}
 use lib.ListN.{length, take, drop, length-append}
-use lib.Seq.{take-at}
+use lib.Seq.{take-at, drop-at}
 use Rattle.integers.specs.Laws.{never}
 use Rattle.lines.specs.declared.Refusal.{Refusal}
 use Rattle.lines.specs.declared.Validity.{Validity}
@@ -26,7 +26,6 @@ use Rattle.decide.specs.declared.Answer.the-variants as answer
 use Rattle.decide.specs.Decided.{Lent, unlessRefused, decideAnswer, answerFor, OnYes, OnNo, validityFor}
 use Rattle.decide.specs.Decided as decide
 use Rattle.decide.specs.Parts.{stated-length, model-in, bounds-in, groups-in, refutation-in}
-use Rattle.io.specs.Counts.{Counts}
 use Rattle.records.specs.declared.FileRefusal.{FileRefusal}
 use Rattle.records.specs.Refusal.{fileNumber, filePlace}
 use Rattle.list_file.specs.declared.Listed.{Listed}
@@ -38,12 +37,15 @@ use Rattle.list_file.specs.Layout.{length-fileList}
 use Rattle.list_file.specs.Back.{IsRead, is-read}
 use Rattle.report.specs.Text.{yesText, noText, refusedText}
 use Rattle.report.specs.Put.{Wrote}
-use Rattle.file_report.specs.Report.{mostVariables, mostLines, Decided, yes, no, Reported, refused, decided}
+use Rattle.file_report.specs.Report.{mostVariables, mostLines, Behind, Decided, yes, no, Reported, refused, decided}
 use Rattle.file_report.specs.Ready.{stated, textSize, RefutationReady, ListReady}
 
--- ---- the text is the front
-pub text-of : {T d e : List ℕ} {r : ℕ} → Wrote T d e r → take r e ≡ T
+-- ---- the text is the front, and what is behind it stays
+text-of : {T d e : List ℕ} {r : ℕ} → Wrote T d e r → take r e ≡ T
 text-of {T} {d} {e} {r} w = ap (take r) (w .whole) ∙ take-at T _ r (sym (w .count))
+
+behind : {T d e : List ℕ} {r : ℕ} → Wrote T d e r → Behind d e r
+behind {T} {d} {e} {r} w = record { kept = ap (drop r) (w .whole) ∙ drop-at T _ r (sym (w .count)); inside = w .inside }
 
 pub same-text : (R : List ℕ) (j k : ℕ) → j ≡ k → {d e : List ℕ} {r : ℕ} → Wrote (noText (take j R)) d e r → Wrote (noText (take k R)) d e r
 same-text R j k z {d} {e} {r} w = subst (λ (i : ℕ). Wrote (noText (take i R)) d e r) z w
@@ -79,23 +81,23 @@ module _ (n : ℕ) (L : List ℤ) (b : Lent) where
 -- ---- what is reported
 module _ {n : ℕ} {L : List ℤ} {found : Answer} {b a : Lent} (k : decide.Decided n L found b a) where
   pub yes-written : found ≡ answer.Yes → {i j l : ℕ} → i ≡ n → j ≡ 2 * n → l ≡ n → {d e : List ℕ} {r : ℕ}
-      → Wrote (yesText n (take i (a .model)) (take j (a .bounds)) (take l (a .groups))) d e r → Decided n L (take r e) × Counts r e
+      → Wrote (yesText n (take i (a .model)) (take j (a .bounds)) (take l (a .groups))) d e r → Decided n L (take r e) × Behind d e r
   yes-written f x y z {d} {e} {r} w =
       let o : OnYes n L b a = subst (λ (q : Answer). decide.Leaves n L q b a) f (k .leaves) in
       let v = yes-verdict n L b (sym f ∙ k .is) in
       let t : take r e ≡ yesText n (modelOf n (linesOf L)) (boundsOf n (linesOf L)) (groupsOf n (linesOf L)) = text-of w ∙ rw (x, y, z, model-in o, bounds-in o, groups-in o) in
-      (subst (Decided n L) (sym t) (yes v), w .inside)
+      (subst (Decided n L) (sym t) (yes v), behind w)
 
   module _ (f : found ≡ answer.No) where
     on-no : OnNo n L b a
     on-no = subst (λ (q : Answer). decide.Leaves n L q b a) f (k .leaves)
 
-    pub no-written : {d e : List ℕ} {r : ℕ} → Wrote (noText (stated (a .refutation))) d e r → Decided n L (take r e) × Counts r e
+    pub no-written : {d e : List ℕ} {r : ℕ} → Wrote (noText (stated (a .refutation))) d e r → Decided n L (take r e) × Behind d e r
     no-written {d} {e} {r} w =
         let t : take r e ≡ noText (on-no .numbers) = text-of w ∙ ap noText (refutation-in on-no) in
-        (subst (Decided n L) (sym t) (no (no-verdict n L b (sym f ∙ k .is)) (on-no .numbers) (on-no .due)), w .inside)
+        (subst (Decided n L) (sym t) (no (no-verdict n L b (sym f ∙ k .is)) (on-no .numbers) (on-no .due)), behind w)
 
-    pub no-ready : length (a .refutation) ≤ 4 + 4 * mostVariables → (text : List ℕ) → textSize ≤ length text → RefutationReady (a .refutation) text
+    pub no-ready : length (a .refutation) ≤ refutationRoom mostVariables → (text : List ℕ) → textSize ≤ length text → RefutationReady (a .refutation) text
     no-ready h text s =
         let rest = drop (length (on-no .numbers)) (b .refutation) in
         let size = stated-length L (on-no .numbers) (on-no .due .refutes) rest in
@@ -130,7 +132,7 @@ module _ {bytes : List ℕ} {found : ReadAnswer} {b a : List ℤ} (k : ReadDone 
     pub read-reported : (i : ℕ) → i ≡ lineSize * z .lines → {T : List ℕ} {C : Type 0} → Decided (z .n) (take i a) T × C → Reported bytes T × C
     read-reported i e {T} {C} w = (decided z (sym answered ∙ f) (subst (λ (L : List ℤ). Decided (z .n) L T) (list-is i e) (w .0)), w .1)
 
-  pub refused-reported : (r : FileRefusal) → found ≡ Refused r → {m p : ℕ} → m ≡ fileNumber r → p ≡ filePlace r → {d e : List ℕ} {l : ℕ} → Wrote (refusedText m p) d e l → Reported bytes (take l e) × Counts l e
+  pub refused-reported : (r : FileRefusal) → found ≡ Refused r → {m p : ℕ} → m ≡ fileNumber r → p ≡ filePlace r → {d e : List ℕ} {l : ℕ} → Wrote (refusedText m p) d e l → Reported bytes (take l e) × Behind d e l
   refused-reported r f x y {d} {e} {l} w =
       let t : take l e ≡ refusedText (fileNumber r) (filePlace r) = text-of w ∙ ap₂ refusedText x y in
-      (subst (Reported bytes) (sym t) (refused r (sym answered ∙ f)), w .inside)
+      (subst (Reported bytes) (sym t) (refused r (sym answered ∙ f)), behind w)

@@ -1,14 +1,14 @@
 -- What the parts of the report ask of their callers.
 use mathlib.Core.Path.{_≡_}
 use mathlib.Core.List.{List}
-use Prim.Native.Nat.{ℕ, _+_, _*_, _<_, _≤_}
+use Prim.Native.Nat.{ℕ, _+_, _≤_}
 use lib.IntN.{ℤ}
 use lib.ListN.{length, take}
 use Rattle.lines.specs.declared.Validity.the-variants.{Valid}
 use Rattle.lines.specs.Refusal.{validityOf}
 use Rattle.refutation.specs.Progress.{headSize}
 use Rattle.answers.specs.Refuted.{stepsIn}
-use Rattle.report.specs.Rooms.{fieldRoom}
+use Rattle.buffers.specs.Room.{refutationRoom}
 use Rattle.file_report.specs.Report.{mostVariables}
 
 -- the refutation in front: as many numbers as its counts say
@@ -21,7 +21,7 @@ textSize = 2_048
 
 pub record RefutationReady (R text : List ℕ) : Type 0 where
   pub room : headSize + stepsIn R ≤ length R
-  pub few : length R ≤ 4 + 4 * mostVariables
+  pub few : length R ≤ refutationRoom mostVariables
   pub size : textSize ≤ length text
 
 pub record ListReady (n : ℕ) (L : List ℤ) (text : List ℕ) : Type 0 where

@@ -3,6 +3,8 @@ use mathlib.Core.Path.{_≡_}
 use mathlib.Core.Bool.{true, false}
 use mathlib.Core.List.{List}
 use Prim.Native.Nat.{ℕ, _+_, _*_}
+use lib.ListN.{drop}
+use Rattle.io.specs.Counts.{Counts}
 use Rattle.lines.specs.Limits.{lineSize}
 use Rattle.lines.specs.Line.{linesOf}
 use Rattle.answers.specs.Verdict.{verdictOf}
@@ -22,6 +24,11 @@ mostVariables = 16
 
 abbrev pub mostLines : ℕ
 mostLines = 256
+
+-- r bytes of text were put in front of a buffer: behind them stays what was there
+pub record Behind (before after : List ℕ) (r : ℕ) : Type 0 where
+  pub kept : drop r after ≡ drop r before
+  pub inside : Counts r after
 
 -- a list decided: of a refutation of kind 1 or 2 only the walks are free
 pub data Decided (n : ℕ) (L : List _) : List ℕ → Type 0 where

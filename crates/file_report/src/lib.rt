@@ -11,10 +11,9 @@ use report::write_no;
 use report::write_refused;
 use report::write_yes;
 ghost use lib.ListN.{take};
-ghost use Rattle.io.specs.Counts.{Counts};
 ghost use Rattle.report.specs.Text.{noText};
 ghost use Rattle.report.specs.Put.{Wrote};
-ghost use Rattle.file_report.specs.Report.{Decided, Reported};
+ghost use Rattle.file_report.specs.Report.{Behind, Decided, Reported};
 ghost use Rattle.file_report.specs.Ready.{stated, RefutationReady, ListReady};
 
 // The program's own limits.
@@ -40,7 +39,7 @@ fn report_no(refutation: &[u32], text: &mut [u8]) -> usize
 // A list decided, as text.
 fn report_list(n: usize, list: &[i32], text: &mut [u8]) -> usize
     requires { ⌜ ListReady n (now list) (now text) ⌝ }
-    ensures { λ r. ⌜ Decided n (now (list .entry)) (take r (now (text .exit))) × Counts r (now (text .exit)) ⌝ }
+    ensures { λ r. ⌜ Decided n (now (list .entry)) (take r (now (text .exit))) × Behind (now (text .entry)) (now (text .exit)) r ⌝ }
 {
     let mut model = [0i64; MOST_VARIABLES];
     let mut bounds = [0i64; 2 * MOST_VARIABLES];
@@ -66,7 +65,7 @@ fn report_list(n: usize, list: &[i32], text: &mut [u8]) -> usize
 
 // What the program prints for the bytes of a file: how many bytes of text stand in front.
 pub fn report_file(bytes: &[u8], text: &mut [u8; TEXT_SIZE]) -> usize
-    ensures { λ r. ⌜ Reported (now (bytes .entry)) (take r (now (text .exit))) × Counts r (now (text .exit)) ⌝ }
+    ensures { λ r. ⌜ Reported (now (bytes .entry)) (take r (now (text .exit))) × Behind (now (text .entry)) (now (text .exit)) r ⌝ }
 {
     let mut numbers = [0i32; MOST_NUMBERS];
     match read_within(bytes, MOST_VARIABLES, &mut numbers) {

@@ -4,6 +4,7 @@ use mathlib.Core.List.{List, [], _∷_}
 use Prim.Native.Nat.{ℕ, _+_, _*_}
 use lib.Dec.{eqb}
 use lib.ListN.{getD}
+use Rattle.lines.specs.Limits.{lineSize}
 use Rattle.records.specs.declared.BodySize.{BodySize}
 use Rattle.records.specs.declared.BodySize.the-variants.{Known, Unknown}
 
@@ -28,7 +29,7 @@ pub record Row : Type 0 where
 abbrev pub table : List Row
 table =
     record { kind = variablesKind; size = 4 }
-    ∷ record { kind = lineKind; size = 20 }
+    ∷ record { kind = lineKind; size = 4 * lineSize }
     ∷ record { kind = endKind; size = 0 }
     ∷ []
 
