@@ -1,23 +1,20 @@
 -- The stored table of a valid list holds the distances themselves: so the model, bounds and groups read off it are those of the definitions.
-use mathlib.Core.Path.{_≡_, sym, ap, ap₂, _∙_}
+use mathlib.Core.Path.{_≡_, ap, ap₂, _∙_}
 use mathlib.Core.Bool.{true}
-use mathlib.Core.List.{List, [], _∷_, _++_}
+use mathlib.Core.List.{List, [], _∷_}
 use Prim.Native.Nat.{ℕ, _+_, _*_, _<_, _≤_}
 use native.Mathlib.Nat.{mul-le-mul-right}
 use native.Mathlib.Omega.{arith}
 use lib.IntN.{ℤ, pos, negℤ, natAbs}
-use lib.ListN.{length, drop, replicate, length-replicate, List·getD-append}
-use lib.Seq.{drop-at, getD-drop}
 use Rattle.integers.specs.Integer.{_⩽_, Within}
 use Rattle.integers.specs.Linear.{ints}
 use Rattle.integers.specs.Sequence.{tabulate, tabulate-cong}
 use Rattle.lines.specs.declared.Line.{Line}
 use Rattle.lines.specs.declared.Validity.the-variants.{Valid}
 use Rattle.lines.specs.Limits.{maxVariables, maxConstant}
-use Rattle.lines.specs.Line.{number, linesOf, assignmentOf}
+use Rattle.lines.specs.Line.{linesOf, assignmentOf}
 use Rattle.lines.specs.Refusal.{validityOf}
 use Rattle.lines.specs.Valid.{LinesOk, AllOk, valid-list}
-use Rattle.steps.specs.declared.Step.{Step}
 use Rattle.steps.specs.Point.{opposite}
 use Rattle.steps.specs.Step.{stepsOf}
 use Rattle.walks.specs.Distance.{Distance, minD, _⊞_, halfD}
@@ -31,35 +28,12 @@ use Rattle.answers.specs.Verdict.{distances, verdictOf}
 use Rattle.answers.specs.Meaning.{model-is-model, model-value}
 use Rattle.answers.specs.Small.{AllAbove, model-small}
 use Rattle.answers.specs.Decided.{lines-ok}
-use Rattle.distances.specs.Stored.{stored}
 use Rattle.distances.specs.Read.{distanceOf, short-more}
-use Rattle.distances.specs.Table.{storedTable, tableStart, TableDone, table-length, table-entry, best-short}
+use Rattle.distances.specs.Table.{storedTable, table-length, stored-at, best-short}
 use Rattle.tables.specs.Sum.{read-back}
 use Rattle.tables.specs.Table.{tableOf, ShortTable}
 use Rattle.nearest.specs.Limit.{maxModel}
 use Rattle.outputs.specs.Agree.{Agree, bounds-same, groups-same}
-
--- ---- one entry: the table is what lies behind a table's start, if zeros stand before it
-module _ (E : List Step) (m : ℕ) where
-  abbrev t : List ℤ
-  t = storedTable E m m
-
-  abbrev zeros : List ℤ
-  zeros = replicate (tableStart m) (pos 0)
-
-  abbrev behind : List ℤ
-  behind = drop (m * m) (drop (tableStart m) [])
-
-  done : TableDone E m [] (zeros ++ (t ++ behind))
-  done = record { is = drop-at zeros (t ++ behind) (tableStart m) (length-replicate (tableStart m) (pos 0)) }
-
-  pub stored-at : (u v : ℕ) → u < m → v < m → number (storedTable E m m) (u * m + v) ≡ stored (best E m u v)
-  stored-at u v hu hv =
-      let i : u * m + v < length t = omega (arith, table-length E m m, mul-le-mul-right m hu) in
-      sym (List·getD-append t behind (pos 0) (u * m + v) i)
-      ∙ sym (ap (λ (l : List ℤ). number l (u * m + v)) (done .is))
-      ∙ getD-drop (tableStart m) (zeros ++ (t ++ behind)) (u * m + v) (pos 0)
-      ∙ table-entry E m [] (zeros ++ (t ++ behind)) done u v hu hv
 
 -- ---- two tables with the same distances between the points of n variables have the same model
 module _ (n : ℕ) (D E : Table) (same : Agree (2 * n) D E) where

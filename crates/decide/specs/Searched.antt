@@ -1,14 +1,12 @@
 -- The search for a refutation: what it asks, what it leaves, and why that is right in each of its ways out.
-use mathlib.Core.Path.{_≡_, refl, sym, ap, ap₂, subst, _∙_}
+use mathlib.Core.Path.{_≡_, refl, sym, ap, subst, _∙_}
 use mathlib.Core.Bool.{Bool, true, false, not}
 use mathlib.Core.List.{List, [], _∷_, _++_}
 use Prim.Native.Nat.{ℕ, _+_, _*_, _-_, _<_, _≤_}
-use native.Mathlib.Decide.{decLt}
-use native.Mathlib.Nat.{mul-le-mul-right}
 use native.Mathlib.Omega.{arith}
 use lib.IntN.{ℤ, pos, _+ℤ_}
-use lib.ListN.{length, take, drop, length-append, length-drop}
-use lib.Seq.{take-at, drop-drop}
+use lib.ListN.{length, take, drop}
+use lib.Seq.{drop-drop}
 use Rattle.integers.specs.Integer.{_⋖_, half}
 use Rattle.integers.specs.Laws.{never}
 use Rattle.integers.specs.Table.{allBelow}
@@ -22,17 +20,17 @@ use Rattle.steps.specs.Point.{opposite}
 use Rattle.steps.specs.Step.{stepsOf}
 use Rattle.walks.specs.Distance.{Distance, none, some, _⊞_, halfD}
 use Rattle.walks.specs.Row.{best, some-is}
-use Rattle.walks.specs.Negative.{notBelow0, noNegative, is-below}
+use Rattle.walks.specs.Negative.{notBelow0, noNegative, is-below, no-negative-false}
 use Rattle.answers.specs.Verdict.{hasFalse, firstFalse, distances, halvesOk, consistentHalves, verdictOf, dueKind}
 use Rattle.answers.specs.Refuted.{Due, due-false, kind-negative, kind-halves}
-use Rattle.distances.specs.Table.{tableStart, storedTable, TableReady, TableDone, table-length, table-behind}
+use Rattle.distances.specs.Table.{tableStart, storedTable, TableReady}
 use Rattle.tables.specs.Table.{tableOf, ShortTable}
 use Rattle.outputs.specs.Agree.{Agree, ok-same, all-ok-same}
 use Rattle.outputs.specs.Bad.{firstBad, none-bad, first-bad}
 use Rattle.buffers.specs.Room.{refutationRoom}
 use Rattle.searching.specs.False.{false-none}
-use Rattle.searching.specs.Negative.{firstNegative, none-negative, first-negative, negative-same}
 use Rattle.answering.specs.Table.{agree, short-table}
+use Rattle.distance_table.specs.Made.{TableMade}
 use Rattle.refutation.specs.Progress.{headSize}
 use Rattle.refuting.specs.Shortest.{walkStart}
 use Rattle.refuting.specs.Refutation.{ClosedReady, HalvesReady, RefutationWritten}
@@ -90,19 +88,6 @@ module _ (n : ℕ) (L : List ℤ) (R : List ℕ) (w : List ℤ) (R′ : List ℕ
     k .is,
   )
 
--- ---- the table leaves the work area's length
-table-lengths : (E : List Step) (m : ℕ) (w w₁ : List ℤ) → tableStart m + m * m ≤ length w → TableDone E m w w₁ → length w₁ ≡ length w
-table-lengths E m w w₁ room d = go (decLt 0 m)
-  where
-    sizes : length w₁ - tableStart m ≡ m * m + (length w - tableStart m - m * m)
-    sizes =
-        sym (length-drop (tableStart m) w₁) ∙ ap length (d .is) ∙ length-append (storedTable E m m) _
-        ∙ ap₂ (λ (x y : ℕ). x + y) (table-length E m m) (length-drop (m * m) (drop (tableStart m) w) ∙ ap (λ (x : ℕ). x - m * m) (length-drop (tableStart m) w))
-
-    go : Dec (0 < m) → length w₁ ≡ length w
-    go (yes h) = let k : 1 * m ≤ m * m = mul-le-mul-right m h in omega (arith, sizes, room, k)
-    go (no h) = let z : m ≡ 0 = omega arith in let t : tableStart m ≡ 0 = ap tableStart z in omega (arith, sizes, room, t, ap (λ (x : ℕ). x * x) z)
-
 -- ---- with the table
 module _ (n : ℕ) (L : List ℤ) (R : List ℕ) (w : List ℤ) (a : SearchReady n L R w) where
   abbrev E : List Step
@@ -135,74 +120,57 @@ module _ (n : ℕ) (L : List ℤ) (R : List ℕ) (w : List ℤ) (a : SearchReady
           go true z = refl
           go false z = absurd (omega (arith, false-none L z, e))
 
-  module _ (clear : hasFalse (linesOf L) ≡ false) (w₁ : List ℤ) (d : TableDone E m w w₁) where
-    pub lengths : length w₁ ≡ length w
-    lengths = table-lengths E m w w₁ (omega (arith, a .work-room)) d
-
-    pub table-is : tableIn n w₁ ≡ storedTable E m m
-    table-is = ap (take (m * m)) (d .is) ∙ take-at (storedTable E m m) (drop (m * m) (drop (tableStart m) w)) (m * m) (table-length E m m)
-
-    same : Agree m (tableOf m (tableIn n w₁)) (distances n (linesOf L))
-    same = subst (λ (t : List ℤ). Agree m (tableOf m t) (distances n (linesOf L))) (sym table-is) (agree n L (ok .variables) (ok .lines))
-
-    pub short : ShortTable n (tableIn n w₁)
-    short = subst (ShortTable n) (sym table-is) (short-table n L (ok .variables) (ok .lines))
-
+  module _ (clear : hasFalse (linesOf L) ≡ false) (w₁ : List ℤ) (u : ℕ) (d : TableMade E m w w₁ u) where
     behind-table : drop (usedRoom n) w₁ ≡ drop (usedRoom n) w
-    behind-table =
-        let i : usedRoom n ≡ tableStart m + m * m + m = refl in
-        sym (drop-drop m (tableStart m + m * m) w₁) ∙ ap (drop m) (table-behind E m w w₁ d) ∙ drop-drop m (tableStart m + m * m) w
-
-    diagonal : allBelow m (λ u. notBelow0 (tableOf m (tableIn n w₁) u u)) ≡ noNegative E m
-    unfolding noNegative
-    diagonal = negative-same m _ _ same .0
-
-    consistent : allBelow m (halvesOk (tableOf m (tableIn n w₁))) ≡ consistentHalves n (linesOf L)
-    unfolding consistentHalves
-    consistent = all-ok-same n _ _ same
+    behind-table = sym (drop-drop m (tableStart m + m * m) w₁) ∙ ap (drop m) (d .behind) ∙ drop-drop m (tableStart m + m * m) w
 
     -- a closed walk of negative sum
-    module _ (u : ℕ) (e : u ≡ firstNegative m (tableOf m (tableIn n w₁))) where
-      module _ (h : u < m) where
-        negative : noNegative E m ≡ false
-        negative = go (noNegative E m) refl
-          where
-            go : (b : Bool) → noNegative E m ≡ b → b ≡ false
-            go true z = absurd (omega (arith, none-negative m (tableOf m (tableIn n w₁)) .1 (diagonal ∙ z), e))
-            go false z = refl
+    module _ (h : u < m) where
+      low : (z : ℤ) × (best E m u u ≡ some z) × (z ⋖ pos 0)
+      low = is-below (best E m u u) (d .negative h)
 
-        low : notBelow0 (best E m u u) ≡ false
-        low =
-            let f = first-negative m (tableOf m (tableIn n w₁)) (diagonal ∙ negative) in
-            subst (λ (x : ℕ). notBelow0 (best E m x x) ≡ false) (sym e) (ap notBelow0 (sym (same _ _ (f .0) (f .0))) ∙ f .1)
+      negative : noNegative E m ≡ false
+      negative = no-negative-false E m (record { point = u; low = h; sum = low .0; is = low .1; negative = low .2 })
 
-        pub closed-ready : ClosedReady n L u R w₁
-        closed-ready =
-            let z = is-below (best E m u u) low in
-            record {
-              ready = record { ready = record { few = ok .variables; valid = ok .lines; within = h; room = omega (arith, a .work-room, lengths); value = z .0; reached = z .1 }; lines = ok .count; room = omega (arith, a .room) };
-              negative = z .2;
-            }
+      pub closed-ready : ClosedReady n L u R w₁
+      closed-ready =
+          record {
+            ready =
+                record {
+                  ready = record { few = ok .variables; valid = ok .lines; within = h; room = omega (arith, a .work-room, d .same-length); value = low .0; reached = low .1 };
+                  lines = ok .count;
+                  room = omega (arith, a .room);
+                };
+            negative = low .2;
+          }
 
-        pub by-walk : (R′ : List ℕ) (w₂ : List ℤ) → RefutationWritten n L 1 R w₁ R′ w₂ → Searched n L R w R′ w₂ true
-        by-walk R′ w₂ k =
-            record {
-              verdict = no-by-walk n (linesOf L) clear negative;
-              on-no = λ _. due-written n L R w₁ R′ w₂ 1 (λ z. omega arith) (kind-negative n (linesOf L) clear negative) k;
-              on-yes = λ z. never (cc);
-              same-length = k .same-length ∙ lengths;
-              behind = k .behind ∙ behind-table;
-            }
+      pub by-walk : (R′ : List ℕ) (w₂ : List ℤ) → RefutationWritten n L 1 R w₁ R′ w₂ → Searched n L R w R′ w₂ true
+      by-walk R′ w₂ k =
+          record {
+            verdict = no-by-walk n (linesOf L) clear negative;
+            on-no = λ _. due-written n L R w₁ R′ w₂ 1 (λ z. omega arith) (kind-negative n (linesOf L) clear negative) k;
+            on-yes = λ z. never (cc);
+            same-length = k .same-length ∙ d .same-length;
+            behind = k .behind ∙ behind-table;
+          }
 
-      -- two walks whose halves sum below 0
-      module _ (h : u < m → ⊥) (p : ℕ) (q : p ≡ firstBad m (tableOf m (tableIn n w₁))) where
-        not-negative : noNegative E m ≡ true
-        not-negative = go (noNegative E m) refl
-          where
-            go : (b : Bool) → noNegative E m ≡ b → b ≡ true
-            go true z = refl
-            go false z = absurd (h (subst (λ (x : ℕ). x < m) (sym e) (first-negative m (tableOf m (tableIn n w₁)) (diagonal ∙ z) .0)))
+    -- no such walk: the table is whole
+    module _ (h : m ≤ u) where
+      whole : u ≡ m
+      whole = omega (arith, d .within)
 
+      same : Agree m (tableOf m (tableIn n w₁)) (distances n (linesOf L))
+      same = subst (λ (t : List ℤ). Agree m (tableOf m t) (distances n (linesOf L))) (sym (d .table whole)) (agree n L (ok .variables) (ok .lines))
+
+      pub short : ShortTable n (tableIn n w₁)
+      short = subst (ShortTable n) (sym (d .table whole)) (short-table n L (ok .variables) (ok .lines))
+
+      consistent : allBelow m (halvesOk (tableOf m (tableIn n w₁))) ≡ consistentHalves n (linesOf L)
+      unfolding consistentHalves
+      consistent = all-ok-same n _ _ same
+
+      module _ (p : ℕ) (q : p ≡ firstBad m (tableOf m (tableIn n w₁))) where
+        -- two walks whose halves sum below 0
         module _ (l : p < m) where
           bad : consistentHalves n (linesOf L) ≡ false
           bad = go (consistentHalves n (linesOf L)) refl
@@ -229,7 +197,7 @@ module _ (n : ℕ) (L : List ℤ) (R : List ℕ) (w : List ℤ) (a : SearchReady
                     valid = ok .lines;
                     lines = ok .count;
                     within = l;
-                    work-room = omega (arith, a .work-room, lengths);
+                    work-room = omega (arith, a .work-room, d .same-length);
                     room = omega (arith, a .room);
                     there = x;
                     back = y;
@@ -241,20 +209,20 @@ module _ (n : ℕ) (L : List ℤ) (R : List ℕ) (w : List ℤ) (a : SearchReady
           pub by-halves : (R′ : List ℕ) (w₂ : List ℤ) → RefutationWritten n L 2 R w₁ R′ w₂ → Searched n L R w R′ w₂ true
           by-halves R′ w₂ k =
               record {
-                verdict = no-by-halves n (linesOf L) clear not-negative bad;
-                on-no = λ _. due-written n L R w₁ R′ w₂ 2 (λ z. omega arith) (kind-halves n (linesOf L) clear not-negative) k;
+                verdict = no-by-halves n (linesOf L) clear (d .clear whole) bad;
+                on-no = λ _. due-written n L R w₁ R′ w₂ 2 (λ z. omega arith) (kind-halves n (linesOf L) clear (d .clear whole)) k;
                 on-yes = λ z. never (cc);
-                same-length = k .same-length ∙ lengths;
+                same-length = k .same-length ∙ d .same-length;
                 behind = k .behind ∙ behind-table;
               }
 
-        pub by-none : (p < m → ⊥) → Searched n L R w R w₁ false
+        pub by-none : m ≤ p → Searched n L R w R w₁ false
         by-none l =
             record {
-              verdict = yes-by-all n (linesOf L) clear not-negative good;
+              verdict = yes-by-all n (linesOf L) clear (d .clear whole) good;
               on-no = λ z. never (cc);
-              on-yes = λ _. (refl, table-is);
-              same-length = lengths;
+              on-yes = λ _. (refl, d .table whole);
+              same-length = d .same-length;
               behind = behind-table;
             }
           where
@@ -263,7 +231,7 @@ module _ (n : ℕ) (L : List ℤ) (R : List ℕ) (w : List ℤ) (a : SearchReady
               where
                 go : (b : Bool) → consistentHalves n (linesOf L) ≡ b → b ≡ true
                 go true z = refl
-                go false z = absurd (l (subst (λ (x : ℕ). x < m) (sym q) (first-bad m (tableOf m (tableIn n w₁)) (consistent ∙ z) .below)))
+                go false z = absurd (omega (arith, first-bad m (tableOf m (tableIn n w₁)) (consistent ∙ z) .below, q))
 
 -- the part from the table's start to its end is the table
 pub part-is : (n : ℕ) (w : List ℤ) → take (tableStart (2 * n) + 2 * n * (2 * n) - tableStart (2 * n)) (drop (tableStart (2 * n)) w) ≡ tableIn n w

@@ -3,7 +3,7 @@ use answering::write_answers;
 use buffers::clear;
 use buffers::decide_validity;
 use buffers::work_room;
-use distances::distance_table;
+use distance_table::distance_table;
 use lines::Refusal;
 use lines::Validity;
 use lines::limits::LINE_SIZE;
@@ -12,7 +12,6 @@ use refuting::write_closed;
 use refuting::write_false;
 use refuting::write_halves;
 use searching::first_false;
-use searching::first_negative;
 ghost use mathlib.Core.Path.{_≡_};
 ghost use mathlib.Core.Bool.{false};
 ghost use Rattle.lines.specs.Line.{linesOf};
@@ -35,8 +34,7 @@ fn refuted_by_walks(list: &[i32], n: usize, refutation: &mut [u32], work: &mut [
 {
     let size = 2 * n;
     let start = (size + 1) * size;
-    distance_table(list, n, work);
-    let u = first_negative(&work[start..start + size * size], n);
+    let u = distance_table(list, n, work);
     if u < size {
         write_closed(list, n, u, refutation, work);
         return true;

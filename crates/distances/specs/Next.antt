@@ -1,5 +1,5 @@
 -- One more row behind a row, and whether the two are the same.
-use mathlib.Core.Path.{_≡_, refl, sym, ap, ap₂, _∙_}
+use mathlib.Core.Path.{_≡_, refl, sym, ap, ap₂, subst, _∙_}
 use mathlib.Core.Bool.{Bool, true, false}
 use mathlib.Core.List.{List, _++_}
 use Prim.Native.Nat.{ℕ, _+_, _*_, _<_, _≤_}
@@ -16,6 +16,7 @@ use Rattle.lines.specs.Line.{number}
 use Rattle.lines.specs.Valid.{LinesOk}
 use Rattle.steps.specs.declared.Step.{Step}
 use Rattle.walks.specs.Row.{relaxRow, relax-length}
+use Rattle.walks.specs.Wide.{wide, wide-one}
 use Rattle.distances.specs.Stored.{stored, storedRow}
 use Rattle.distances.specs.Read.{distanceOf, rowOf, AllShort, maxDistance}
 use Rattle.distances.specs.Relax.{Ready}
@@ -60,11 +61,11 @@ rowIn m w from = take m (drop from w)
 abbrev pub withNext : List Step → List ℤ → List ℤ
 withNext E row = row ++ storedRow (relaxRow E (rowOf row))
 
-pub record RowReady (n : ℕ) (L w : List ℤ) (from : ℕ) : Type 0 where
+pub record RowReady (n c : ℕ) (L w : List ℤ) (from : ℕ) : Type 0 where
   pub few : n ≤ maxVariables
   pub valid : LinesOk n L
-  pub room : from + 2 * (2 * n) ≤ length w
-  pub short : AllShort maxDistance (rowOf (rowIn (2 * n) w from))
+  pub room : from + 2 * (2 * n * c) ≤ length w
+  pub short : AllShort maxDistance (rowOf (rowIn (2 * n * c) w from))
 
 -- the row at `from` stays, the next row stands behind it, and all else is as it was
 pub record RowDone (m : ℕ) (E : List Step) (w : List ℤ) (from : ℕ) (w′ : List ℤ) (same : Bool) : Type 0 where
@@ -80,13 +81,13 @@ in-length m w from h = simp (length-take, length-drop) (omega arith)
 with-length : (E : List Step) (m : ℕ) (row : List ℤ) → length row ≡ m → length (withNext E row) ≡ 2 * m
 with-length E m row e = length-append row (storedRow (relaxRow E (rowOf row))) ∙ omega (arith, e, next-length E row)
 
-pub row-ready : (n : ℕ) (L w : List ℤ) (from k : ℕ) → k ≡ 2 * (2 * n) → RowReady n L w from → Ready n L (take k (drop from w))
-row-ready n L w from k e a =
+pub row-ready : (n c : ℕ) (L w : List ℤ) (from k : ℕ) → k ≡ 2 * (2 * n * c) → RowReady n c L w from → Ready n c L (take k (drop from w))
+row-ready n c L w from k e a =
     record {
       few = a .few;
       valid = a .valid;
       long = simp (length-take, length-drop) (omega (arith, a .room));
-      short = rw (take-take (2 * n) k (drop from w) (omega arith)) (a .short);
+      short = rw (take-take (2 * n * c) k (drop from w) (omega arith)) (a .short);
     }
 
 -- a part of k numbers that was lent, came back as `part`, and was then looked at
@@ -111,3 +112,18 @@ module _ (m from k : ℕ) (E : List Step) (w part : List ℤ) (ek : k ≡ 2 * m)
         is = ap₂ (λ (x y : List ℤ). take from w ++ (x ++ y)) part-is (drop-drop k from w ∙ ap (λ (j : ℕ). drop (from + j) w) ek);
         settled = es ∙ ap (sameRows m) (part-again ∙ part-is);
       }
+
+-- ---- a single column
+single : (m : ℕ) → m * 1 ≡ m
+single m = omega arith
+
+pub single-ready : (n : ℕ) (L w : List ℤ) (from : ℕ) → n ≤ maxVariables → LinesOk n L → from + 2 * (2 * n) ≤ length w → AllShort maxDistance (rowOf (rowIn (2 * n) w from)) → RowReady n 1 L w from
+single-ready n L w from few ok room short = record {
+  few = few;
+  valid = ok;
+  room = omega arith;
+  short = rw (single (2 * n)) short;
+}
+
+pub single-done : (m : ℕ) (E : List Step) (w : List ℤ) (from : ℕ) (w′ : List ℤ) (same : Bool) → RowDone (m * 1) (wide 1 E) w from w′ same → RowDone m E w from w′ same
+single-done m E w from w′ same d = subst (λ (k : ℕ). RowDone k E w from w′ same) (single m) (subst (λ (F : List Step). RowDone (m * 1) F w from w′ same) (wide-one E) d)

@@ -17,8 +17,8 @@ use Rattle.lines.specs.Limits.{maxVariables}
 use Rattle.lines.specs.Line.{number}
 use Rattle.steps.specs.declared.Step.{Step}
 use Rattle.steps.specs.Step.{maxWeight}
-use Rattle.walks.specs.Distance.{Distance, none, some, minD, ⊕-some}
-use Rattle.walks.specs.Row.{at, relaxRow, Along, relax-one}
+use Rattle.walks.specs.Distance.{Distance, none, some, minD, _⊕_, min-one, ⊕-some}
+use Rattle.walks.specs.Row.{at, relaxStep, relaxFrom, relaxRow, Along, relax-one}
 use Rattle.walks.specs.Size.{WithinWeights, within-more, within-sum}
 use Rattle.distances.specs.Stored.{stored, storedRow}
 
@@ -96,6 +96,42 @@ stored-set (x ∷ row) (suc i) d = ap (λ (l : List ℤ). stored x ∷ l) (store
 pub stored-replicate : (n : ℕ) (d : Distance) → storedRow (replicate n d) ≡ replicate n (stored d)
 stored-replicate zero d = refl
 stored-replicate (suc n) d = ap (λ (l : List ℤ). stored d ∷ l) (stored-replicate n d)
+
+-- a row that is read back as it was stored stays so under every step from a row whose numbers are small
+abbrev Back : List Distance → Type 0
+Back row = rowOf (storedRow row) ≡ row
+
+back-at : (row : List Distance) (p : ℕ) → Back row → distanceOf (stored (at row p)) ≡ at row p
+back-at row p b = sym (each row p) ∙ ap (λ (l : List Distance). at l p) b
+  where
+    each : (row : List Distance) (p : ℕ) → at (rowOf (storedRow row)) p ≡ distanceOf (stored (at row p))
+    each [] p = sym (of-none noWalk refl)
+    each (d ∷ row) zero = refl
+    each (d ∷ row) (suc p) = each row p
+
+back-set : (row : List Distance) (i : ℕ) (d : Distance) → Back row → distanceOf (stored d) ≡ d → Back (set row i d)
+back-set row i d b e = ap rowOf (stored-set row i d) ∙ of-set (storedRow row) i (stored d) ∙ ap₂ (λ (x : List Distance) (y : Distance). set x i y) b e
+  where
+    of-set : (l : List ℤ) (i : ℕ) (z : ℤ) → rowOf (set l i z) ≡ set (rowOf l) i (distanceOf z)
+    of-set [] i z = refl
+    of-set (x ∷ l) zero z = refl
+    of-set (x ∷ l) (suc i) z = ap (λ (k : List Distance). distanceOf x ∷ k) (of-set l i z)
+
+back-least : (a b : Distance) → distanceOf (stored a) ≡ a → distanceOf (stored b) ≡ b → distanceOf (stored (minD a b)) ≡ minD a b
+back-least a b e f = go (min-one a b)
+  where
+    go : (minD a b ≡ a) ⊎ (minD a b ≡ b) → distanceOf (stored (minD a b)) ≡ minD a b
+    go (inl q) = rw q e
+    go (inr q) = rw q f
+
+back-sum : (a : Distance) (w : ℤ) → Short maxDistance a → Within maxWeight w → distanceOf (stored (a ⊕ w)) ≡ a ⊕ w
+back-sum a w s h = of-stored (a ⊕ w) (λ z e. let x = ⊕-some a w z e in rw (x .2) at (within-sum (s (x .0) (x .1)) h))
+
+pub back-from : (old new : List Distance) (F : List Step) → AllShort maxDistance old → WithinWeights maxWeight F → Back new → Back (relaxFrom old new F)
+back-from old new [] s w b = b
+back-from old new (t ∷ F) s w b =
+    back-from old (relaxStep old new t) F s (λ u i. w u (inr i))
+    (back-set new (t .to) _ b (back-least _ _ (back-at new (t .to) b) (back-sum (at old (t .from)) (t .weight) (s (t .from)) (w t (inl refl)))))
 
 -- ---- rows whose numbers are small
 pub short-more : {b c : ℕ} {d : Distance} → b ≤ c → Short b d → Short c d

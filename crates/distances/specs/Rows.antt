@@ -49,13 +49,13 @@ rows-short n L few ok u k h p z e =
 
 -- ---- three parts: a, then b, then c
 module _ (a b c : List ℤ) (p m : ℕ) (ea : length a ≡ p) (eb : length b ≡ m) where
-  before : take p ((a ++ b) ++ c) ≡ a
+  pub before : take p ((a ++ b) ++ c) ≡ a
   before = ap (take p) (append-assoc a b c) ∙ take-at a (b ++ c) p ea
 
-  middle : take m (drop p ((a ++ b) ++ c)) ≡ b
+  pub middle : take m (drop p ((a ++ b) ++ c)) ≡ b
   middle = ap (λ (x : List ℤ). take m (drop p x)) (append-assoc a b c) ∙ ap (take m) (drop-at a (b ++ c) p ea) ∙ take-at b c m eb
 
-  behind : drop (p + m) ((a ++ b) ++ c) ≡ c
+  pub behind : drop (p + m) ((a ++ b) ++ c) ≡ c
   behind = drop-at (a ++ b) c (p + m) (length-append a b ∙ omega arith)
 
 -- ---- rows one behind the other

@@ -1,7 +1,8 @@
-// The rows of a source and the table of distances, in the lent work area. A row holds a number for each point: the least
-// sum of a walk from the source to it, or NO_WALK.
+// The rows of a source in the lent work area: a row holds a number for each point, the least sum of a walk from the source
+// to it, or NO_WALK. Rows of several sources may stand side by side, as columns: point p of column j is at p * width + j.
 use lines::limits::LINE_SIZE;
 use steps::NamedStep;
+use steps::Step;
 use steps::step_numbered;
 ghost use mathlib.Core.Path.{_≡_};
 ghost use mathlib.Core.List.{_++_};
@@ -10,20 +11,21 @@ ghost use lib.ListN.{length, take, drop};
 ghost use Rattle.integers.specs.Integer.{Within};
 ghost use Rattle.lines.specs.Line.{number, linesOf};
 ghost use Rattle.steps.specs.Step.{maxWeight, stepNumbered, stepsOf, named};
-ghost use Rattle.walks.specs.Row.{relaxRow, startRow};
+ghost use Rattle.walks.specs.Row.{startRow};
+ghost use Rattle.walks.specs.Wide.{columns, wide};
 ghost use Rattle.distances.specs.Stored.{storedRow};
-ghost use Rattle.distances.specs.Read.{distanceOf, rowOf, Short, maxDistance};
-ghost use Rattle.distances.specs.Relax.{relaxIn, relaxedBy, Ready};
-ghost use Rattle.distances.specs.Next.{sameRows, RowReady, RowDone};
+ghost use Rattle.distances.specs.Copy.{CopyReady};
+ghost use Rattle.distances.specs.Read.{distanceOf, Short, maxDistance};
+ghost use Rattle.distances.specs.Relax.{relaxIn, relaxedBy, ColumnsReady, Ready};
+ghost use Rattle.distances.specs.Next.{sameRows, withNext, RowReady, RowDone};
 ghost use Rattle.distances.specs.Rows.{RowsReady, RowsDone};
-ghost use Rattle.distances.specs.Table.{TableReady, TableRow, TableDone};
 
 // Stands for no walk; no sum gets near it. In specs/ it is `stored none`.
 pub const NO_WALK: i64 = 9223372036854775807;
 
-// The size numbers at `from` copied to `to`, behind them.
-fn copy_row(work: &mut [i64], from: usize, to: usize, size: usize)
-    requires { ⌜ (from + size ≤ to) × (to + size ≤ length (now work)) ⌝ }
+// The size numbers at `from` copied to `to`, apart from them.
+pub fn copy_row(work: &mut [i64], from: usize, to: usize, size: usize)
+    requires { ⌜ CopyReady from to size (now work) ⌝ }
     ensures { λ _. ⌜ now (work .exit) ≡ take to (now (work .entry)) ++ take size (drop from (now (work .entry))) ++ drop (to + size) (now (work .entry)) ⌝ }
 {
     let mut i = 0;
@@ -50,28 +52,42 @@ fn relax_at(rows: &mut [i64], size: usize, from: usize, to: usize, weight: i64)
     }
 }
 
-// The step with a number, where it names one.
-fn relax_one(list: &[i32], n: usize, rows: &mut [i64], number: usize)
-    requires { ⌜ Ready n (now list) (now rows) ⌝ }
-    ensures { λ _. ⌜ now (rows .exit) ≡ relaxedBy (2 * n) (now (rows .entry)) (named (stepNumbered (now (list .entry)) number)) ⌝ }
+// One step in all columns.
+fn relax_columns(rows: &mut [i64], size: usize, width: usize, step: Step)
+    requires { ⌜ ColumnsReady size width step (now rows) ⌝ }
+    ensures { λ _. ⌜ now (rows .exit) ≡ relaxedBy size (now (rows .entry)) (columns width width step) ⌝ }
 {
-    let named = step_numbered(list, number);
-    if let NamedStep::Found(t) = named {
-        relax_at(rows, 2 * n, t.from, t.to, t.weight);
+    let from = step.from * width;
+    let to = step.to * width;
+    let mut j = 0;
+    while j < width {
+        relax_at(rows, size, from + j, to + j, step.weight);
+        j += 1;
     }
 }
 
-// One round: the old row, of 2n numbers, stands first; the new row comes behind it.
-fn relax_row(list: &[i32], n: usize, rows: &mut [i64])
-    requires { ⌜ Ready n (now list) (now rows) ⌝ }
-    ensures { λ _. ⌜ now (rows .exit) ≡ take (2 * n) (now (rows .entry)) ++ storedRow (relaxRow (stepsOf (linesOf (now (list .entry)))) (rowOf (take (2 * n) (now (rows .entry))))) ⌝ }
+// The step with a number, where it names one.
+fn relax_one(list: &[i32], n: usize, width: usize, rows: &mut [i64], number: usize)
+    requires { ⌜ Ready n width (now list) (now rows) ⌝ }
+    ensures { λ _. ⌜ now (rows .exit) ≡ relaxedBy (2 * n * width) (now (rows .entry)) (wide width (named (stepNumbered (now (list .entry)) number))) ⌝ }
 {
-    let size = 2 * n;
+    let named = step_numbered(list, number);
+    if let NamedStep::Found(t) = named {
+        relax_columns(rows, 2 * n * width, width, t);
+    }
+}
+
+// One round: the old row, 2n numbers to a column, stands first; the new row comes behind it.
+fn relax_row(list: &[i32], n: usize, width: usize, rows: &mut [i64])
+    requires { ⌜ Ready n width (now list) (now rows) ⌝ }
+    ensures { λ _. ⌜ now (rows .exit) ≡ withNext (wide width (stepsOf (linesOf (now (list .entry))))) (take (2 * n * width) (now (rows .entry))) ⌝ }
+{
+    let size = 2 * n * width;
     copy_row(rows, 0, size, size);
     let count = 2 * (list.len() / LINE_SIZE);
     let mut number = 0;
     while number < count {
-        relax_one(list, n, rows, number);
+        relax_one(list, n, width, rows, number);
         number += 1;
     }
 }
@@ -92,7 +108,7 @@ fn settled(rows: &[i64], size: usize) -> bool
 }
 
 // The start row of the source u: 0 at u, and NO_WALK elsewhere.
-fn start_row(work: &mut [i64], size: usize, u: usize)
+pub fn start_row(work: &mut [i64], size: usize, u: usize)
     requires { ⌜ (u < size) × (size ≤ length (now work)) ⌝ }
     ensures { λ _. ⌜ now (work .exit) ≡ storedRow (startRow size u) ++ drop size (now (work .entry)) ⌝ }
 {
@@ -105,13 +121,14 @@ fn start_row(work: &mut [i64], size: usize, u: usize)
 }
 
 // The row behind the row at `from`, and whether the two are the same.
-fn next_row(list: &[i32], n: usize, work: &mut [i64], from: usize) -> bool
-    requires { ⌜ RowReady n (now list) (now work) from ⌝ }
-    ensures { λ r. ⌜ RowDone (2 * n) (stepsOf (linesOf (now (list .entry)))) (now (work .entry)) from (now (work .exit)) r ⌝ }
+pub fn next_row(list: &[i32], n: usize, width: usize, work: &mut [i64], from: usize) -> bool
+    requires { ⌜ RowReady n width (now list) (now work) from ⌝ }
+    ensures { λ r. ⌜ RowDone (2 * n * width) (wide width (stepsOf (linesOf (now (list .entry))))) (now (work .entry)) from (now (work .exit)) r ⌝ }
 {
-    let to = from + 2 * (2 * n);
-    relax_row(list, n, &mut work[from..to]);
-    settled(&work[from..to], 2 * n)
+    let size = 2 * n * width;
+    let to = from + 2 * size;
+    relax_row(list, n, width, &mut work[from..to]);
+    settled(&work[from..to], size)
 }
 
 // Rows 0, 1, .. of the source u one behind the other, until a row is the same as the one before it or 2n rounds are done.
@@ -125,7 +142,7 @@ pub fn rows(list: &[i32], n: usize, u: usize, work: &mut [i64]) -> usize
     let mut k = 0;
     let mut from = 0;
     while k < size {
-        let same = next_row(list, n, work, from);
+        let same = next_row(list, n, 1, work, from);
         k += 1;
         from += size;
         if same {
@@ -133,28 +150,4 @@ pub fn rows(list: &[i32], n: usize, u: usize, work: &mut [i64]) -> usize
         }
     }
     k
-}
-
-// The last row of the source u, copied to its place in the table behind the rows.
-fn table_row(list: &[i32], n: usize, u: usize, work: &mut [i64])
-    requires { ⌜ TableReady n (now list) (now work) × (u < 2 * n) ⌝ }
-    ensures { λ _. ⌜ TableRow (stepsOf (linesOf (now (list .entry)))) (2 * n) u (now (work .entry)) (now (work .exit)) ⌝ }
-{
-    let size = 2 * n;
-    let last = rows(list, n, u, work);
-    let table = (size + 1) * size;
-    copy_row(work, last * size, table + u * size, size);
-}
-
-// The distances from every source to every point, behind the place that the rows of one source take.
-pub fn distance_table(list: &[i32], n: usize, work: &mut [i64])
-    requires { ⌜ TableReady n (now list) (now work) ⌝ }
-    ensures { λ _. ⌜ TableDone (stepsOf (linesOf (now (list .entry)))) (2 * n) (now (work .entry)) (now (work .exit)) ⌝ }
-{
-    let size = 2 * n;
-    let mut u = 0;
-    while u < size {
-        table_row(list, n, u, work);
-        u += 1;
-    }
 }

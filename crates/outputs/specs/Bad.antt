@@ -6,7 +6,7 @@ use Prim.Native.Nat.{ℕ, zero, suc, _+_, _<_}
 use native.Mathlib.Omega.{arith}
 use borrow.Author.Tests.{not-true, not-false}
 use Rattle.integers.specs.Laws.{never, both-true}
-use Rattle.integers.specs.Table.{allBelow, below-at}
+use Rattle.integers.specs.Table.{allBelow, below-at, below-all}
 use Rattle.bounds.specs.Tight.{Table}
 use Rattle.answers.specs.Answers.{lowest}
 use Rattle.answers.specs.Verdict.{halvesOk}
@@ -22,10 +22,6 @@ pub record IsFirstBad (N : ℕ) (D : Table) (p : ℕ) : Type 0 where
   pub bad : halvesOk D p ≡ false
   pub before : (q : ℕ) → q < p → halvesOk D q ≡ true
 
-all-true : (n : ℕ) (f : ℕ → Bool) → ((i : ℕ) → i < n → f i ≡ true) → allBelow n f ≡ true
-all-true zero f h = refl
-all-true (suc n) f h = both-true (f n) (allBelow n f) (h n (omega arith)) (all-true n f (λ i l. h i (omega arith)))
-
 module _ (N : ℕ) (D : Table) where
   abbrev Known : Type 0
   Known = ((firstBad N D ≡ N) × (allBelow N (halvesOk D) ≡ true)) ⊎ IsFirstBad N D (firstBad N D)
@@ -35,7 +31,7 @@ module _ (N : ℕ) (D : Table) where
     where
       go : Passed (λ p. not (halvesOk D p)) 0 (0 + N) (firstBad N D) ⊎ NonePassed (λ p. not (halvesOk D p)) 0 (0 + N) (firstBad N D) → Known
       go (inl s) = inr (record { below = omega (arith, s .below); bad = not-true _ (s .passes); before = λ q h. not-false _ (s .before q (omega arith) h) })
-      go (inr s) = inl (omega (arith, s .at-end), all-true N (halvesOk D) (λ i h. not-false _ (s .fails i (omega arith) (omega arith))))
+      go (inr s) = inl (omega (arith, s .at-end), below-all N (halvesOk D) (λ i h. not-false _ (s .fails i (omega arith) (omega arith))))
 
   -- N is the answer exactly where every point's halves are consistent
   pub none-bad : (firstBad N D ≡ N) ↔ (allBelow N (halvesOk D) ≡ true)

@@ -9,7 +9,7 @@ use lib.IntN.{ℤ, pos}
 use lib.Signed.{leZ}
 use Rattle.integers.specs.Integer.{eqZ}
 use Rattle.integers.specs.Laws.{never, both-true, eqZ-true}
-use Rattle.integers.specs.Table.{allBelow, below-at}
+use Rattle.integers.specs.Table.{allBelow, below-at, below-all}
 use Rattle.walks.specs.Distance.{none, some}
 use Rattle.walks.specs.Negative.{notBelow0}
 use Rattle.bounds.specs.Tight.{Table}
@@ -32,10 +32,6 @@ stored-sign z = go (eqZ z noWalk) refl
     go false e = refl
 
 -- ---- the point found
-all-true : (n : ℕ) (f : ℕ → Bool) → ((i : ℕ) → i < n → f i ≡ true) → allBelow n f ≡ true
-all-true zero f h = refl
-all-true (suc n) f h = both-true (f n) (allBelow n f) (h n (omega arith)) (all-true n f (λ i l. h i (omega arith)))
-
 module _ (N : ℕ) (D : Table) where
   -- the distance of the point found is below 0
   abbrev Found : Type 0
@@ -49,7 +45,7 @@ module _ (N : ℕ) (D : Table) where
     where
       go : Passed (λ u. not (notBelow0 (D u u))) 0 (0 + N) (firstNegative N D) ⊎ NonePassed (λ u. not (notBelow0 (D u u))) 0 (0 + N) (firstNegative N D) → Known
       go (inl s) = inr (omega (arith, s .below), not-true _ (s .passes))
-      go (inr s) = inl (omega (arith, s .at-end), all-true N (λ u. notBelow0 (D u u)) (λ i h. not-false _ (s .fails i (omega arith) (omega arith))))
+      go (inr s) = inl (omega (arith, s .at-end), below-all N (λ u. notBelow0 (D u u)) (λ i h. not-false _ (s .fails i (omega arith) (omega arith))))
 
   -- N is the answer exactly where no point's distance to itself is below 0
   pub none-negative : (firstNegative N D ≡ N) ↔ (allBelow N (λ u. notBelow0 (D u u)) ≡ true)

@@ -17,9 +17,9 @@ use Rattle.distances.specs.Stored.{stored}
 use Rattle.distances.specs.Read.{noWalk, distanceOf, Short, maxDistance, short-more}
 use Rattle.tables.specs.Sum.{maxTight, read-back, min-short, sum-short, half-none, half-some, half-short}
 
--- N entries to a row
+-- N entries to a row; row v has the distances to v
 abbrev pub tableOf : ℕ → List ℤ → Table
-tableOf N t u v = distanceOf (number t (u * N + v))
+tableOf N t u v = distanceOf (number t (v * N + u))
 
 pub record ShortTable (n : ℕ) (t : List ℤ) : Type 0 where
   pub variables : n ≤ maxVariables
@@ -47,13 +47,13 @@ module _ (n : ℕ) (t : List ℤ) (ok : ShortTable n t) where
       (short-more (omega arith) (sum-short _ _ maxDistance maxDistance (halves-short i h) (halves-short (opposite j) (opposite-below n j k))))
 
 -- the half of a stored entry
-pub half-none-at : (N : ℕ) (t : List ℤ) (p : ℕ) → number t (p * N + opposite p) ≡ noWalk → noWalk ≡ stored (halves (tableOf N t) p)
+pub half-none-at : (N : ℕ) (t : List ℤ) (p : ℕ) → number t (opposite p * N + p) ≡ noWalk → noWalk ≡ stored (halves (tableOf N t) p)
 unfolding halves
-half-none-at N t p e = half-none (number t (p * N + opposite p)) e
+half-none-at N t p e = half-none (number t (opposite p * N + p)) e
 
-pub half-some-at : (N : ℕ) (t : List ℤ) (p : ℕ) → (number t (p * N + opposite p) ≡ noWalk → ⊥) → half (number t (p * N + opposite p)) ≡ stored (halves (tableOf N t) p)
+pub half-some-at : (N : ℕ) (t : List ℤ) (p : ℕ) → (number t (opposite p * N + p) ≡ noWalk → ⊥) → half (number t (opposite p * N + p)) ≡ stored (halves (tableOf N t) p)
 unfolding halves
-half-some-at N t p e = half-some (number t (p * N + opposite p)) e
+half-some-at N t p e = half-some (number t (opposite p * N + p)) e
 
 -- numbers that the code found, read back as distances
 module _ (n : ℕ) (t : List ℤ) (ok : ShortTable n t) where

@@ -33,12 +33,12 @@ pub fn sum(a: i64, b: i64) -> i64
     a + b
 }
 
-// The entry of the points u and v.
+// The entry of the points u and v: row v has the distances to v.
 pub fn entry_at(table: &[i64], n: usize, u: usize, v: usize) -> i64
     requires { ⌜ ShortTable n (now table) × (u < 2 * n) × (v < 2 * n) ⌝ }
-    ensures { λ r. ⌜ r ≡ number (now (table .entry)) (u * (2 * n) + v) ⌝ }
+    ensures { λ r. ⌜ r ≡ number (now (table .entry)) (v * (2 * n) + u) ⌝ }
 {
-    let at = u * (2 * n) + v;
+    let at = v * (2 * n) + u;
     table[at]
 }
 

@@ -6,3 +6,5 @@ pub mod Least
 pub mod Mirror
 pub mod Negative
 pub mod Size
+pub mod Wide
+pub mod AllPairs

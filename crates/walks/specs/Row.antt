@@ -118,7 +118,7 @@ module _ (old new : List Distance) (s : Step) where
       go (inr e) (inr m) = inr (e .0, e .1 ∙ m)
 
 -- ---- all steps, from any row into any row
-from-length : (old new : List Distance) (E : List Step) → length (relaxFrom old new E) ≡ length new
+pub from-length : (old new : List Distance) (E : List Step) → length (relaxFrom old new E) ≡ length new
 from-length old new [] = refl
 from-length old new (s ∷ E) = from-length old (relaxStep old new s) E ∙ step-length old new s
 

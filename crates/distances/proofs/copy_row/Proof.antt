@@ -29,7 +29,7 @@ loop-again c =
     let z = toZ-ofZ {w = w64} {z = number (l .loop .work) (s .args .from + l .loop .i)} (record { sfits = c .work .given }) in (
       omega arith,
       search needs,
-      rw (z, l .loop .inv .2) (copied-more (now (s .args .work)) (s .args .from) (s .args .to) (s .args .size) (l .loop .i) (s .pre .0) (s .pre .1) (c .before .loop-test .taken)),
+      rw (z, l .loop .inv .2) (copied-more (s .args .from) (s .args .to) (s .args .size) (now (s .args .work)) (s .pre) (l .loop .i) (c .before .loop-test .taken)),
     )
 
 returns : tie.Need-returns Inv-loop μ-loop

@@ -12,6 +12,7 @@ use Rattle.steps.specs.declared.Step.{Step}
 use Rattle.steps.specs.Step.{stepsOf}
 use Rattle.walks.specs.Row.{rowAt}
 use Rattle.distances.specs.Read.{AllShort, maxDistance}
+use Rattle.distances.specs.Next.{RowDone, single-ready, single-done}
 use Rattle.distances.specs.Rows.{Turn, rows-short, rows-fit, turn-start, turn-short, turn-more, turn-same, turn-end}
 use Rattle.distances.proofs.rows.Statement.{statement}
 use Rattle.distances.proofs.rows.Tie as tie
@@ -58,12 +59,9 @@ next-row-requires c κs =
     let l = c .before .before in
     let a = l .before .before in
     let k : l .loop .k < 2 * n a = omega (arith, c .before .loop-test .taken) in
-    record {
-      few = start a .pre .few;
-      valid = start a .pre .valid;
-      room = omega (arith, l .loop .inv .0, l .loop .inv .1 .place, a .start-row .kept .0, start a .pre .room, rows-fit (l .loop .k) (2 * n a) k);
-      short = turn-short (E a) (2 * n a) (u a) (w₁ a) (w₀ a) (a .start-row .ensures) (l .loop .work) (l .loop .k) (l .loop .from) (l .loop .inv .1) (short a (l .loop .k) (omega (arith, k)));
-    }
+    let short-row = turn-short (E a) (2 * n a) (u a) (w₁ a) (w₀ a) (a .start-row .ensures) (l .loop .work) (l .loop .k) (l .loop .from) (l .loop .inv .1) (short a (l .loop .k) (omega (arith, k))) in
+    single-ready (n a) (now (start a .args .list)) (l .loop .work) (l .loop .from) (start a .pre .few) (start a .pre .valid)
+    (omega (arith, l .loop .inv .0, l .loop .inv .1 .place, a .start-row .kept .0, start a .pre .room, rows-fit (l .loop .k) (2 * n a) k)) short-row
 
 -- after one more row
 module _ (r : tie.After-next-row Inv-loop μ-loop) where
@@ -76,10 +74,13 @@ module _ (r : tie.After-next-row Inv-loop μ-loop) where
   low : l .loop .k < 2 * n a
   low = omega (arith, r .before .before .loop-test .taken)
 
-  more : Turn (E a) (2 * n a) (u a) (w₀ a) (r .next-row .last .1 .1 .0) (l .loop .k + 1) (l .loop .from + 2 * n a)
+  done : RowDone (2 * n a) (E a) (l .loop .work) (l .loop .from) (r .next-row .last .1 .1 .1 .0) (r .next-row .result)
+  done = single-done (2 * n a) (E a) (l .loop .work) (l .loop .from) (r .next-row .last .1 .1 .1 .0) (r .next-row .result) (r .next-row .ensures)
+
+  more : Turn (E a) (2 * n a) (u a) (w₀ a) (r .next-row .last .1 .1 .1 .0) (l .loop .k + 1) (l .loop .from + 2 * n a)
   more =
       turn-more (E a) (2 * n a) (u a) (w₁ a) (w₀ a) (a .start-row .ensures) (l .loop .work) (l .loop .k) (l .loop .from) (l .loop .inv .1)
-      (short a (l .loop .k) (omega (arith, low))) (r .next-row .last .1 .1 .0) (r .next-row .result) (r .next-row .ensures) low
+      (short a (l .loop .k) (omega (arith, low))) (r .next-row .last .1 .1 .1 .0) (r .next-row .result) done low
 
 add-from : tie.Need-add-from Inv-loop μ-loop
 add-from c =
@@ -93,14 +94,14 @@ returns c =
     let b = a r in
     let i = l r .loop in
     let h = low r in
-    turn-end (E b) (2 * n b) (u b) (w₁ b) (w₀ b) (b .start-row .ensures) (r .next-row .last .1 .1 .0) (i .k + 1) (i .from + 2 * n b) (more r)
+    turn-end (E b) (2 * n b) (u b) (w₁ b) (w₀ b) (b .start-row .ensures) (r .next-row .last .1 .1 .1 .0) (i .k + 1) (i .from + 2 * n b) (more r)
     (turn-same (E b) (2 * n b) (u b) (w₁ b) (w₀ b) (b .start-row .ensures) (i .work) (i .k) (i .from) (i .inv .1) (short b (i .k) (omega (arith, h)))
-    (r .next-row .last .1 .1 .0) (r .next-row .result) (r .next-row .ensures) (short b (suc (i .k)) h) h (c .if1 .taken))
+    (r .next-row .last .1 .1 .1 .0) (r .next-row .result) (done r) (short b (suc (i .k)) h) h (c .if1 .taken))
 
 loop-again : tie.Need-loop-again Inv-loop μ-loop
 loop-again c =
     let r = c .before .before in
-    (r .next-row .kept .1 .1 .0 ∙ l r .loop .inv .0, more r)
+    (r .next-row .kept .1 .1 .1 .0 ∙ l r .loop .inv .0, more r)
 
 returns-2 : tie.Need-returns-2 Inv-loop μ-loop
 returns-2 c =

@@ -11,13 +11,13 @@ use Rattle.tables.proofs.entry_at.Tie as tie
 
 module _ (s : tie.Start) where
   abbrev at : ℕ
-  at = s .args .u * (2 * s .args .n) + s .args .v
+  at = s .args .v * (2 * s .args .n) + s .args .u
 
   small : at < 2 * maxVariables * (2 * maxVariables)
-  small = entry-small (s .args .n) (s .args .u) (s .args .v) (s .pre .0 .variables) (s .pre .1) (s .pre .2)
+  small = entry-small (s .args .n) (s .args .v) (s .args .u) (s .pre .0 .variables) (s .pre .2) (s .pre .1)
 
   inside : at < length (now (s .args .table))
-  inside = rw (s .pre .0 .size) (entry-lt (2 * s .args .n) (s .args .u) (s .args .v) (s .pre .1) (s .pre .2))
+  inside = rw (s .pre .0 .size) (entry-lt (2 * s .args .n) (s .args .v) (s .args .u) (s .pre .2) (s .pre .1))
 
 mul-at-2 : tie.Need-mul-at-2
 mul-at-2 c = record { fits = omega (arith, small c) }

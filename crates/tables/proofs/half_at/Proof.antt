@@ -27,10 +27,10 @@ module _ (c : tie.After-entry-at) where
   s = c .before .before
 
   abbrev entry : ℤ
-  entry = number (now (s .args .table)) (s .args .p * (2 * s .args .n) + opposite (s .args .p))
+  entry = number (now (s .args .table)) (opposite (s .args .p) * (2 * s .args .n) + s .args .p)
 
   is : toZ w64 (ofZ w64 (c .entry-at .result)) ≡ entry
-  is = kept w64 (c .entry-at .result) (c .entry-at .ok) ∙ c .entry-at .ensures ∙ ap (λ (q : ℕ). number (now (s .args .table)) (s .args .p * (2 * s .args .n) + q)) (c .before .opposite-of .ensures)
+  is = kept w64 (c .entry-at .result) (c .entry-at .ok) ∙ c .entry-at .ensures ∙ ap (λ (q : ℕ). number (now (s .args .table)) (q * (2 * s .args .n) + s .args .p)) (c .before .opposite-of .ensures)
 
 returns : tie.Need-returns
 returns c =

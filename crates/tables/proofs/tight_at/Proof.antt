@@ -63,7 +63,7 @@ returns c =
     let a = e .before in
     let h = a .before in
     let r = s h in
-    let entry : toZ w64 (ofZ w64 (e .entry-at .result)) ≡ number (t h) (r .args .i * (2 * r .args .n) + r .args .j) = kept w64 (e .entry-at .result) (e .entry-at .ok) ∙ e .entry-at .ensures in
+    let entry : toZ w64 (ofZ w64 (e .entry-at .result)) ≡ number (t h) (r .args .j * (2 * r .args .n) + r .args .i) = kept w64 (e .entry-at .result) (e .entry-at .ok) ∙ e .entry-at .ensures in
     let added : toZ w64 (ofZ w64 (a .sum .result)) ≡ stored (distanceOf (first h) ⊞ distanceOf (second h)) = kept w64 (a .sum .result) (a .sum .ok) ∙ a .sum .ensures in
     kept w64 (c .smaller .result) (c .smaller .ok)
     ∙ c .smaller .ensures
