@@ -74,16 +74,20 @@ static const int32_t flash[4][5] = {
 #define NUMBERS 7
 static const uint32_t refutation[NUMBERS] = {2, 2, 2, 0, 5, 2, 7};
 
+/* A limit in a text. */
+#define AS_TEXT(limit) AS_WRITTEN(limit)
+#define AS_WRITTEN(limit) #limit
+
 /* What a refusal means and what to do about it. */
 static const char *advice(int number)
 {
     switch (number) {
     case UTVPI_TOO_MANY_VARIABLES:
-        return "There are more than 64 variables: use fewer.";
+        return "There are more than " AS_TEXT(UTVPI_MOST_VARIABLES) " variables: use fewer.";
     case UTVPI_BROKEN_LIST_LENGTH:
         return "The list's bytes are not whole lines: look for a cut.";
     case UTVPI_TOO_MANY_LINES:
-        return "There are more than 512 lines: leave some out.";
+        return "There are more than " AS_TEXT(UTVPI_MOST_LINES) " lines: leave some out.";
     case UTVPI_BAD_COEFFICIENT:
         return "This line has a coefficient other than -1, 0 and 1: correct it.";
     case UTVPI_BAD_VARIABLE:

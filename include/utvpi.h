@@ -16,7 +16,8 @@
  *
  * So a list of k lines is 5*k numbers, or 20*k bytes. x and y may be the same
  * variable. A line on one variable may use either place. With both coefficients
- * 0 the line says 0 <= d. At most 64 variables and 512 lines.
+ * 0 the line says 0 <= d. At most UTVPI_MOST_VARIABLES variables and
+ * UTVPI_MOST_LINES lines.
  *
  * A MODEL is one value for each variable, in order, each a signed 64-bit number,
  * for the checks as eight bytes. It is a yes if it meets every line.
@@ -84,15 +85,26 @@ extern "C" {
 
 /* The most variables and the most lines that a list may have, and the most
  * numbers of a refutation. */
-#define UTVPI_MOST_VARIABLES 64
-#define UTVPI_MOST_LINES 512
+#define UTVPI_MOST_VARIABLES 256
+#define UTVPI_MOST_LINES 4096
 #define UTVPI_MOST_REFUTATION 65536
+
+/* The most stack that a call takes, in bytes. utvpi_check_model,
+ * utvpi_check_refutation and utvpi_read_list hold the longest list there, however
+ * short the one at hand is, and the first of them the longest model; the last part
+ * is for all else, and the other calls take no more than that. A thread that calls
+ * them needs this much and what it takes itself. No call takes memory from the
+ * heap. */
+#define UTVPI_MOST_STACK \
+    ((size_t)20 * UTVPI_MOST_LINES + (size_t)8 * UTVPI_MOST_VARIABLES + (size_t)4096)
 
 /* The room that deciding a list of n variables needs, in numbers, for n up to
  * UTVPI_MOST_VARIABLES. With a constant n these are constants, fit for the
  * length of an array; but for n = 0 the first three are 0, which no array may
- * have. A list with n above UTVPI_MOST_VARIABLES is refused before any room is
- * looked at: for it, lend whatever there is. */
+ * have. The work area grows with the square of n, and for many variables is too
+ * long for most stacks: take it from the heap, for the n at hand. A list with n
+ * above UTVPI_MOST_VARIABLES is refused before any room is looked at: for it, lend
+ * whatever there is. */
 #define UTVPI_MODEL_ROOM(n) ((size_t)(n))
 #define UTVPI_BOUNDS_ROOM(n) ((size_t)2 * (size_t)(n))
 #define UTVPI_GROUPS_ROOM(n) ((size_t)(n))
@@ -281,7 +293,7 @@ utvpi_file_written utvpi_write_list(uint64_t n, const int32_t *list, size_t list
  * deciding, 9 and 10 for a model, 11 for a refutation.
  */
 enum utvpi_refusal {
-    /* n is above 64: use fewer variables. */
+    /* n is above UTVPI_MOST_VARIABLES: use fewer variables. */
     UTVPI_TOO_MANY_VARIABLES = 1,
 
     /* The list's numbers are no multiple of 5, or its bytes no multiple of 20:
@@ -289,7 +301,8 @@ enum utvpi_refusal {
      * for a length in bytes where one in numbers is asked for. */
     UTVPI_BROKEN_LIST_LENGTH = 2,
 
-    /* The list has more than 512 lines: leave out lines that add nothing. */
+    /* The list has more than UTVPI_MOST_LINES lines: leave out lines that add
+     * nothing. */
     UTVPI_TOO_MANY_LINES = 3,
 
     /* A coefficient of the line at this place is not -1, 0 or 1: correct it, or
@@ -319,9 +332,9 @@ enum utvpi_refusal {
      * -1,000,000,000,000 or above 1,000,000,000,000: choose a nearer one. */
     UTVPI_BAD_MODEL_VALUE = 10,
 
-    /* The refutation is longer than 65,536 numbers (262,144 bytes): look for a
-     * shorter one. A list that no whole numbers meet always has one of at most
-     * 4*n + 4 numbers. */
+    /* The refutation has more than UTVPI_MOST_REFUTATION numbers, of four bytes
+     * each: look for a shorter one. A list that no whole numbers meet always has
+     * one of at most 4*n + 4 numbers. */
     UTVPI_LONG_REFUTATION = 11
 };
 

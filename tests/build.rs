@@ -1,14 +1,24 @@
 //! Tells the linker where the static library is: in the folder named by
-//! UTVPI_LIB_DIR, or else in the repository's target/staticlib.
+//! UTVPI_LIB_DIR, or else in the repository's target/staticlib. Reads the limits
+//! from the library's header, so that the tests have them from there alone.
 
-use std::env;
 use std::path::{Path, PathBuf};
+use std::{env, fs};
+
+/// The limits that the header defines, by their names without UTVPI_.
+const LIMITS: [&str; 3] = ["MOST_VARIABLES", "MOST_LINES", "MOST_REFUTATION"];
 
 fn main() {
+    let package = PathBuf::from(env::var_os("CARGO_MANIFEST_DIR").unwrap());
+    link(&package);
+    write_limits(&package.join("../include/utvpi.h"));
+}
+
+fn link(package: &Path) {
     println!("cargo:rerun-if-env-changed=UTVPI_LIB_DIR");
     let folder = match env::var_os("UTVPI_LIB_DIR") {
         Some(folder) => PathBuf::from(folder),
-        None => Path::new(&env::var_os("CARGO_MANIFEST_DIR").unwrap()).join("../target/staticlib"),
+        None => package.join("../target/staticlib"),
     };
     let archive = folder.join("libc_interface.a");
     // A new archive is linked anew.
@@ -20,4 +30,31 @@ fn main() {
     );
     println!("cargo:rustc-link-search=native={}", folder.display());
     println!("cargo:rustc-link-lib=static=c_interface");
+}
+
+/// Writes the limits as constants, for src/limits.rs to take in.
+fn write_limits(header: &Path) {
+    println!("cargo:rerun-if-changed={}", header.display());
+    let text = fs::read_to_string(header)
+        .unwrap_or_else(|error| panic!("{} can't be read: {error}", header.display()));
+    let constants = LIMITS.map(|name| {
+        let limit = limit(&text, &format!("UTVPI_{name}")).unwrap_or_else(|| {
+            let header = header.display();
+            panic!("{header} does not define UTVPI_{name} as a number, in one line")
+        });
+        format!("pub const {name}: usize = {limit};\n")
+    });
+    let out = PathBuf::from(env::var_os("OUT_DIR").unwrap());
+    fs::write(out.join("limits.rs"), constants.concat()).unwrap();
+}
+
+/// The number that a header defines under this name.
+fn limit(header: &str, name: &str) -> Option<usize> {
+    header.lines().find_map(|line| {
+        let words: Vec<&str> = line.split_whitespace().collect();
+        match words[..] {
+            ["#define", defined, number] if defined == name => number.parse().ok(),
+            _ => None,
+        }
+    })
 }

@@ -11,11 +11,15 @@
 #include <stdio.h>
 
 /* The longest rule and the longest name, in characters, and the largest file, in
- * bytes. They keep every answer printable; no list within the library's limits
- * needs more. */
+ * units of 1,048,576 bytes. They keep every answer printable; no list within the
+ * library's limits needs more. */
 #define MOST_RULE 1000
 #define MOST_NAME 64
-#define MOST_BYTES ((size_t)16 * 1024 * 1024)
+#define MOST_MIB 16
+
+/* A limit in a text: AS_TEXT(MOST_NAME) is "64". */
+#define AS_TEXT(limit) AS_WRITTEN(limit)
+#define AS_WRITTEN(limit) #limit
 
 /* The most names that are ever kept: reading ends with the line that passes the
  * library's limit, and a line has fewer names than characters. */

@@ -137,7 +137,7 @@ bool read_variables(struct list *list, struct origin origin)
     }
     if (value > INT32_MAX) {
         return wrong(list, origin, word, "is followed by a number too large for 32 bits",
-                     "use at most 64 variables");
+                     "use at most " AS_TEXT(UTVPI_MOST_VARIABLES) " variables");
     }
     if (!settle_form(list, origin, FORM_NUMBERS)) {
         return false;

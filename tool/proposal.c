@@ -20,7 +20,7 @@ static bool read_number(struct proposal *proposal, struct origin origin, struct 
     }
     if (value > UINT32_MAX) {
         return wrong_in(proposal->file, origin, part, "is too large for 32 bits",
-                        "correct it; a step's number is at most 1023");
+                        "correct it; a step's number is below twice the number of rules");
     }
     proposal->numbers[proposal->count] = (uint32_t)value;
     proposal->count++;

@@ -65,7 +65,8 @@ static bool read_rule(struct list *list, struct origin origin)
     if (origin.rule.length > MOST_RULE) {
         origin.rule.length = 40;
         return wrong(list, origin, nothing,
-                     "this rule has more than 1,000 characters; it begins as shown",
+                     "this rule has more than " AS_TEXT(MOST_RULE)
+                     " characters; it begins as shown",
                      "write one rule to a line");
     }
     for (size_t at = 0; at < origin.rule.length; at++) {

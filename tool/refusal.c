@@ -12,10 +12,11 @@ static struct words words_of(int number)
     static const char fault[] = "this is a fault of this program, not of the file: report it";
     switch (number) {
     case UTVPI_TOO_MANY_VARIABLES:
-        return (struct words){"there are more than 64 events",
+        return (struct words){"there are more than " AS_TEXT(UTVPI_MOST_VARIABLES) " events",
                               "use fewer, or decide parts that share no event one by one"};
     case UTVPI_TOO_MANY_LINES:
-        return (struct words){"there are more than 512 rules; one with = counts twice",
+        return (struct words){"there are more than " AS_TEXT(UTVPI_MOST_LINES)
+                              " rules; one with = counts twice",
                               "leave out rules that add nothing"};
     case UTVPI_BAD_COEFFICIENT:
         return (struct words){"a coefficient, the first or third number, is not -1, 0 or 1",
@@ -29,7 +30,8 @@ static struct words words_of(int number)
         return (struct words){"the bound is below -1,000,000 or above 1,000,000",
                               "choose a coarser unit, or an origin nearer to the values"};
     case UTVPI_LONG_REFUTATION:
-        return (struct words){"the refutation has more than 65,536 numbers",
+        return (struct words){"the refutation has more than " AS_TEXT(UTVPI_MOST_REFUTATION)
+                              " numbers",
                               "look for a shorter one; with --numbers this program gives one"};
     case UTVPI_BROKEN_LIST_LENGTH:
         return (struct words){"the list has a broken length", fault};

@@ -39,8 +39,10 @@ bool load(FILE *from, const char *file, struct text *input)
         if (got == 0 && ferror(from)) {
             return not_loaded(file, bytes, errno != 0 ? strerror(errno) : "it can't be read");
         }
-        if (length > MOST_BYTES) {
-            return not_loaded(file, bytes, "it has more than 16 MiB: leave out what is not needed");
+        if (length > (size_t)MOST_MIB * 1024 * 1024) {
+            return not_loaded(file, bytes,
+                              "it has more than " AS_TEXT(MOST_MIB)
+                              " MiB: leave out what is not needed");
         }
         if (got == 0) {
             input->at = bytes;

@@ -13,7 +13,6 @@ static int64_t model[UTVPI_MODEL_ROOM(UTVPI_MOST_VARIABLES)];
 static int64_t bounds[UTVPI_BOUNDS_ROOM(UTVPI_MOST_VARIABLES)];
 static uint32_t groups[UTVPI_GROUPS_ROOM(UTVPI_MOST_VARIABLES)];
 static uint32_t refutation[UTVPI_REFUTATION_ROOM(UTVPI_MOST_VARIABLES)];
-static int64_t work[UTVPI_WORK_ROOM(UTVPI_MOST_VARIABLES)];
 
 /* The list, the model and the refutation as the checkers take them. */
 static uint8_t list_bytes[20 * UTVPI_MOST_LINES];
@@ -95,17 +94,38 @@ static int answer_no(const struct list *list, bool in_numbers)
     return STATUS_NO;
 }
 
+/* How many numbers the work area needs for this list. One with too many variables
+ * is refused before its room is looked at. */
+static size_t work_room(const struct list *list)
+{
+    return UTVPI_WORK_ROOM(list->variables <= UTVPI_MOST_VARIABLES ? list->variables : 0);
+}
+
+static int short_of_memory(const struct list *list)
+{
+    fprintf(stderr,
+            "utvpi: %s: there is not enough memory to decide %" PRIu64 " events: %zu bytes are"
+            " needed.\n"
+            "  What to do: free memory, or decide parts that share no event one by one.\n",
+            list->file, list->variables, work_room(list) * sizeof(int64_t));
+    return STATUS_BAD;
+}
+
 /* Decides the list, which the library may refuse. An answer is given only to a
  * list within the limits of the buffers above. */
 static int answer(const struct list *list, bool in_numbers)
 {
+    int64_t *work = malloc(work_room(list) * sizeof *work);
+    if (work == NULL) {
+        return short_of_memory(list);
+    }
     int64_t result = utvpi_decide(
         list->variables, numbers_of(list), 5 * list->count,
         model, UTVPI_MODEL_ROOM(UTVPI_MOST_VARIABLES),
         bounds, UTVPI_BOUNDS_ROOM(UTVPI_MOST_VARIABLES),
         groups, UTVPI_GROUPS_ROOM(UTVPI_MOST_VARIABLES),
-        refutation, UTVPI_REFUTATION_ROOM(UTVPI_MOST_VARIABLES),
-        work, UTVPI_WORK_ROOM(UTVPI_MOST_VARIABLES));
+        refutation, UTVPI_REFUTATION_ROOM(UTVPI_MOST_VARIABLES), work, work_room(list));
+    free(work);
     if (UTVPI_IS_REFUSAL(result)) {
         print_refusal(list, list->file, result);
         return STATUS_BAD;

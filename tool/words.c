@@ -52,7 +52,8 @@ static bool next_name(struct parser *p)
     }
     take(p, NAME, length);
     return length <= MOST_NAME ||
-           fail(p, "is a name of more than 64 characters", "choose a shorter name");
+           fail(p, "is a name of more than " AS_TEXT(MOST_NAME) " characters",
+                "choose a shorter name");
 }
 
 static bool next_number(struct parser *p)

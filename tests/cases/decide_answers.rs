@@ -1,5 +1,5 @@
-//! Random lists, decided: small ones against a search through all values, ones
-//! up to the limits against another method, and pairs of which one begins with
+//! Random lists, decided: tiny ones against a search through all values, larger
+//! ones against another method, and pairs of which one begins with
 //! the other. Every refutation is fed to both checkers on the way.
 
 use std::thread;
@@ -7,6 +7,7 @@ use std::thread;
 use utvpi_tests::bytes::{self, Line};
 use utvpi_tests::chance::Chance;
 use utvpi_tests::decision::{decide, Decision, Reason, Solved, Verdict};
+use utvpi_tests::limits::SMALL_VARIABLES;
 use utvpi_tests::make_lists::{small, Shape};
 use utvpi_tests::second::{self, Answer};
 use utvpi_tests::{brute, closure};
@@ -159,7 +160,7 @@ fn large_lists_by_another_method() {
     let seen = in_two_threads(|thread| {
         let mut chance = Chance::new(30 + thread);
         let mut size = || {
-            let most = chance.pick(&[8, 16, 32, 64]);
+            let most = SMALL_VARIABLES as i64 / chance.pick(&[1, 2, 4, 8]);
             chance.between(1, most) as u64
         };
         let sizes: Vec<u64> = (0..800).map(|_| size()).collect();
@@ -169,10 +170,11 @@ fn large_lists_by_another_method() {
     seen.must_have(60, 10);
 }
 
-/// Lists of 64 variables.
+/// Lists of the most of these variables.
 #[test]
-fn largest_lists_by_another_method() {
-    let seen = in_two_threads(|thread| compare_large(50 + thread, &[64; 250]));
+fn larger_lists_by_another_method() {
+    let sizes = [SMALL_VARIABLES as u64; 250];
+    let seen = in_two_threads(|thread| compare_large(50 + thread, &sizes));
     assert!(seen.lists() >= 500);
     seen.must_have(20, 5);
 }
@@ -241,9 +243,10 @@ fn longer_lists_unlearn_nothing() {
         pairs += compare_beginnings(&mut chance, n, &lines, step);
     }
     for _ in 0..8 {
-        let lines = Shape::of(&mut chance, 64).list(&mut chance);
+        let n = SMALL_VARIABLES as u64;
+        let lines = Shape::of(&mut chance, n).list(&mut chance);
         let step = 1 + lines.len() / 3;
-        pairs += compare_beginnings(&mut chance, 64, &lines, step);
+        pairs += compare_beginnings(&mut chance, n, &lines, step);
     }
     println!("{pairs} pairs");
     assert!(pairs >= 20_000, "{pairs} pairs");

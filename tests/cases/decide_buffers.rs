@@ -11,12 +11,16 @@ use utvpi_tests::chance::Chance;
 use utvpi_tests::closure;
 use utvpi_tests::damage::{damaged_list, refused_lists};
 use utvpi_tests::decision::{decide, decide_in, Decision, Verdict};
+use utvpi_tests::limits::{MOST_N, SMALL_VARIABLES};
 use utvpi_tests::make_lists::{small, Shape};
 
-/// Some lists for these tests: most small, few at the limits.
+/// Some lists for these tests: most tiny, few larger.
 fn some_list(chance: &mut Chance) -> (u64, Vec<Line>) {
     match chance.below(200) {
-        0 => (64, Shape::of(chance, 64).list(chance)),
+        0 => {
+            let n = SMALL_VARIABLES as u64;
+            (n, Shape::of(chance, n).list(chance))
+        }
         1..=30 => {
             let n = chance.between(1, 12) as u64;
             (n, Shape::of(chance, n).list(chance))
@@ -31,7 +35,7 @@ fn some_list(chance: &mut Chance) -> (u64, Vec<Line>) {
 fn which_buffer_is_short() {
     let mut chance = Chance::new(70);
     let lists: [&[i32]; 3] = [&[], &[0, 0, 0, 0, -1], &[0, 0, 0, 0, 1]];
-    for n in [0, 1, 2, 5, 64] {
+    for n in [0, 1, 2, 5, MOST_N] {
         for short in 0..32 {
             let cut = |at: usize| usize::from(short >> at & 1 == 1);
             // A buffer of no numbers can't be shorter.
@@ -56,7 +60,7 @@ fn which_buffer_is_short() {
 #[test]
 fn empty_buffers() {
     let mut chance = Chance::new(71);
-    for n in [1, 3, 64] {
+    for n in [1, 3, MOST_N] {
         for at in 0..5 {
             let mut lengths = needed(n);
             lengths[at] = 0;
@@ -125,14 +129,14 @@ fn damaged_lists() {
 #[test]
 fn rubbish_does_not_count() {
     let mut chance = Chance::new(74);
-    let mut used = Buffers::new(&mut chance, needed(64));
+    let mut used = Buffers::new(&mut chance, needed(SMALL_VARIABLES as u64));
     for _ in 0..3_000 {
         let (n, lines) = some_list(&mut chance);
         let first = decide(&mut chance, n, &lines);
         for _ in 0..2 {
             assert_eq!(decide(&mut chance, n, &lines), first, "{n} {lines:?}");
         }
-        // Stale numbers of other lists, and room for 64 variables.
+        // Stale numbers of other lists, and room for the largest of them.
         let stale = decide_in(&mut used, n, &lines.concat());
         assert_eq!(stale, first, "{n} {lines:?}");
     }

@@ -5,7 +5,9 @@ use utvpi_tests::buffers::{needed, Buffers};
 use utvpi_tests::bytes::Line;
 use utvpi_tests::chance::Chance;
 use utvpi_tests::decision::{decide, decide_in, Decision, Reason, Solved, Verdict};
-use utvpi_tests::document::CASE_4;
+use utvpi_tests::document::{largest, CASE_4};
+use utvpi_tests::limits::SMALL_VARIABLES;
+use utvpi_tests::limits::{LARGEST_BOUND, LAST_VARIABLE, MOST_LINES, MOST_N, MOST_VARIABLES};
 use utvpi_tests::{brute, closure};
 
 /// The numbers that stand for no least and no greatest value.
@@ -17,7 +19,12 @@ fn decided(n: u64, lines: &[Line]) -> Decision {
     let mut chance = Chance::new(n + lines.len() as u64);
     let first = decide(&mut chance, n, lines);
     // Large lists may take long.
-    for _ in 0..if n > 8 { 2 } else { 20 } {
+    let again = match n as usize {
+        0..=8 => 20,
+        9..=SMALL_VARIABLES => 2,
+        _ => 0,
+    };
+    for _ in 0..again {
         assert_eq!(decide(&mut chance, n, lines), first);
     }
     first
@@ -52,7 +59,8 @@ fn case_1_nothing_asked_of_nothing() {
 #[test]
 fn case_2_nothing_asked() {
     yes(1, &[], &[0], &[NO_LEAST, NO_GREATEST], &[0]);
-    for n in 0..=64_u32 {
+    let small = 0..=SMALL_VARIABLES as u32;
+    for n in small.chain([MOST_VARIABLES as u32 - 1, MOST_VARIABLES as u32]) {
         let due = Solved {
             model: vec![0; n as usize],
             bounds: [NO_LEAST, NO_GREATEST].repeat(n as usize),
@@ -131,38 +139,31 @@ fn cases_9_and_10_halving_and_equal_variables() {
     yes(2, &equal, &[0, 0], &bounds, &[0, 0]);
 }
 
-/// 512 lines over 64 variables, all with the bound 1,000,000.
-fn largest() -> Vec<Line> {
-    (0..512)
-        .map(|at| [1, at % 64, 1, (at * 7 + at / 64) % 64, 1_000_000])
-        .collect()
-}
-
-/// What a list given as numbers is refused with, in buffers for 64 variables.
+/// What a list given as numbers is refused with, in buffers for the most variables.
 fn refused(n: u64, list: &[i32]) -> Verdict {
-    let mut buffers = Buffers::new(&mut Chance::new(n), needed(64));
+    let mut buffers = Buffers::new(&mut Chance::new(n), needed(MOST_N));
     decide_in(&mut buffers, n, list).verdict
 }
 
 #[test]
 fn case_11_the_limits() {
     let lines = largest();
-    let due = closure::verdict(64, &lines);
-    assert_eq!(decided(64, &lines).verdict, due);
-    assert_eq!(refused(64, &lines.concat()), due);
+    let due = closure::verdict(MOST_VARIABLES, &lines);
+    assert!(matches!(due, Verdict::Yes(_)));
+    assert_eq!(decided(MOST_N, &lines).verdict, due);
 
-    assert_eq!(refused(65, &lines.concat()), Verdict::Refused(1, 0));
+    assert_eq!(refused(MOST_N + 1, &lines.concat()), Verdict::Refused(1, 0));
     assert_eq!(refused(u64::MAX, &[]), Verdict::Refused(1, 0));
     assert_eq!(refused(1 << 32, &[]), Verdict::Refused(1, 0));
     let mut longer = lines.clone();
     longer.push(lines[0]);
-    assert_eq!(refused(64, &longer.concat()), Verdict::Refused(3, 0));
-    assert_eq!(refused(64, &[1, 0, 1, 0, 5, 1]), Verdict::Refused(2, 0));
-    for at in [0, 1, 300, 511] {
+    assert_eq!(refused(MOST_N, &longer.concat()), Verdict::Refused(3, 0));
+    assert_eq!(refused(MOST_N, &[1, 0, 1, 0, 5, 1]), Verdict::Refused(2, 0));
+    for at in [0, 1, MOST_LINES / 2, MOST_LINES - 1] {
         for bound in [1_000_001, -1_000_001, i32::MAX, i32::MIN] {
             let mut lines = lines.clone();
             lines[at][4] = bound;
-            assert_eq!(refused(64, &lines.concat()), Verdict::Refused(6, at));
+            assert_eq!(refused(MOST_N, &lines.concat()), Verdict::Refused(6, at));
         }
     }
 }
@@ -171,92 +172,109 @@ fn case_11_the_limits() {
 /// be: each variable at least 1,000,000 above the one before.
 #[test]
 fn case_11_the_largest_sums() {
-    let mut lines = vec![[-1, 0, 0, 0, -1_000_000]];
-    lines.extend((1..64).map(|x| [1, x - 1, -1, x, -1_000_000]));
-    let model: Vec<i64> = (1..=64).map(|x| 1_000_000 * x).collect();
+    let most = LARGEST_BOUND as i32;
+    let mut lines = vec![[-1, 0, 0, 0, -most]];
+    lines.extend((1..=LAST_VARIABLE).map(|x| [1, x - 1, -1, x, -most]));
+    let model: Vec<i64> = (1..=MOST_N as i64).map(|x| LARGEST_BOUND * x).collect();
     let due = Verdict::Yes(Solved {
         bounds: model
             .iter()
             .flat_map(|&least| [least, NO_GREATEST])
             .collect(),
         model,
-        groups: (0..64).collect(),
+        groups: (0..MOST_VARIABLES as u32).collect(),
     });
-    assert_eq!(decided(64, &lines).verdict, due);
     lines.reverse();
-    assert_eq!(decided(64, &lines).verdict, due);
+    assert_eq!(decided(MOST_N, &lines).verdict, due);
     // The last one at most 1,000,000 above the first.
-    lines.push([1, 63, -1, 0, 1_000_000]);
-    assert_eq!(decided(64, &lines).verdict, Verdict::No(Reason::ClosedWalk));
+    lines.push([1, LAST_VARIABLE, -1, 0, most]);
+    let verdict = decided(MOST_N, &lines).verdict;
+    assert_eq!(verdict, Verdict::No(Reason::ClosedWalk));
 }
 
-/// The lines as they are, turned round, and in some other order: which walks are
-/// found late depends on it.
-fn orders(lines: &[Line]) -> [Vec<Line>; 3] {
+/// The lines in some order, and of not too many variables as they are and turned
+/// round too: which walks are found late depends on it.
+fn orders(n: i32, lines: &[Line]) -> Vec<Vec<Line>> {
     let order = Chance::new(9).order(lines.len());
-    [
-        lines.to_vec(),
-        lines.iter().rev().copied().collect(),
-        order.iter().map(|&at| lines[at]).collect(),
-    ]
+    let mut orders = vec![order.iter().map(|&at| lines[at]).collect()];
+    if n as usize <= SMALL_VARIABLES {
+        orders.push(lines.to_vec());
+        orders.push(lines.iter().rev().copied().collect());
+    }
+    orders
 }
 
 /// Each variable at least one above the one before it, the first at least 1: the
-/// walk that says so of the last one passes all 128 points, as does the closed
-/// walk if the last one is to be below 64.
-#[test]
-fn the_longest_walks() {
+/// walk that says so of the last one passes all points, as does the closed walk if
+/// the last one is to be below n.
+fn longest_walks(n: i32) {
     let mut lines = vec![[-1, 0, 0, 0, -1]];
-    lines.extend((1..64).map(|x| [1, x - 1, -1, x, -1]));
-    lines.push([1, 63, 0, 0, 64]);
-    let model: Vec<i64> = (1..=64).collect();
+    lines.extend((1..n).map(|x| [1, x - 1, -1, x, -1]));
+    lines.push([1, n - 1, 0, 0, n]);
+    let model: Vec<i64> = (1..=i64::from(n)).collect();
     let due = Verdict::Yes(Solved {
         bounds: model.iter().flat_map(|&value| [value, value]).collect(),
         model,
-        groups: (0..64).collect(),
+        groups: (0..n as u32).collect(),
     });
-    for lines in orders(&lines) {
-        assert_eq!(decided(64, &lines).verdict, due);
+    for lines in orders(n, &lines) {
+        assert_eq!(decided(n as u64, &lines).verdict, due);
     }
-    lines[64][4] = 63;
-    for lines in orders(&lines) {
-        let decision = decided(64, &lines);
+    lines[n as usize][4] = n - 1;
+    for lines in orders(n, &lines) {
+        let decision = decided(n as u64, &lines);
         assert_eq!(decision.verdict, Verdict::No(Reason::ClosedWalk));
-        assert_eq!(decision.refutation[1], 128, "there is no shorter one");
+        let steps = decision.refutation[1];
+        assert_eq!(steps, 2 * n as u32, "there is no shorter one");
     }
 }
 
-/// All variables equal, and the last one 3 or, if halves counted, three and a
-/// half: from the first one's points there and back it is 254 steps.
 #[test]
-fn the_longest_halved_walks() {
-    let mut lines = vec![[1, 63, 1, 63, 7], [-1, 63, -1, 63, -6]];
-    for x in 1..64 {
+fn the_longest_walks() {
+    longest_walks(SMALL_VARIABLES as i32);
+    longest_walks(MOST_VARIABLES as i32);
+}
+
+/// All variables equal, and the last one 3 or, if halves counted, three and a
+/// half: from the first one's points there and back it is 4n - 2 steps.
+fn longest_halved_walks(n: i32) {
+    let last = n - 1;
+    let mut lines = vec![[1, last, 1, last, 7], [-1, last, -1, last, -6]];
+    for x in 1..n {
         lines.extend([[1, x - 1, -1, x, 0], [-1, x - 1, 1, x, 0]]);
     }
     let due = Verdict::Yes(Solved {
-        model: vec![3; 64],
-        bounds: vec![3; 128],
-        groups: vec![0; 64],
+        model: vec![3; n as usize],
+        bounds: vec![3; 2 * n as usize],
+        groups: vec![0; n as usize],
     });
-    for lines in orders(&lines) {
-        assert_eq!(decided(64, &lines).verdict, due);
+    for lines in orders(n, &lines) {
+        assert_eq!(decided(n as u64, &lines).verdict, due);
     }
     lines[1][4] = -7;
-    for lines in orders(&lines) {
-        let verdict = decided(64, &lines).verdict;
+    for lines in orders(n, &lines) {
+        let verdict = decided(n as u64, &lines).verdict;
         assert_eq!(verdict, Verdict::No(Reason::HalvedWalks));
     }
+}
+
+#[test]
+fn the_longest_halved_walks() {
+    longest_halved_walks(SMALL_VARIABLES as i32);
+    longest_halved_walks(MOST_VARIABLES as i32);
 }
 
 #[test]
 fn case_12_which_refusal() {
     for at in [1, 3] {
         let mut line = [1, 0, 1, 0, 5];
-        line[at] = 64;
-        assert_eq!(refused(64, &line), Verdict::Refused(5, 0));
-        line[at] = 63;
-        assert_eq!(refused(64, &line), closure::verdict(64, &[line]));
+        // The document's n, and the most.
+        for n in [64, MOST_VARIABLES] {
+            line[at] = n as i32;
+            assert_eq!(refused(n as u64, &line), Verdict::Refused(5, 0));
+            line[at] = n as i32 - 1;
+            assert_eq!(refused(n as u64, &line), closure::verdict(n, &[line]));
+        }
         line[at - 1] = 2;
         line[at] = 99;
         assert_eq!(refused(64, &line), Verdict::Refused(4, 0));

@@ -1,7 +1,8 @@
 //! The cases that the description of the library names, and its table of steps.
 
 use utvpi_tests::bytes::{self, Line};
-use utvpi_tests::document::CASE_4;
+use utvpi_tests::document::{largest, CASE_4};
+use utvpi_tests::limits::{MOST_LINES, MOST_N, MOST_NUMBERS, MOST_VARIABLES};
 use utvpi_tests::second::Answer::{self, No, Refused, Yes};
 
 fn model(n: u64, lines: &[Line], values: &[i64]) -> Answer {
@@ -14,7 +15,7 @@ fn refutation(n: u64, lines: &[Line], numbers: &[u32]) -> Answer {
 
 #[test]
 fn cases_1_and_2_nothing_asked() {
-    for n in 0..=64 {
+    for n in 0..=MOST_N {
         assert_eq!(model(n, &[], &vec![0; n as usize]), Yes);
         assert_eq!(refutation(n, &[], &[3, 1, 0, 0]), No(3));
         assert_eq!(refutation(n, &[], &[]), No(0));
@@ -101,28 +102,26 @@ fn cases_9_and_10_models() {
     assert_eq!(model(2, &equal, &[0, 1]), No(1));
 }
 
-/// 512 lines over 64 variables, all with the bound 1,000,000.
-fn largest() -> Vec<Line> {
-    (0..512)
-        .map(|at| [1, at % 64, 1, (at * 7 + at / 64) % 64, 1_000_000])
-        .collect()
-}
-
 #[test]
 fn case_11_the_largest_list() {
     let lines = largest();
-    assert_eq!(model(64, &lines, &[500_000; 64]), Yes);
-    assert_eq!(model(64, &lines, &[500_001; 64]), No(0));
-    assert_eq!(refutation(64, &lines, &[1, 1, 0, 0]), No(3));
+    assert_eq!(model(MOST_N, &lines, &[500_000; MOST_VARIABLES]), Yes);
+    assert_eq!(model(MOST_N, &lines, &[500_001; MOST_VARIABLES]), No(0));
+    assert_eq!(refutation(MOST_N, &lines, &[1, 1, 0, 0]), No(3));
     let mut refuted = lines.clone();
-    refuted[511] = [0, 0, 0, 0, -1_000_000];
-    assert_eq!(refutation(64, &refuted, &[3, 1, 0, 1022]), Yes);
-    assert_eq!(model(64, &refuted, &[500_000; 64]), No(511));
+    let last = MOST_LINES - 1;
+    refuted[last] = [0, 0, 0, 0, -1_000_000];
+    let step = 2 * last as u32;
+    assert_eq!(refutation(MOST_N, &refuted, &[3, 1, 0, step]), Yes);
+    assert_eq!(
+        model(MOST_N, &refuted, &[500_000; MOST_VARIABLES]),
+        No(last)
+    );
 }
 
 /// What both checkers answer to a list that they refuse.
 fn refused(n: u64, list: &[u8]) -> Answer {
-    let values = vec![0; n.min(100) as usize];
+    let values = vec![0; n.min(MOST_N + 1) as usize];
     let answer = utvpi_tests::model(n, list, &bytes::model(&values));
     assert_eq!(
         answer,
@@ -134,14 +133,14 @@ fn refused(n: u64, list: &[u8]) -> Answer {
 #[test]
 fn case_11_just_too_much() {
     let lines = largest();
-    assert_eq!(refused(65, &bytes::list(&lines)), Refused(1, 0));
+    assert_eq!(refused(MOST_N + 1, &bytes::list(&lines)), Refused(1, 0));
     let longer = [&lines[..], &[[0, 0, 0, 0, 0]]].concat();
-    assert_eq!(refused(64, &bytes::list(&longer)), Refused(3, 0));
-    for line in [0, 1, 255, 256, 511] {
+    assert_eq!(refused(MOST_N, &bytes::list(&longer)), Refused(3, 0));
+    for line in [0, 1, 255, 256, MOST_LINES - 1] {
         for d in [-1_000_001, 1_000_001, i32::MIN, i32::MAX] {
             let mut high = lines.clone();
             high[line][4] = d;
-            assert_eq!(refused(64, &bytes::list(&high)), Refused(6, line));
+            assert_eq!(refused(MOST_N, &bytes::list(&high)), Refused(6, line));
         }
     }
 }
@@ -155,7 +154,8 @@ fn case_11_a_broken_length() {
     for bytes in (0..200).filter(|bytes| bytes % 20 != 0) {
         assert_eq!(refused(1, &vec![0; bytes]), Refused(2, 0), "{bytes} bytes");
     }
-    for bytes in [10_239, 10_241, 10_259, 10_261, 1_000_001] {
+    let most = 4 * MOST_NUMBERS;
+    for bytes in [most - 1, most + 1, most + 19, most + 21, 1_000_001] {
         assert_eq!(refused(1, &vec![0; bytes]), Refused(2, 0), "{bytes} bytes");
     }
 }
@@ -163,27 +163,22 @@ fn case_11_a_broken_length() {
 #[test]
 fn case_12_variables_and_coefficients() {
     let list = |lines: &[Line]| bytes::list(lines);
-    // Variable 64 of 64, never taken as variable 0, and others with high bits.
-    for variable in [
-        64,
-        65,
-        128,
-        256,
-        1 << 16,
-        1 << 24,
-        1 << 30,
-        i32::MAX,
-        i32::MIN,
-        -1,
-        -64,
-    ] {
-        assert_eq!(refused(64, &list(&[[1, variable, 0, 0, 0]])), Refused(5, 0));
-        assert_eq!(refused(64, &list(&[[0, 0, 1, variable, 0]])), Refused(5, 0));
-        assert_eq!(
-            refused(64, &list(&[[-1, 0, -1, variable, 0]])),
-            Refused(5, 0)
-        );
-        assert_eq!(refused(64, &list(&[[0, variable, 1, 0, 0]])), Refused(5, 0));
+    // Variable n of n, never taken as variable 0, and others with high bits: for
+    // the document's n, and for the most.
+    for n in [64, MOST_VARIABLES as i32] {
+        for variable in [n, n + 1, 2 * n, 4 * n, 1 << 16, 1 << 24, 1 << 30, i32::MAX]
+            .into_iter()
+            .chain([i32::MIN, -1, -n])
+        {
+            for line in [
+                [1, variable, 0, 0, 0],
+                [0, 0, 1, variable, 0],
+                [-1, 0, -1, variable, 0],
+                [0, variable, 1, 0, 0],
+            ] {
+                assert_eq!(refused(n as u64, &list(&[line])), Refused(5, 0));
+            }
+        }
     }
     // A coefficient that is no coefficient, and a variable that is none.
     assert_eq!(refused(64, &list(&[[2, 99, 0, 0, 0]])), Refused(4, 0));

@@ -6,6 +6,7 @@ use utvpi_tests::bytes::Line;
 use utvpi_tests::chance::Chance;
 use utvpi_tests::damage::{damaged_list, refused_lists};
 use utvpi_tests::files::{read, write};
+use utvpi_tests::limits::{LAST_VARIABLE, MOST_FILE, MOST_LINES, MOST_N};
 use utvpi_tests::make;
 use utvpi_tests::records::{pack, packed, List, Refusal};
 
@@ -43,13 +44,13 @@ impl Times {
 
 /// A valid list: mostly short, at times as large as is let in.
 fn some_list(chance: &mut Chance) -> (u64, Vec<i32>) {
-    let (n, count) = match chance.below(200) {
-        0 => (64, 512),
+    let (n, count) = match chance.below(800) {
+        0 => (MOST_N, MOST_LINES),
         1..=3 => (
-            chance.pick(&[0, 1, 63, 64]),
-            chance.between(490, 512) as usize,
+            chance.pick(&[0, 1, MOST_N - 1, MOST_N]),
+            MOST_LINES - chance.below(23),
         ),
-        4..=19 => (make::variables(chance), chance.below(100)),
+        4..=79 => (make::variables(chance), chance.below(100)),
         _ => (make::variables(chance), chance.below(9)),
     };
     (n, make::lines(chance, n, count).concat())
@@ -88,6 +89,7 @@ fn the_file_of_the_description() {
 fn refusals_by_hand() {
     let mut chance = Chance::new(91);
     let n = |n: u32| packed(4, 1, &n.to_le_bytes());
+    let too_large = MOST_N as u32 + 1;
     let line = |line: Line| pack(0, &line)[1].clone();
     let good = || line([1, 0, -1, 1, 7]);
     let end = || packed(0, 3, &[]);
@@ -121,20 +123,26 @@ fn refusals_by_hand() {
         // The fourth line has no room, whatever stands behind it.
         (vec![n(2), good(), good(), good(), good(), end()], (25, 80)),
         (vec![n(2), good(), good(), good(), good(), n(2)], (25, 80)),
-        (vec![n(65), good(), good(), good(), line([9; 5])], (25, 80)),
+        (
+            vec![n(too_large), good(), good(), good(), line([9; 5])],
+            (25, 80),
+        ),
         (vec![n(2), good(), good(), good(), vec![20]], (20, 80)),
         (vec![n(2), good(), good(), good(), n(2)], (23, 80)),
         // A line's own faults come after those of all records.
         (vec![n(2), line([9; 5]), vec![0]], (20, 32)),
-        (vec![n(65), line([9; 5]), packed(0, 4, &[])], (21, 32)),
+        (
+            vec![n(too_large), line([9; 5]), packed(0, 4, &[])],
+            (21, 32),
+        ),
         // After the end.
         (vec![n(2), end(), vec![0]], (24, 12)),
-        (vec![n(65), line([9; 5]), end(), end()], (24, 36)),
+        (vec![n(too_large), line([9; 5]), end(), end()], (24, 36)),
         (vec![n(2), good(), end(), good(), good()], (24, 36)),
         // The list's own, where all else is right.
-        (vec![n(65), line([9; 5]), end()], (1, 0)),
+        (vec![n(too_large), line([9; 5]), end()], (1, 0)),
         (vec![n(1 << 31), end()], (1, 0)),
-        (vec![n(1 << 8), end()], (1, 0)),
+        (vec![n(1 << 16), end()], (1, 0)),
         (vec![n(u32::MAX), end()], (1, 0)),
         (
             vec![n(2), good(), line([2, 9, 0, 0, 1 << 30]), end()],
@@ -156,11 +164,11 @@ fn refusals_by_hand() {
     // A line that is out of place and has no room is out of place.
     assert_eq!(read(&mut chance, &AT_MOST_5[8..], 0), Err((23, 0)));
     // Lines beyond the limit: no room for one, or room for all.
-    for count in [512, 513, 3_000, 20_000] {
+    for count in [MOST_LINES, MOST_LINES + 1, 6 * MOST_LINES] {
         let lines = [1, 0, -1, 1, 7].repeat(count);
         let file = pack(2, &lines).concat();
         let many = read(&mut chance, &file, 5 * count).err();
-        assert_eq!(many, (count > 512).then_some((3, 0)));
+        assert_eq!(many, (count > MOST_LINES).then_some((3, 0)));
         let last = file.len() as u64 - 28;
         let short = read(&mut chance, &file, 5 * count - 1);
         assert_eq!(short, Err((25, last)));
@@ -168,7 +176,7 @@ fn refusals_by_hand() {
         assert_eq!(cut, Err((20, last)));
         let longer = read(&mut chance, &[&file[..], &[0]].concat(), 5 * count);
         assert_eq!(longer, Err((24, file.len() as u64)));
-        let too_many = read(&mut chance, &pack(65, &lines).concat(), 5 * count);
+        let too_many = read(&mut chance, &pack(too_large, &lines).concat(), 5 * count);
         assert_eq!(too_many, Err((1, 0)));
     }
 }
@@ -182,7 +190,7 @@ fn written_and_read_back() {
     for _ in 0..20_000 {
         let (n, numbers) = some_list(&mut chance);
         let lines = numbers.len() / 5;
-        largest += usize::from(n == 64 && lines == 512);
+        largest += usize::from(n == MOST_N && lines == MOST_LINES);
         let size = 12 + 24 * lines;
         let file = write(&mut chance, n, &numbers, size).unwrap();
         assert_eq!(file.len(), size);
@@ -206,8 +214,8 @@ fn written_and_read_back() {
             }
         }
     }
-    println!("{largest} with 64 variables and 512 lines");
-    assert!(largest >= 50);
+    println!("{largest} with the most variables and lines");
+    assert!(largest >= 10);
 }
 
 /// Small files with one byte changed, put in or left out in every way, cut at
@@ -218,10 +226,10 @@ fn every_small_damage() {
     let mut times = Times::default();
     let lists: [(u32, &[Line]); 8] = [
         (0, &[]),
-        (64, &[]),
+        (MOST_N as u32, &[]),
         (1, &[[1, 0, 0, 0, 5]]),
         (0, &[[0, 0, 0, 0, -1_000_000]]),
-        (64, &[[-1, 63, 1, 0, 1_000_000]]),
+        (MOST_N as u32, &[[-1, LAST_VARIABLE, 1, 0, 1_000_000]]),
         (2, &[[1, 0, -1, 1, 0], [0, 0, -1, 1, -3]]),
         (2, &[[1, 0, 0, 0, 300], [1, 1, 1, 1, -1]]),
         (
@@ -273,7 +281,7 @@ fn records_in_every_order() {
     let line = |line: Line| pack(0, &line).swap_remove(1);
     let records = [
         packed(4, 1, &[1, 0, 0, 0]),
-        packed(4, 1, &[65, 0, 0, 0]),
+        packed(4, 1, &(MOST_N as u32 + 1).to_le_bytes()),
         line([1, 0, 0, 0, 5]),
         line([1, 0, 0, 1, 5]),
         packed(0, 3, &[]),
@@ -409,7 +417,7 @@ fn files_damaged_at_random() {
 fn damaged_lists_written() {
     let mut chance = Chance::new(95);
     for (n, list, (number, place)) in refused_lists() {
-        for room in [0, 11, 12, 60, 20_000] {
+        for room in [0, 11, 12, 60, 2 * MOST_FILE] {
             let refused = write(&mut chance, n, &list, room);
             assert_eq!(refused, Err((number.into(), place as u64)), "{list:?}");
         }

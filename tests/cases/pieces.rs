@@ -7,13 +7,17 @@ use utvpi_tests::chance::Chance;
 use utvpi_tests::damage::{self, Input};
 use utvpi_tests::document::CASE_4;
 use utvpi_tests::library::{self, Progress};
+use utvpi_tests::limits::{LARGEST_BOUND, MOST_LINES, MOST_REFUTATION, MOST_VARIABLES};
 use utvpi_tests::make_cases::some_case;
 use utvpi_tests::second;
 use utvpi_tests::second::Answer::{self, No, Refused, Yes};
 use utvpi_tests::seen::Seen;
 
-/// The most numbers that a refutation may have.
-const MOST_NUMBERS: usize = 65_536;
+/// Many more numbers than a refutation may have.
+const TOO_MANY: usize = MOST_REFUTATION + MOST_REFUTATION / 16;
+
+/// The largest sum of so many steps: a line of one variable counts twice.
+const LARGEST_SUM: i64 = MOST_REFUTATION as i64 * 2 * LARGEST_BOUND;
 
 /// A state as it is stored while no checker runs: its numbers, eight bytes each,
 /// and one byte more.
@@ -193,7 +197,7 @@ fn random_pieces() {
         let mut inputs = some_case(&mut chance).inputs(&mut chance);
         if round % 25 == 0 {
             let mut long = inputs[chance.below(inputs.len())].clone();
-            let numbers = MOST_NUMBERS + chance.below(4) - 1;
+            let numbers = MOST_REFUTATION + chance.below(4) - 1;
             long.proposed.resize(4 * numbers, 0);
             inputs.push(long);
         }
@@ -277,8 +281,8 @@ fn answer_if_long(n: u64, list: &[i32], numbers: &[u32]) -> Answer {
     let every = |length: usize| (0..numbers.len()).step_by(length).collect();
     let ways: [Vec<usize>; 5] = [
         vec![],
-        vec![MOST_NUMBERS - 1, MOST_NUMBERS, MOST_NUMBERS + 1],
-        vec![MOST_NUMBERS, MOST_NUMBERS, 69_999],
+        vec![MOST_REFUTATION - 1, MOST_REFUTATION, MOST_REFUTATION + 1],
+        vec![MOST_REFUTATION, MOST_REFUTATION, TOO_MANY - 1],
         vec![0, 1, 2, 3, 4, numbers.len() - 1, numbers.len()],
         every(9_973),
     ];
@@ -302,12 +306,17 @@ fn of_length(p: usize, length: usize) -> Vec<u32> {
 }
 
 /// As many numbers as are let in, one less, one more and many more.
-const LENGTHS: [usize; 4] = [MOST_NUMBERS - 1, MOST_NUMBERS, MOST_NUMBERS + 1, 70_000];
+const LENGTHS: [usize; 4] = [
+    MOST_REFUTATION - 1,
+    MOST_REFUTATION,
+    MOST_REFUTATION + 1,
+    TOO_MANY,
+];
 
 /// The answer that is due on so many numbers, where it is this unless they are
 /// too many.
 fn unless_long(length: usize, answer: Answer) -> Answer {
-    if length > MOST_NUMBERS {
+    if length > MOST_REFUTATION {
         Refused(11, 0)
     } else {
         answer
@@ -328,8 +337,15 @@ fn lengths_of_one_walk() {
         }
         let list = [1, 0, -1, 0, -1];
         // Counts that are right where as many numbers are read as are let in.
-        let most = of_length(MOST_NUMBERS - 3, length);
-        let due = unless_long(length, if length == MOST_NUMBERS { Yes } else { No(2) });
+        let most = of_length(MOST_REFUTATION - 3, length);
+        let due = unless_long(
+            length,
+            if length == MOST_REFUTATION {
+                Yes
+            } else {
+                No(2)
+            },
+        );
         assert_eq!(answer_if_long(1, &list, &most), due, "{length}");
         // A step that is none, at either end and in the middle.
         for place in [3, length / 2, length - 1] {
@@ -358,7 +374,7 @@ fn lengths_of_two_walks() {
             let end = if steps % 2 == 0 { Yes } else { No(length - 1) };
             let due = unless_long(length, end);
             assert_eq!(answer_if_long(1, &list, &numbers), due, "{length}");
-            for p in [1, 32_767, steps - 2, steps - 1] {
+            for p in [1, MOST_REFUTATION / 2 - 1, steps - 2, steps - 1] {
                 numbers[..3].copy_from_slice(&[2, p as u32, (steps - p) as u32]);
                 let due = unless_long(length, if p % 2 == 1 { end } else { No(2 + p) });
                 assert_eq!(answer_if_long(1, &list, &numbers), due, "{length}, {p}");
@@ -374,7 +390,7 @@ fn list_refusals_go_first() {
     for (n, list, (number, place)) in damage::refused_lists() {
         let after_a_line = [&[1, 0, -1, 0, -1], &list[..]].concat();
         let shift = usize::from(number >= 4);
-        for length in [4, MOST_NUMBERS, MOST_NUMBERS + 1, 70_000] {
+        for length in [4, MOST_REFUTATION, MOST_REFUTATION + 1, TOO_MANY] {
             let numbers = of_length(length - 3, length);
             let alone = answer_if_long(n, &list, &numbers);
             assert_eq!(alone, Refused(number, place), "{list:?}");
@@ -390,12 +406,12 @@ fn wild_count(chance: &mut Chance) -> usize {
         0 => chance.next() as usize,
         1 => chance.below(8),
         _ => chance.pick(&[
-            127,
-            128,
-            65_533,
-            65_535,
-            65_536,
-            65_537,
+            2 * MOST_VARIABLES - 1,
+            2 * MOST_VARIABLES,
+            MOST_REFUTATION - 3,
+            MOST_REFUTATION - 1,
+            MOST_REFUTATION,
+            MOST_REFUTATION + 1,
             u32::MAX as usize,
             1 << 32,
             1 << 63,
@@ -405,8 +421,7 @@ fn wild_count(chance: &mut Chance) -> usize {
     }
 }
 
-/// The same for a sum. The largest of as many steps as are let in is
-/// 131,072,000,000.
+/// The same for a sum, and about the largest of as many steps as are let in.
 fn wild_sum(chance: &mut Chance) -> i64 {
     match chance.below(4) {
         0 => chance.next() as i64,
@@ -414,10 +429,10 @@ fn wild_sum(chance: &mut Chance) -> i64 {
         _ => chance.pick(&[
             i64::MIN,
             i64::MIN + 1,
-            -131_072_000_001,
-            -131_072_000_000,
-            131_072_000_000,
-            131_072_000_001,
+            -LARGEST_SUM - 1,
+            -LARGEST_SUM,
+            LARGEST_SUM,
+            LARGEST_SUM + 1,
             i64::MAX - 1,
             i64::MAX,
         ]),
@@ -450,7 +465,7 @@ fn made_wild(chance: &mut Chance, mut kept: Progress) -> Progress {
     if chance.one_in(3) {
         kept.kind = chance.pick(&[1, 2, 3]);
         if chance.one_in(2) {
-            (kept.p, kept.q) = (chance.below(MOST_NUMBERS - 2), 0);
+            (kept.p, kept.q) = (chance.below(MOST_REFUTATION - 2), 0);
         }
         kept.read = kept.p.wrapping_add(kept.q).wrapping_add(3);
         kept.here = kept.u;
@@ -466,7 +481,7 @@ fn made_wild(chance: &mut Chance, mut kept: Progress) -> Progress {
 fn take_all(mut kept: Progress, list: &[i32], numbers: &[u32]) -> Progress {
     for &number in numbers {
         let next = library::refutation_take(kept, list, number);
-        let due = kept.read.min(MOST_NUMBERS) + 1;
+        let due = kept.read.min(MOST_REFUTATION) + 1;
         assert_eq!(next.read, due, "{kept:?}, {number}");
         assert!(kept.good || !next.good, "{kept:?}, {number}");
         let turned = kept.good && !next.good && next.wrong == kept.read;
@@ -489,7 +504,7 @@ fn answer_to(kept: Progress, n: u64, list: &[i32]) -> Answer {
     let result = library::refutation_end(kept, n, list);
     let answer = match second::check_refutation(n, &bytes::numbers(list), &[]) {
         Refused(number, place) => Refused(number, place),
-        _ if kept.read > MOST_NUMBERS => Refused(11, 0),
+        _ if kept.read > MOST_REFUTATION => Refused(11, 0),
         _ if result == 0 => Yes,
         _ => No(usize::try_from(result - 1_000_000).unwrap_or(usize::MAX)),
     };
@@ -499,7 +514,7 @@ fn answer_to(kept: Progress, n: u64, list: &[i32]) -> Answer {
     let whole = steps.and_then(|steps| steps.checked_add(3)) == Some(kept.read);
     match answer {
         Yes => assert!(whole && kept.good, "{}", shown()),
-        No(0..=2) => assert!(kept.read <= MOST_NUMBERS, "{}", shown()),
+        No(0..=2) => assert!(kept.read <= MOST_REFUTATION, "{}", shown()),
         No(place) => {
             let last = kept.read.wrapping_sub(1);
             let due = if kept.good { last } else { kept.wrong };
@@ -538,10 +553,12 @@ fn any_state() {
             (n, list) = damage::damaged_list(&mut chance, n, &list);
         }
         let mut more = left.to_vec();
+        // The first step number that no list has.
+        let beyond = 2 * MOST_LINES as u32;
         for _ in 0..chance.pick(&[0, 0, 0, 0, 1, 4]) {
             more.push(match chance.below(3) {
                 0 => chance.next() as u32,
-                1 => chance.pick(&[1_022, 1_023, 1_024, 1 << 31, u32::MAX]),
+                1 => chance.pick(&[beyond - 2, beyond - 1, beyond, 1 << 31, u32::MAX]),
                 _ => chance.below(2 * case.lines.len() + 2) as u32,
             });
         }
@@ -561,7 +578,7 @@ fn any_state() {
         at_kept_place += usize::from(matches!(after, No(3..)));
 
         // The same with nothing wrong, and one place or another.
-        let [one, other] = [0, chance.below(wild.read.min(MOST_NUMBERS) + 1)].map(|wrong| {
+        let [one, other] = [0, chance.below(wild.read.min(MOST_REFUTATION) + 1)].map(|wrong| {
             let right = Progress {
                 good: true,
                 wrong,

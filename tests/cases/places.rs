@@ -6,11 +6,9 @@ use std::collections::BTreeMap;
 use utvpi_tests::bytes::{self, Line};
 use utvpi_tests::chance::Chance;
 use utvpi_tests::library;
+use utvpi_tests::limits::MOST_REFUTATION;
 use utvpi_tests::make;
 use utvpi_tests::second::{self, Answer, Fault};
-
-/// The most numbers that a refutation may have.
-const MOST_NUMBERS: usize = 65_536;
 
 /// Two variables, x and y. The steps are given with their weights.
 const LINES: [Line; 7] = [
@@ -192,8 +190,8 @@ fn some_right(chance: &mut Chance, long: usize) -> Refuted {
         if chance.one_in(long) && proposal.kind != 3 {
             // Round and round, as often as there is room.
             let round = [&proposal.second[..], &proposal.first].concat();
-            let room = MOST_NUMBERS - proposal.numbers().len();
-            let most = (room / round.len()).min(chance.pick(&[100, 1_000, MOST_NUMBERS]));
+            let room = MOST_REFUTATION - proposal.numbers().len();
+            let most = (room / round.len()).min(chance.pick(&[100, 1_000, MOST_REFUTATION]));
             proposal.first.extend(round.repeat(chance.below(most + 1)));
         }
         let numbers = proposal.numbers();
@@ -512,7 +510,7 @@ fn another_length() {
             let mut other = numbers.clone();
             let length = match chance.below(3) {
                 0 => 3 + chance.below(numbers.len() - 2),
-                _ => (numbers.len() + chance.between(1, 9) as usize).min(MOST_NUMBERS),
+                _ => (numbers.len() + chance.between(1, 9) as usize).min(MOST_REFUTATION),
             };
             other.resize_with(length, || chance.below(9) as u32);
             if length != numbers.len() {

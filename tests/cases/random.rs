@@ -9,6 +9,7 @@ use utvpi_tests::bytes;
 use utvpi_tests::chance::Chance;
 use utvpi_tests::damage::Input;
 use utvpi_tests::library::{self, Check};
+use utvpi_tests::limits::{MOST_LINES, MOST_REFUTATION};
 use utvpi_tests::make;
 use utvpi_tests::make_cases::{some_case, some_lines, some_values, Case};
 use utvpi_tests::second::{self, Answer};
@@ -29,7 +30,7 @@ fn models() {
             proposed: bytes::model(&values),
         };
         let answer = utvpi_tests::model(n, &right.list, &right.proposed);
-        assert_eq!(answer == Answer::Yes, count <= 512, "{answer:?}");
+        assert_eq!(answer == Answer::Yes, count <= MOST_LINES, "{answer:?}");
         seen.count(answer);
 
         // Another list with the same model, and another model of the same list.
@@ -61,8 +62,8 @@ fn refutations() {
         let mut inputs = case.inputs(&mut chance);
         if round % 50 == 0 {
             let mut long = inputs[0].clone();
-            long.proposed
-                .resize(chance.between(262_141, 262_149) as usize, 0);
+            let bytes = 4 * MOST_REFUTATION - 3 + chance.below(9);
+            long.proposed.resize(bytes, 0);
             inputs.push(long);
         }
         for Input { n, list, proposed } in inputs {

@@ -2,11 +2,12 @@
 //! given where several apply; and which line a model's no names.
 
 use utvpi_tests::bytes::{self, Line};
+use utvpi_tests::limits::{
+    LARGEST_VALUE, LAST_VARIABLE, MOST_LINES, MOST_N, MOST_REFUTATION, MOST_VARIABLES,
+};
 use utvpi_tests::make;
 use utvpi_tests::second::Answer::{self, No, Refused, Yes};
 use utvpi_tests::{model, refutation};
-
-const LARGEST_VALUE: i64 = 1_000_000_000_000;
 
 /// What is wrong with an input. The order here is the order in which the
 /// refusals are given, but that a line's faults go by line first.
@@ -51,23 +52,25 @@ const FAULTS: [Fault; 15] = [
     Coefficient(1),
     Variable(1),
     Bound(1),
-    Coefficient(511),
-    Bound(511),
+    Coefficient(MOST_LINES - 1),
+    Bound(MOST_LINES - 1),
     ModelLength,
     ModelValue(0),
-    ModelValue(63),
+    ModelValue(MOST_VARIABLES - 1),
     LongRefutation,
 ];
 
 /// Both checkers' answers to an input with just these faults.
 fn answers(faults: &[Fault]) -> [Answer; 2] {
     let has = |fault| faults.contains(&fault);
-    let mut lines: Vec<Line> = vec![[1, 63, -1, 0, 5]; if has(Lines) { 513 } else { 512 }];
-    let mut values = vec![LARGEST_VALUE; 64];
+    let more = |fault| usize::from(has(fault));
+    let line = [1, LAST_VARIABLE, -1, 0, 5];
+    let mut lines: Vec<Line> = vec![line; MOST_LINES + more(Lines)];
+    let mut values = vec![LARGEST_VALUE; MOST_VARIABLES];
     for fault in faults {
         match *fault {
             Coefficient(line) => lines[line][2] = 2,
-            Variable(line) => lines[line][1] = 99,
+            Variable(line) => lines[line][1] = 2 * LAST_VARIABLE,
             Bound(line) => lines[line][4] = -1_000_001,
             ModelValue(index) => values[index] = -LARGEST_VALUE - 1,
             _ => {}
@@ -80,8 +83,8 @@ fn answers(faults: &[Fault]) -> [Answer; 2] {
     if has(ListLength) {
         list.push(0);
     }
-    let n = if has(Variables) { 65 } else { 64 };
-    let numbers = if has(LongRefutation) { 65_537 } else { 65_536 };
+    let n = MOST_N + u64::from(has(Variables));
+    let numbers = MOST_REFUTATION + more(LongRefutation);
     [
         model(n, &list, &bytes::model(&values)),
         refutation(n, &list, &vec![0; 4 * numbers]),
@@ -120,12 +123,10 @@ fn the_first_of_several_refusals() {
 #[test]
 fn too_many_variables() {
     for n in [
-        65,
-        66,
-        127,
-        128,
-        255,
-        256,
+        MOST_N + 1,
+        MOST_N + 2,
+        2 * MOST_N - 1,
+        2 * MOST_N,
         1 << 16,
         1 << 31,
         1 << 32,
@@ -139,16 +140,16 @@ fn too_many_variables() {
             vec![0; 20],
             vec![],
             vec![0; 19],
-            vec![9; 20 * 513],
+            vec![9; 20 * (MOST_LINES + 1)],
             vec![255; 20],
         ] {
-            for bytes in [0, 8, 12, 8 * 65] {
+            for bytes in [0, 8, 12, 8 * (MOST_VARIABLES + 1)] {
                 assert_eq!(model(n, &list, &vec![0; bytes]), Refused(1, 0));
                 assert_eq!(refutation(n, &list, &vec![0; bytes]), Refused(1, 0));
             }
         }
     }
-    for n in 0..=64 {
+    for n in 0..=MOST_N {
         assert_eq!(model(n, &[], &vec![0; 8 * n as usize]), Yes);
         assert_eq!(refutation(n, &[], &[]), No(0));
     }
@@ -181,9 +182,12 @@ fn coefficients_and_variables() {
             assert_eq!(refutation(2, &list, &[]), Refused(4, 1));
         }
     }
-    // Every number of variables, with every variable's number about it.
-    for n in 0..=64 {
-        for variable in -1..=66 {
+    // Every number of variables, with variable numbers about both ends of its range.
+    for n in 0..=LAST_VARIABLE + 1 {
+        for variable in (-1..=2)
+            .chain(n - 2..=n + 2)
+            .chain([LAST_VARIABLE, 2 * LAST_VARIABLE])
+        {
             let there = variable >= 0 && variable < n;
             for sign in [-1, 1] {
                 for line in [[sign, variable, 0, 0, 0], [0, 0, sign, variable, 0]] {
@@ -227,7 +231,7 @@ fn bounds_at_their_limits() {
 
 #[test]
 fn the_length_of_a_model() {
-    for n in 0..=64 {
+    for n in 0..=MOST_N {
         let right = 8 * n as usize;
         for bytes in [
             0,
@@ -241,7 +245,7 @@ fn the_length_of_a_model() {
             right + 1,
             right + 8,
             2 * right,
-            4096,
+            16 * MOST_VARIABLES,
         ] {
             let expected = if bytes == right { Yes } else { Refused(9, 0) };
             assert_eq!(
@@ -258,9 +262,10 @@ fn the_length_of_a_model() {
 
 #[test]
 fn the_values_of_a_model() {
-    let line = bytes::list(&[[1, 0, -1, 63, 0]]);
+    let line = bytes::list(&[[1, 0, -1, LAST_VARIABLE, 0]]);
+    let model_of = |values: &[i64]| model(MOST_N, &line, &bytes::model(values));
     for value in [LARGEST_VALUE, -LARGEST_VALUE] {
-        assert_eq!(model(64, &line, &bytes::model(&[value; 64])), Yes);
+        assert_eq!(model_of(&[value; MOST_VARIABLES]), Yes);
     }
     for value in [
         LARGEST_VALUE + 1,
@@ -270,16 +275,16 @@ fn the_values_of_a_model() {
         1 << 40,
         1 << 62,
     ] {
-        for index in 0..64 {
-            let mut values = [0; 64];
+        for index in 0..MOST_VARIABLES {
+            let mut values = [0; MOST_VARIABLES];
             values[index] = value;
-            assert_eq!(model(64, &line, &bytes::model(&values)), Refused(10, index));
+            assert_eq!(model_of(&values), Refused(10, index));
             // The lowest index is given, whatever stands above it.
             values[index..].fill(value);
-            assert_eq!(model(64, &line, &bytes::model(&values)), Refused(10, index));
-            values[63] = -value.max(-i64::MAX);
+            assert_eq!(model_of(&values), Refused(10, index));
+            values[MOST_VARIABLES - 1] = -value.max(-i64::MAX);
             values[index] = value;
-            assert_eq!(model(64, &line, &bytes::model(&values)), Refused(10, index));
+            assert_eq!(model_of(&values), Refused(10, index));
         }
     }
 }
@@ -306,7 +311,8 @@ fn the_length_of_a_refutation() {
             "{bytes} bytes"
         );
     }
-    for bytes in [262_137, 262_140, 262_141, 262_142, 262_143, 262_144] {
+    let most = 4 * MOST_REFUTATION;
+    for bytes in [most - 7, most - 4, most - 3, most - 2, most - 1, most] {
         assert_eq!(
             refutation(0, &lines, &vec![0; bytes]),
             No(0),
@@ -318,15 +324,7 @@ fn the_length_of_a_refutation() {
             "{bytes} bytes"
         );
     }
-    for bytes in [
-        262_145,
-        262_146,
-        262_147,
-        262_148,
-        262_149,
-        300_000,
-        1 << 20,
-    ] {
+    for bytes in [most + 1, most + 2, most + 3, most + 4, most + 5, 2 * most] {
         assert_eq!(
             refutation(0, &lines, &vec![0; bytes]),
             Refused(11, 0),
@@ -347,8 +345,8 @@ fn the_length_of_a_refutation() {
 
 #[test]
 fn the_first_line_that_a_model_fails() {
-    for first in 0..512 {
-        let mut lines: Vec<Line> = vec![[1, 0, 1, 1, 0]; 512];
+    for first in (0..MOST_LINES).step_by(13).chain([MOST_LINES - 1]) {
+        let mut lines: Vec<Line> = vec![[1, 0, 1, 1, 0]; MOST_LINES];
         lines[first] = [0, 0, -1, 0, -1];
         assert_eq!(model(2, &bytes::list(&lines), &[0; 16]), No(first));
         lines[first..].fill([-1, 0, 1, 1, -1]);

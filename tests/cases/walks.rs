@@ -2,10 +2,11 @@
 //! accepted.
 
 use utvpi_tests::bytes::{self, Line};
+use utvpi_tests::limits::MOST_REFUTATION;
 use utvpi_tests::second::Answer::{self, No, Yes};
 
 /// As many steps as a refutation has room for.
-const MOST_STEPS: usize = 65_536 - 3;
+const MOST_STEPS: usize = MOST_REFUTATION - 3;
 
 fn refutation(n: u64, lines: &[Line], numbers: &[u32]) -> Answer {
     utvpi_tests::refutation(n, &bytes::list(lines), &bytes::refutation(numbers))
@@ -277,7 +278,16 @@ fn long_walks_of_the_largest_weights() {
         // x - x ≤ d: from x to x.
         let same = [[1, 0, -1, 0, sign * 1_000_000]];
         for steps in [
-            1, 2, 2147, 2148, 4294, 4295, 4296, 32_768, 65_532, MOST_STEPS,
+            1,
+            2,
+            2147,
+            2148,
+            4294,
+            4295,
+            4296,
+            MOST_STEPS / 2,
+            MOST_STEPS - 1,
+            MOST_STEPS,
         ] {
             assert_eq!(
                 kind_1(1, &same, &vec![0; steps]),
@@ -295,7 +305,16 @@ fn long_walks_of_the_largest_weights() {
             [0, 0, 1, 0, sign * 1_000_000],
             [-1, 0, 0, 0, sign * 1_000_000],
         ];
-        for rounds in [1, 536, 537, 1073, 1074, 1075, 16_384, 32_766] {
+        for rounds in [
+            1,
+            536,
+            537,
+            1073,
+            1074,
+            1075,
+            MOST_STEPS / 4,
+            MOST_STEPS / 2,
+        ] {
             let walk = [0, 2].repeat(rounds);
             let due = yes_if_low(2 * rounds, sign < 0);
             assert_eq!(kind_1(1, &lone, &walk), due, "{rounds}");
@@ -357,7 +376,8 @@ fn long_walks_of_kind_2() {
         ]
     };
     // Up in one walk as often as down in the other.
-    for rounds in [0, 1, 2, 2147, 2148, 4294, 4295, 32_764, 32_765] {
+    let most = MOST_STEPS / 2 - 1;
+    for rounds in [0, 1, 2, 2147, 2148, 4294, 4295, most - 1, most] {
         let up = vec![0; rounds];
         let down = vec![3; rounds];
         for s in -3..=3 {

@@ -7,8 +7,8 @@ use crate::library::{self, Lent};
 /// How many numbers lie before and behind what is lent.
 const GUARD: usize = 16;
 
-/// The lengths that n variables, at most 64, ask for: model, bounds, groups,
-/// refutation, work area.
+/// The lengths that n variables, at most MOST_VARIABLES, ask for: model, bounds,
+/// groups, refutation, work area.
 pub fn needed(n: u64) -> [usize; 5] {
     let n = n as usize;
     [n, 2 * n, n, 4 + 4 * n, 16 * n * n + 64 * n + 64]

@@ -1,6 +1,9 @@
 //! Damages input in all the ways in which a file or a program may get it wrong.
 
 use crate::chance::Chance;
+use crate::limits::{
+    LARGEST_BOUND, LARGEST_VALUE, LAST_VARIABLE, MOST_LINES, MOST_N, MOST_NUMBERS,
+};
 
 /// Numbers at which a wrong width or a wrong limit shows.
 const EXTREMES: [i64; 12] = [
@@ -12,11 +15,17 @@ const EXTREMES: [i64; 12] = [
     1 << 31,
     i64::MIN,
     i64::MAX,
-    -1_000_000_000_001,
-    -1_000_000_000_000,
-    1_000_000_000_000,
-    1_000_000_000_001,
+    -LARGEST_VALUE - 1,
+    -LARGEST_VALUE,
+    LARGEST_VALUE,
+    LARGEST_VALUE + 1,
 ];
+
+/// Bounds at the limits and just beyond.
+const BOUNDS: [i32; 4] = {
+    let largest = LARGEST_BOUND as i32;
+    [-largest - 1, -largest, largest, largest + 1]
+};
 
 /// What one call is given: the model or the refutation is `proposed`.
 #[derive(Clone)]
@@ -51,7 +60,7 @@ fn other_count(chance: &mut Chance, n: u64) -> u64 {
         0 => n.wrapping_add(1),
         1 => n.wrapping_sub(1),
         2 => n.wrapping_add(chance.pick(&[256, 1 << 32, 1 << 61, 1 << 63])),
-        _ => chance.pick(&[0, 64, 65, u64::MAX]),
+        _ => chance.pick(&[0, MOST_N, MOST_N + 1, u64::MAX]),
     }
 }
 
@@ -69,18 +78,19 @@ fn damage_list(chance: &mut Chance, list: &mut Vec<u8>) {
         2 => swap(list, at, 20 * chance.below(lines), 20),
         // As many copies of a line as are let in, or a few more.
         3 => {
-            let count = chance.between(511, 514) as usize;
+            let count = MOST_LINES - 1 + chance.below(4);
             *list = [&list[..], &line.repeat(count.saturating_sub(lines))].concat();
         }
         // A bound at the limits or just beyond.
         4 => {
-            let bound = chance.pick(&[-1_000_001, -1_000_000, 1_000_000, 1_000_001_i32]);
+            let bound = chance.pick(&BOUNDS);
             list[at + 16..at + 20].copy_from_slice(&bound.to_le_bytes());
         }
         // The number of a variable that is just not there, or of one beside 0.
         _ => {
             let place = at + chance.pick(&[4, 12]);
-            let variable = chance.pick(&[-1, 1, 63, 64, 65, 256, 65_536_i32]);
+            let last = LAST_VARIABLE;
+            let variable = chance.pick(&[-1, 1, last, last + 1, last + 2, 1 << 8, 1 << 16]);
             list[place..place + 4].copy_from_slice(&variable.to_le_bytes());
         }
     }
@@ -154,14 +164,15 @@ pub fn damaged_list(chance: &mut Chance, n: u64, list: &[i32]) -> (u64, Vec<i32>
 
 /// Cuts a list, adds to it, or makes it as long as is let in, or longer.
 fn damage_length(chance: &mut Chance, list: &mut Vec<i32>) {
-    match chance.below(6) {
-        0 => list.truncate(list.len().saturating_sub(chance.between(1, 6) as usize)),
-        1 => list.extend((0..chance.between(1, 6)).map(|at| at as i32 % 2)),
-        2 => drop(list.drain(..chance.below(list.len().min(6) + 1))),
-        3 => list.insert(chance.below(list.len() + 1), 0),
+    let most = MOST_NUMBERS;
+    match chance.below(10) {
+        0 | 1 => list.truncate(list.len().saturating_sub(chance.between(1, 6) as usize)),
+        2 | 3 => list.extend((0..chance.between(1, 6)).map(|at| at as i32 % 2)),
+        4 | 5 => drop(list.drain(..chance.below(list.len().min(6) + 1))),
+        6 | 7 => list.insert(chance.below(list.len() + 1), 0),
         // A length that is too long and broken is refused for being broken.
-        4 => list.resize(chance.pick(&[2_559, 2_561, 2_564, 2_566]), 0),
-        _ => list.resize(chance.pick(&[2_555, 2_560, 2_565, 5_120]), 0),
+        8 => list.resize(chance.pick(&[most - 1, most + 1, most + 4, most + 6]), 0),
+        _ => list.resize(chance.pick(&[most - 5, most, most + 5, 2 * most]), 0),
     }
 }
 
@@ -175,11 +186,11 @@ fn damage_number(chance: &mut Chance, n: u64, list: &mut [i32]) {
     let n = n as i32;
     match chance.below(9) {
         0 => list[coefficient] = chance.pick(&[2, -2, 3, 255, 257, 65_537, i32::MIN, i32::MAX]),
-        1 => list[variable] = chance.pick(&[n, n.wrapping_add(1), -1, 64, 99, 256, 65_536]),
+        1 => list[variable] = chance.pick(&[n, n.wrapping_add(1), -1, LAST_VARIABLE + 1, 1 << 16]),
         2 => list[variable] = chance.pick(&[i32::MIN, i32::MAX, 1 << 24, -1 << 16]),
         3 => list[coefficient] = 0,
         4 => (list[coefficient], list[variable]) = (0, chance.pick(&[1, -1, n, i32::MIN])),
-        5 => list[line + 4] = chance.pick(&[-1_000_001, -1_000_000, 1_000_000, 1_000_001]),
+        5 => list[line + 4] = chance.pick(&BOUNDS),
         6 => list[line + 4] = chance.pick(&[i32::MIN, i32::MAX, 1 << 30, -1 << 24]),
         7 => list[chance.below(5) + line] ^= 1 << chance.below(32),
         _ => list.swap(line + chance.below(5), chance.below(list.len())),
@@ -189,9 +200,9 @@ fn damage_number(chance: &mut Chance, n: u64, list: &mut [i32]) {
 /// Lists that are refused, each with its n, and the refusal's number and place.
 pub fn refused_lists() -> [(u64, Vec<i32>, (u8, usize)); 7] {
     [
-        (65, vec![0; 3], (1, 0)),
-        (64, vec![0; 2_566], (2, 0)),
-        (64, vec![0; 2_565], (3, 0)),
+        (MOST_N + 1, vec![0; 3], (1, 0)),
+        (MOST_N, vec![0; MOST_NUMBERS + 6], (2, 0)),
+        (MOST_N, vec![0; MOST_NUMBERS + 5], (3, 0)),
         (2, vec![0, 0, 0, 0, 0, 2, 9, 0, 0, 0], (4, 1)),
         (2, vec![1, 2, 0, 0, 1_000_001], (5, 0)),
         (2, vec![0, 0, 0, 1, 1_000_001], (5, 0)),

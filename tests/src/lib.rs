@@ -11,6 +11,7 @@ pub mod decision;
 pub mod document;
 pub mod files;
 pub mod library;
+pub mod limits;
 pub mod make;
 pub mod make_cases;
 pub mod make_lists;

@@ -3,8 +3,7 @@
 
 use crate::bytes::Line;
 use crate::chance::Chance;
-
-const LARGEST_BOUND: i64 = 1_000_000;
+use crate::limits::{LARGEST_BOUND, MOST_N, MOST_REFUTATION, MOST_VARIABLES};
 
 /// A point: a variable's number, and 1 for the variable or -1 for its negative.
 type Point = (i32, i32);
@@ -31,8 +30,8 @@ impl Proposal {
 /// A number of variables, often small.
 pub fn variables(chance: &mut Chance) -> u64 {
     match chance.below(8) {
-        0 => chance.below(65) as u64,
-        1 => chance.pick(&[0, 63, 64]),
+        0 => chance.below(MOST_VARIABLES + 1) as u64,
+        1 => chance.pick(&[0, MOST_N - 1, MOST_N]),
         _ => chance.between(1, 4) as u64,
     }
 }
@@ -355,7 +354,10 @@ pub fn miscount(chance: &mut Chance, proposal: &Proposal) -> Vec<u32> {
         5 => (numbers[1], numbers[2]) = (p.wrapping_add(1), q.wrapping_sub(1)),
         // The same count in all if the high bits of the sum are dropped.
         6 => (numbers[1], numbers[2]) = (p.wrapping_add(1 << 31), q.wrapping_add(1 << 31)),
-        7 => numbers[chance.pick(&[1, 2])] = chance.pick(&[u32::MAX, 1 << 31, 65_534, 1 << 16]),
+        7 => {
+            let most = MOST_REFUTATION as u32;
+            numbers[chance.pick(&[1, 2])] = chance.pick(&[u32::MAX, 1 << 31, most - 2, most]);
+        }
         _ => {
             let place = chance.pick(&[1, 2]);
             numbers[place] = numbers[place].wrapping_add(chance.pick(&[1, u32::MAX]));

@@ -4,15 +4,14 @@
 use crate::bytes::{self, Line};
 use crate::chance::Chance;
 use crate::damage::Input;
+use crate::limits::{LARGEST_VALUE, MOST_LINES};
 use crate::make::{self, Proposal};
 
-const LARGEST_VALUE: i64 = 1_000_000_000_000;
-
-/// A number of lines, mostly small.
+/// A number of lines, mostly small, seldom about as many as are let in.
 pub fn some_lines(chance: &mut Chance) -> usize {
-    match chance.below(64) {
-        0 => chance.between(500, 516) as usize,
-        1..=4 => chance.below(100),
+    match chance.below(512) {
+        0 => MOST_LINES - 12 + chance.below(17),
+        1..=39 => chance.below(100),
         _ => chance.below(9),
     }
 }
@@ -79,7 +78,7 @@ pub fn some_case(chance: &mut Chance) -> Case {
             }
         }
         4 | 5 => {
-            let count = some_lines(chance).min(512);
+            let count = some_lines(chance).min(MOST_LINES);
             let lines = make::lines(chance, n, count);
             let proposal = some_stroll(chance, &lines);
             Case {
@@ -91,7 +90,7 @@ pub fn some_case(chance: &mut Chance) -> Case {
         }
         _ => {
             let values = some_values(chance, n);
-            let count = some_lines(chance).min(512);
+            let count = some_lines(chance).min(MOST_LINES);
             let lines = make::lines_met_by(chance, &values, count);
             let proposal = some_stroll(chance, &lines);
             Case {

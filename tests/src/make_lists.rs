@@ -1,11 +1,10 @@
-//! Makes valid lists to decide: small ones with small bounds, and ones up to the
-//! limits that are solvable, just solvable, just not, or solvable by halves only.
+//! Makes valid lists to decide: tiny ones with small bounds, and ones of any size
+//! that are solvable, just solvable, just not, or solvable by halves only.
 
 use crate::bytes::Line;
 use crate::chance::Chance;
+use crate::limits::{LARGEST_BOUND, MOST_LINES, SMALL_LINES};
 use crate::make::left_side;
-
-const LARGEST_BOUND: i64 = 1_000_000;
 
 /// A line with both variables, at times with one, and the bound 0.
 fn line(chance: &mut Chance, n: u64) -> Line {
@@ -61,14 +60,15 @@ pub struct Shape {
 }
 
 impl Shape {
-    /// From few lines to as many as are let in, from small bounds to the largest.
+    /// From few lines to many, from small bounds to the largest.
     pub fn of(chance: &mut Chance, n: u64) -> Shape {
         let points = n as usize;
-        let counts = [points / 2, points, 2 * points, 4 * points, 8 * points, 512];
-        let count = chance.pick(&counts) + chance.below(4);
+        let counts = [1, 2, 4, 8, 16].map(|halves| halves * points / 2);
+        let most = SMALL_LINES;
+        let count = chance.pick(&[&counts[..], &[most]].concat()) + chance.below(4);
         Shape {
             n,
-            count: count.min(512),
+            count: count.min(most),
             largest: chance.pick(&[0, 1, 3, 20, 1_000, 30_000, LARGEST_BOUND]),
         }
     }
@@ -108,7 +108,7 @@ impl Shape {
 
     /// Lines that are met by values that are whole numbers divided by `divisor`,
     /// many of them with nothing to spare.
-    fn met(&self, chance: &mut Chance, divisor: i64) -> Vec<Line> {
+    pub fn met(&self, chance: &mut Chance, divisor: i64) -> Vec<Line> {
         let high = divisor * self.largest / 2;
         let values: Vec<i64> = (0..self.n).map(|_| chance.between(-high, high)).collect();
         let often = chance.between(1, 4) as usize;
@@ -198,7 +198,7 @@ impl Shape {
 
     /// These lines and others with high bounds, up to the count.
     fn with_others(&self, chance: &mut Chance, mut lines: Vec<Line>) -> Vec<Line> {
-        lines.truncate(512);
+        lines.truncate(MOST_LINES);
         while lines.len() < self.count {
             let mut line = line(chance, self.n);
             line[4] = chance.between(LARGEST_BOUND / 2, LARGEST_BOUND) as i32;

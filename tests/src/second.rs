@@ -3,11 +3,10 @@
 //! sharing nothing with the library. It reads the bytes into vectors first and
 //! then looks at them rule by rule.
 
-const MOST_VARIABLES: u64 = 64;
-const MOST_LINES: usize = 512;
-const LARGEST_BOUND: i32 = 1_000_000;
-const LARGEST_VALUE: i64 = 1_000_000_000_000;
-const MOST_REFUTATION_BYTES: usize = 4 * 65_536;
+use crate::buffers::needed;
+use crate::limits::{LARGEST_BOUND, LARGEST_VALUE, MOST_LINES, MOST_N, MOST_REFUTATION};
+
+const MOST_REFUTATION_BYTES: usize = 4 * MOST_REFUTATION;
 
 /// What a checker answers.
 #[derive(Clone, Copy, Debug, PartialEq, Eq)]
@@ -55,7 +54,7 @@ impl Line {
             Some(4)
         } else if !variable_ok(self.a, self.x) || !variable_ok(self.b, self.y) {
             Some(5)
-        } else if self.d < -LARGEST_BOUND || self.d > LARGEST_BOUND {
+        } else if i64::from(self.d).abs() > LARGEST_BOUND {
             Some(6)
         } else {
             None
@@ -131,7 +130,7 @@ struct Step {
 
 /// The list's lines, or what it is refused with.
 fn read_list(n: u64, list: &[u8]) -> Result<Vec<Line>, Answer> {
-    if n > MOST_VARIABLES {
+    if n > MOST_N {
         return Err(Answer::Refused(1, 0));
     }
     if list.len() % 20 != 0 {
@@ -246,13 +245,10 @@ pub fn decide_refusal(n: u64, list: &[i32], lengths: [usize; 5]) -> Option<Answe
     if let Some(refused) = list_refusal(n, list) {
         return Some(refused);
     }
-    let n = n as usize;
-    let outputs = [n, 2 * n, n, 4 + 4 * n];
-    if let Some(short) = (0..4).find(|&at| lengths[at] < outputs[at]) {
-        return Some(Answer::Refused(7, short + 1));
+    match (0..5).find(|&at| lengths[at] < needed(n)[at])? {
+        4 => Some(Answer::Refused(8, 0)),
+        output => Some(Answer::Refused(7, output + 1)),
     }
-    let work = 16 * n * n + 64 * n + 64;
-    (lengths[4] < work).then_some(Answer::Refused(8, 0))
 }
 
 /// The head's rules in their order, and then the steps.

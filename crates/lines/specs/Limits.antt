@@ -7,11 +7,11 @@ lineSize = 5
 
 -- the most variables
 abbrev pub maxVariables : ℕ
-maxVariables = 64
+maxVariables = 256
 
 -- the most lines
 abbrev pub maxLines : ℕ
-maxLines = 512
+maxLines = 4_096
 
 -- a line's d lies within plus and minus this
 abbrev pub maxConstant : ℕ

@@ -3,9 +3,9 @@
 // The numbers of one line: a, x, b, y, d.
 pub const LINE_SIZE: usize = 5;
 // The most variables.
-pub const MAX_VARIABLES: usize = 64;
+pub const MAX_VARIABLES: usize = 256;
 // The most lines.
-pub const MAX_LINES: usize = 512;
+pub const MAX_LINES: usize = 4_096;
 // A line's d lies within plus and minus this.
 pub const MAX_CONSTANT: i64 = 1_000_000;
 // A proposed model's values lie within plus and minus this.

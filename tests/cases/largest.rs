@@ -1,0 +1,173 @@
+//! Lists of the most variables and the most lines: decided and compared with
+//! another method, written to a file and read back, their refutations taken in
+//! pieces; and every call on one of them in a thread with little stack.
+
+use std::thread;
+
+use utvpi_tests::buffers::{needed, Buffers};
+use utvpi_tests::bytes::{self, Line};
+use utvpi_tests::chance::Chance;
+use utvpi_tests::closure;
+use utvpi_tests::decision::{decide, Decision, Reason, Solved, Verdict};
+use utvpi_tests::document::largest;
+use utvpi_tests::files::{read, write};
+use utvpi_tests::library;
+use utvpi_tests::limits::{LARGEST_BOUND, LAST_VARIABLE, MOST_FILE, MOST_LINES};
+use utvpi_tests::limits::{MOST_N, MOST_NUMBERS, MOST_STACK, MOST_VARIABLES};
+use utvpi_tests::make_lists::Shape;
+use utvpi_tests::records::List;
+
+/// The decision on a list of the most variables and lines, which both checkers
+/// have accepted, after making sure that another method answers the same, that
+/// the list comes back from its file, and that its refutation is accepted in
+/// pieces.
+fn decided(chance: &mut Chance, lines: &[Line]) -> Decision {
+    assert_eq!(lines.len(), MOST_LINES);
+    let numbers = lines.concat();
+    let file = write(chance, MOST_N, &numbers, MOST_FILE).unwrap();
+    assert_eq!(file.len(), MOST_FILE);
+    let list = read(chance, &file, MOST_NUMBERS).unwrap();
+    let decision = decide(chance, MOST_N, lines);
+    assert_eq!(decision.verdict, closure::verdict(MOST_VARIABLES, lines));
+    if let Verdict::No(_) = decision.verdict {
+        let take = |kept, &number: &u32| library::refutation_take(kept, &list.numbers, number);
+        let (first, last) = decision.refutation.split_at(decision.refutation.len() - 1);
+        let kept = first.iter().fold(library::refutation_begin(), take);
+        // Cut by its last step, it has fewer numbers than its counts ask for.
+        assert_eq!(
+            library::refutation_end(kept, MOST_N, &list.numbers),
+            1_000_002
+        );
+        let kept = last.iter().fold(kept, take);
+        assert_eq!(library::refutation_end(kept, MOST_N, &list.numbers), 0);
+    }
+    let n = MOST_N;
+    assert_eq!(list, List { n, numbers });
+    decision
+}
+
+/// Of each variable, 1 where its clock counts up and -1 where it counts down: two
+/// and two in turn, so that neighbours have all four pairs of signs.
+fn direction(x: i32) -> i32 {
+    [1, 1, -1, -1][x as usize % 4]
+}
+
+/// These lines and others that the values ±n to n meet with much to spare, up to
+/// the most, in some order.
+fn filled(chance: &mut Chance, mut lines: Vec<Line>) -> Vec<Line> {
+    while lines.len() < MOST_LINES {
+        let mut term = || [chance.pick(&[-1, 1]), chance.below(MOST_VARIABLES) as i32];
+        let [[a, x], [b, y]] = [term(), term()];
+        let bound = chance.between(LARGEST_BOUND / 2, LARGEST_BOUND) as i32;
+        lines.push([a, x, b, y, bound]);
+    }
+    let order = chance.order(lines.len());
+    order.iter().map(|&at| lines[at]).collect()
+}
+
+/// A chain through all variables, by the clocks: the first is at least 1, each is
+/// at least one above the one before it, and the last is at most this.
+fn chain(chance: &mut Chance, most: i32) -> Vec<Line> {
+    let mut lines = vec![[-direction(0), 0, 0, 0, -1]];
+    for x in 1..=LAST_VARIABLE {
+        lines.push([direction(x - 1), x - 1, -direction(x), x, -1]);
+    }
+    lines.push([0, 0, direction(LAST_VARIABLE), LAST_VARIABLE, most]);
+    filled(chance, lines)
+}
+
+#[test]
+fn a_chain_that_holds() {
+    let mut chance = Chance::new(110);
+    let lines = chain(&mut chance, LAST_VARIABLE + 1);
+    let values = (0..=LAST_VARIABLE).map(|x| i64::from(direction(x) * (x + 1)));
+    let due = Solved {
+        model: values.clone().collect(),
+        bounds: values.flat_map(|value| [value, value]).collect(),
+        groups: (0..MOST_VARIABLES as u32).collect(),
+    };
+    assert_eq!(decided(&mut chance, &lines).verdict, Verdict::Yes(due));
+}
+
+#[test]
+fn a_chain_that_does_not() {
+    let mut chance = Chance::new(111);
+    let lines = chain(&mut chance, LAST_VARIABLE);
+    let decision = decided(&mut chance, &lines);
+    assert_eq!(decision.verdict, Verdict::No(Reason::ClosedWalk));
+    let points = 2 * MOST_VARIABLES as u32;
+    assert_eq!(decision.refutation[1], points, "there is no shorter one");
+}
+
+/// All variables equal but for their signs, and the last one three and a half.
+#[test]
+fn only_halves_would_do() {
+    let mut chance = Chance::new(112);
+    let last = LAST_VARIABLE;
+    let mut lines = vec![[1, last, 1, last, 7], [-1, last, -1, last, -7]];
+    for x in 1..=last {
+        let (a, b) = (direction(x - 1), direction(x));
+        lines.push([a, x - 1, -b, x, 0]);
+        lines.push([-a, x - 1, b, x, 0]);
+    }
+    let lines = filled(&mut chance, lines);
+    let verdict = decided(&mut chance, &lines).verdict;
+    assert_eq!(verdict, Verdict::No(Reason::HalvedWalks));
+}
+
+/// Sums and differences that some values meet, many with nothing to spare; and the
+/// same with one line more, that a variable is above its greatest value.
+#[test]
+fn random_lists() {
+    let mut chance = Chance::new(113);
+    let shape = Shape {
+        n: MOST_N,
+        count: MOST_LINES - 1,
+        largest: LARGEST_BOUND,
+    };
+    let mut lines = shape.met(&mut chance, 1);
+    lines.push([0; 5]);
+    let Verdict::Yes(solved) = decided(&mut chance, &lines).verdict else {
+        panic!("values meet the list, but it is a no");
+    };
+    let near = |x: &usize| solved.bounds[2 * x + 1].abs() < LARGEST_BOUND;
+    let x = (0..MOST_VARIABLES).find(near).unwrap();
+    let greatest = solved.bounds[2 * x + 1] as i32;
+    lines[MOST_LINES - 1] = [0, 0, -1, x as i32, -greatest - 1];
+    let verdict = decided(&mut chance, &lines).verdict;
+    assert!(matches!(verdict, Verdict::No(_)), "{verdict:?}");
+}
+
+/// What a thread itself takes of its stack, beside the calls.
+const OWN_STACK: usize = 16 * 1024;
+
+/// Every call on the largest list, in a thread that has no more stack than the
+/// header asks for: a call that takes more ends the whole test.
+#[test]
+fn little_stack() {
+    let lines = largest();
+    let (numbers, packed) = (lines.concat(), bytes::list(&lines));
+    let values = bytes::model(&[0; MOST_VARIABLES]);
+    let proposed = bytes::refutation(&[1, 1, 0, 0]);
+    let mut file = vec![0; MOST_FILE];
+    let mut again = vec![0; MOST_NUMBERS];
+    let mut buffers = Buffers::new(&mut Chance::new(114), needed(MOST_N));
+    let calls = thread::Builder::new().stack_size(MOST_STACK + OWN_STACK);
+    let results = thread::scope(|scope| {
+        let calls = calls.spawn_scoped(scope, || {
+            let kept = library::refutation_take(library::refutation_begin(), &numbers, 1);
+            [
+                library::check_model(MOST_N, &packed, &values),
+                library::check_refutation(MOST_N, &packed, &proposed),
+                library::refutation_end(kept, MOST_N, &numbers),
+                library::write_list(MOST_N, &numbers, &mut file).bytes as i64,
+                library::read_list(&file, &mut again).lines as i64,
+                buffers.call(MOST_N, &numbers),
+            ]
+        });
+        calls.unwrap().join().unwrap()
+    });
+    let (size, count) = (MOST_FILE as i64, MOST_LINES as i64);
+    assert_eq!(results, [0, 1_000_003, 1_000_000, size, count, 0]);
+    assert_eq!(again, numbers);
+}

@@ -1,0 +1,27 @@
+//! The library's limits, as its header has them, and what follows from them.
+
+// MOST_VARIABLES, MOST_LINES and MOST_REFUTATION, which build.rs reads.
+include!(concat!(env!("OUT_DIR"), "/limits.rs"));
+
+/// The most variables, as n is given, and the number of the last of them.
+pub const MOST_N: u64 = MOST_VARIABLES as u64;
+pub const LAST_VARIABLE: i32 = MOST_VARIABLES as i32 - 1;
+
+/// The numbers of the longest list, and the bytes of its file.
+pub const MOST_NUMBERS: usize = 5 * MOST_LINES;
+pub const MOST_FILE: usize = 12 + 24 * MOST_LINES;
+
+/// A line's bound lies within plus and minus the one, a model's value within the
+/// other.
+pub const LARGEST_BOUND: i64 = 1_000_000;
+pub const LARGEST_VALUE: i64 = 1_000_000_000_000;
+
+/// The most stack that a call takes, by the header's formula.
+pub const MOST_STACK: usize = 20 * MOST_LINES + 8 * MOST_VARIABLES + 4096;
+
+/// Where many lists are decided they are no larger than this, as deciding one of
+/// the largest takes as long as deciding thousands of these. `cases/largest.rs`
+/// decides the largest.
+pub const SMALL_VARIABLES: usize = 64;
+pub const SMALL_LINES: usize = 512;
+const _: () = assert!(SMALL_VARIABLES <= MOST_VARIABLES && SMALL_LINES <= MOST_LINES);
