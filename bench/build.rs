@@ -1,14 +1,30 @@
-//! Tells the linker where the static library is: in the folder named by
-//! UTVPI_LIB_DIR, or else in the repository's target/staticlib.
+//! Tells the linker where the static library is, in the folder named by
+//! UTVPI_LIB_DIR or else in the repository's target/staticlib, and the benchmark
+//! the limits of a list, from the header.
 
 use std::env;
+use std::fs;
 use std::path::{Path, PathBuf};
 
 fn main() {
+    let root = Path::new(&env::var_os("CARGO_MANIFEST_DIR").unwrap()).join("..");
+    link(&root);
+    let header = root.join("include/utvpi.h");
+    println!("cargo:rerun-if-changed={}", header.display());
+    let text = fs::read_to_string(&header)
+        .unwrap_or_else(|why| panic!("{} can't be read: {why}", header.display()));
+    for name in ["UTVPI_MOST_VARIABLES", "UTVPI_MOST_LINES"] {
+        let number = defined(&text, name)
+            .unwrap_or_else(|| panic!("{} defines no number {name}", header.display()));
+        println!("cargo:rustc-env={name}={number}");
+    }
+}
+
+fn link(root: &Path) {
     println!("cargo:rerun-if-env-changed=UTVPI_LIB_DIR");
     let folder = match env::var_os("UTVPI_LIB_DIR") {
         Some(folder) => PathBuf::from(folder),
-        None => Path::new(&env::var_os("CARGO_MANIFEST_DIR").unwrap()).join("../target/staticlib"),
+        None => root.join("target/staticlib"),
     };
     let archive = folder.join("libc_interface.a");
     // A new archive is linked anew.
@@ -20,4 +36,15 @@ fn main() {
     );
     println!("cargo:rustc-link-search=native={}", folder.display());
     println!("cargo:rustc-link-lib=static=c_interface");
+}
+
+/// The number that a line `#define NAME NUMBER` of a header gives.
+fn defined(header: &str, name: &str) -> Option<usize> {
+    header.lines().find_map(|line| {
+        let words: Vec<&str> = line.split_whitespace().collect();
+        match words[..] {
+            ["#define", found, number] if found == name => number.parse().ok(),
+            _ => None,
+        }
+    })
 }

@@ -1,19 +1,27 @@
 //! From least sums to an answer: what every way to find the sums does at its end.
 
+use crate::in_place;
 use crate::steps::{false_line, steps, Outputs, Step, NONE};
 
-/// Finds the least sums between all points and each walk's last step, or a point
-/// near a closed walk of negative sum, with the last steps of one row.
+/// Finds the least sums between all points, or a point near a closed walk of
+/// negative sum, with the last steps of one row.
 pub type Sums = fn(&[Step], usize, &mut [i64], &mut [i64]) -> Result<(), usize>;
 
+/// A way to find the sums.
+pub struct Method {
+    pub sums: Sums,
+    /// Each walk's last step is found with them.
+    pub keeps_last: bool,
+}
+
 /// Decides a valid list: 0 for yes, 1,000,000 for no.
-pub fn decide(n: usize, list: &[i32], sums: Sums, out: &mut Outputs) -> i64 {
+pub fn decide(n: usize, list: &[i32], method: &Method, out: &mut Outputs) -> i64 {
     let yes = match false_line(list) {
         Some(line) => {
             out.refutation[..4].copy_from_slice(&[3, 1, 0, 2 * line as u32]);
             false
         }
-        None => solve(2 * n, &steps(list), sums, out),
+        None => solve(2 * n, &steps(list), method, out),
     };
     out.work[..16 * n * n + 64 * n + 64].fill(0);
     if yes {
@@ -24,15 +32,23 @@ pub fn decide(n: usize, list: &[i32], sums: Sums, out: &mut Outputs) -> i64 {
 }
 
 /// Writes all of the answer where no line is false, and says whether it is a yes.
-fn solve(points: usize, steps: &[Step], sums: Sums, out: &mut Outputs) -> bool {
+fn solve(points: usize, steps: &[Step], method: &Method, out: &mut Outputs) -> bool {
     let (least, rest) = out.work.split_at_mut(points * points);
     let (last, rest) = rest.split_at_mut(points * points);
     let half = &mut rest[..points];
-    if let Err(near) = sums(steps, points, least, last) {
+    if let Err(near) = (method.sums)(steps, points, least, last) {
         closed_walk(steps, points, last, near, &mut out.refutation);
         return false;
     }
     if let Some(point) = halve(points, least, half) {
+        if !method.keeps_last {
+            // Both rows are made again.
+            for from in [point, point ^ 1] {
+                let part = from * points..(from + 1) * points;
+                in_place::row(steps, from, &mut least[part.clone()], &mut last[part])
+                    .expect("no closed walk has a negative sum");
+            }
+        }
         halved_walks(steps, points, last, point, &mut out.refutation);
         return false;
     }

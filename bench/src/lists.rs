@@ -25,18 +25,16 @@ impl Chance {
     }
 }
 
-/// The lowest and the highest bound of a sparse list: with these about half of
-/// the lists of 64 variables and four lines for each are solvable.
-const LOWEST: i32 = -160;
+/// The highest bound of a sparse list.
 const HIGHEST: i32 = 1_000;
 
-/// Four lines for each variable: it and another one, either sign, any bound of
-/// the range.
-pub fn sparse(chance: &mut Chance, n: usize) -> Vec<i32> {
+/// Four lines for each variable: it and another one, either sign, any bound from
+/// the lowest to the highest.
+pub fn sparse(chance: &mut Chance, n: usize, lowest: i32) -> Vec<i32> {
     let mut list = Vec::new();
     for x in (0..n).flat_map(|x| [x; 4]) {
         let other = (x + 1 + chance.below(n - 1)) % n;
-        let bound = chance.between(LOWEST, HIGHEST);
+        let bound = chance.between(lowest, HIGHEST);
         list.extend([chance.sign(), x as i32, chance.sign(), other as i32, bound]);
     }
     list
@@ -51,12 +49,13 @@ pub enum Order {
     Mixed,
 }
 
-/// 512 lines over 64 variables: a chain from the first variable through all and
-/// back through their negatives, among lines that never count in the end but
-/// must be looked at in each round.
-pub fn chain(order: Order) -> Vec<i32> {
-    let mut chain: Vec<[i32; 5]> = (0..63).map(|x| [1, x, -1, x + 1, -1]).collect();
-    chain.push([1, 63, 0, 0, 64]);
+/// So many lines over n variables, at least as many: a chain from the first
+/// variable through all and back through their negatives, among lines that never
+/// count in the end but must be looked at in each round.
+pub fn chain(n: usize, lines: usize, order: Order) -> Vec<i32> {
+    let last = n as i32 - 1;
+    let mut chain: Vec<[i32; 5]> = (0..last).map(|x| [1, x, -1, x + 1, -1]).collect();
+    chain.push([1, last, 0, 0, n as i32]);
     chain = match order {
         Order::Forward => chain,
         Order::Backward => chain.into_iter().rev().collect(),
@@ -65,15 +64,17 @@ pub fn chain(order: Order) -> Vec<i32> {
             part(0).chain(part(1)).collect()
         }
     };
+    let gap = lines / n;
     let mut chance = Chance(5);
-    let mut lines: Vec<[i32; 5]> = Vec::new();
-    for at in 0..512 {
-        if at % 8 == 0 {
-            lines.push(chain[at / 8]);
-        } else {
-            let (x, y) = (chance.below(64) as i32, chance.below(64) as i32);
-            lines.push([chance.sign(), x, chance.sign(), y, 1_000_000]);
+    let mut list = Vec::new();
+    for at in 0..lines {
+        match chain.get(at / gap) {
+            Some(link) if at % gap == 0 => list.extend(link),
+            _ => {
+                let (x, y) = (chance.below(n) as i32, chance.below(n) as i32);
+                list.extend([chance.sign(), x, chance.sign(), y, 1_000_000]);
+            }
         }
     }
-    lines.concat()
+    list
 }

@@ -1,138 +1,132 @@
-//! Times deciding: the library, the same method in plain Rust, and three nested
-//! loops in plain Rust, on the same lists, in one run. All three write all
-//! outputs and clear the work area. Ratios are of the library to the others.
+//! Times deciding: the library and three ways in plain Rust, on the same lists, in
+//! one run. All of them write all outputs and clear the work area, and each answer
+//! is compared. Ratios are of the library to the others.
 
 mod finish;
+mod in_place;
 mod lists;
-mod rounds;
+mod report;
 mod steps;
+mod table;
 mod triple;
+mod ways;
 
-use std::hint::black_box;
-use std::time::{Duration, Instant};
+use std::env;
+use std::process::exit;
 
 use lists::{chain, sparse, Chance, Order};
-use steps::Outputs;
+use report::Multiples;
+use ways::times;
 
-const N: usize = 64;
-const LISTS: usize = 100;
-const REPEATS: usize = 3;
-
-extern "C" {
-    fn utvpi_decide(
-        n: u64,
-        list: *const i32,
-        list_len: usize,
-        model: *mut i64,
-        model_len: usize,
-        bounds: *mut i64,
-        bounds_len: usize,
-        groups: *mut u32,
-        groups_len: usize,
-        refutation: *mut u32,
-        refutation_len: usize,
-        work: *mut i64,
-        work_len: usize,
-    ) -> i64;
+/// What is timed at one number of variables.
+struct Size {
+    n: usize,
+    /// The sparse lists, and the lowest bound in them.
+    lists: usize,
+    lowest: i32,
+    /// The lines of the chain.
+    lines: usize,
+    repeats: usize,
 }
 
-type Decide = fn(&[i32], &mut Outputs) -> i64;
+/// The limits of the library's first versions, kept to compare over time.
+const SMALL: Size = Size {
+    n: 64,
+    lists: 100,
+    lowest: SMALL_LOWEST,
+    lines: 512,
+    repeats: 3,
+};
 
-const WAYS: [(&str, Decide); 3] = [
-    ("the library", library),
-    ("plain Rust, the same method", same_method),
-    ("plain Rust, three nested loops", nested_loops),
-];
+/// The limits of today.
+const LARGE: Size = Size {
+    n: limit(env!("UTVPI_MOST_VARIABLES")),
+    lists: 16,
+    lowest: LARGE_LOWEST,
+    lines: limit(env!("UTVPI_MOST_LINES")),
+    repeats: 2,
+};
 
-fn library(list: &[i32], out: &mut Outputs) -> i64 {
-    // The function stays within the lengths and keeps no pointer.
-    unsafe {
-        utvpi_decide(
-            N as u64,
-            list.as_ptr(),
-            list.len(),
-            out.model.as_mut_ptr(),
-            out.model.len(),
-            out.bounds.as_mut_ptr(),
-            out.bounds.len(),
-            out.groups.as_mut_ptr(),
-            out.groups.len(),
-            out.refutation.as_mut_ptr(),
-            out.refutation.len(),
-            out.work.as_mut_ptr(),
-            out.work.len(),
-        )
+/// With these about half of the sparse lists can hold. They were found by counting
+/// those that can, of some hundred lists, at lowest bounds ten apart: 199 of 400 at
+/// -160 with 64 variables; 88 of 200 at -140 and 109 at -130 with 256.
+const SMALL_LOWEST: i32 = -160;
+const LARGE_LOWEST: i32 = -135;
+
+const fn limit(digits: &str) -> usize {
+    match usize::from_str_radix(digits, 10) {
+        Ok(number) => number,
+        Err(_) => panic!("a limit is no number"),
     }
 }
 
-fn same_method(list: &[i32], out: &mut Outputs) -> i64 {
-    finish::decide(N, list, rounds::sums, out)
-}
+type Rows = Vec<(String, Multiples)>;
 
-fn nested_loops(list: &[i32], out: &mut Outputs) -> i64 {
-    finish::decide(N, list, triple::sums, out)
-}
-
-/// What must be the same from all three.
-fn answer(decide: Decide, list: &[i32]) -> (i64, Vec<i64>, Vec<i64>, Vec<u32>, u32) {
-    let mut out = Outputs::new(N);
-    let result = decide(list, &mut out);
-    assert!(out.work.iter().all(|&number| number == 0));
-    (result, out.model, out.bounds, out.groups, out.refutation[0])
-}
-
-/// The time of each way for a list: the best of some repeats, taken in turn, so
-/// that what disturbs the machine counts little.
-fn times(list: &[i32]) -> [Duration; 3] {
-    let due = answer(WAYS[0].1, list);
-    for (name, decide) in &WAYS[1..] {
-        assert!(answer(*decide, list) == due, "{name} answers otherwise");
+/// Times sparse lists, at most so many.
+fn time_sparse(size: &Size, most: usize, rows: &mut Rows) {
+    let (n, count) = (size.n, size.lists.min(most));
+    let mut chance = Chance(1);
+    let (mut yes, mut no) = (Vec::new(), Vec::new());
+    for _ in 0..count {
+        let list = sparse(&mut chance, n, size.lowest);
+        let (holds, times) = times(n, &list, size.repeats);
+        if holds { &mut yes } else { &mut no }.push(times);
     }
-    let mut best = [Duration::MAX; 3];
-    let mut out = Outputs::new(N);
-    for _ in 0..REPEATS {
-        for (way, (_, decide)) in WAYS.iter().enumerate() {
-            let began = Instant::now();
-            black_box(decide(black_box(list), black_box(&mut out)));
-            best[way] = best[way].min(began.elapsed());
+    println!(
+        "{count} sparse lists, {n} variables, four lines each: {} can hold",
+        yes.len()
+    );
+    let all = [yes.clone(), no.clone()].concat();
+    for (which, lists) in [
+        ("all", all),
+        ("those that can hold", yes),
+        ("those that can't", no),
+    ] {
+        if !lists.is_empty() {
+            let which = format!("{which} ({})", lists.len());
+            report::print(&which, &lists);
+            let name = format!("{n} variables, sparse, {which}");
+            rows.push((name, report::together(&lists)));
         }
     }
-    best
+    println!();
 }
 
-fn print(what: &str, lists: &[[Duration; 3]]) {
-    println!("{what}");
-    let sums = [0, 1, 2].map(|way| {
-        lists
-            .iter()
-            .map(|times| times[way].as_secs_f64())
-            .sum::<f64>()
+/// Times the chain in each order.
+fn time_chain(size: &Size, rows: &mut Rows) {
+    let &Size { n, lines, .. } = size;
+    println!("A long chain, {n} variables, {lines} lines:");
+    let lists = [Order::Forward, Order::Backward, Order::Mixed].map(|order| {
+        let (_, times) = times(n, &chain(n, lines, order), size.repeats);
+        report::print(&format!("{order:?}"), &[times]);
+        times
     });
-    for ((name, _), sum) in WAYS.iter().zip(sums) {
-        let each = sum * 1e6 / lists.len() as f64;
-        let ratio = sums[0] / sum;
-        println!("  {name:32} {each:10.1} µs a list   ratio {ratio:6.2}");
-    }
+    let name = format!("{n} variables, a long chain, {lines} lines (worst of three orders)");
+    rows.push((name, report::worst(&lists)));
+    println!();
+}
+
+/// The most sparse lists of a size: all, or what `--lists` says.
+fn most_lists() -> usize {
+    let words: Vec<String> = env::args().skip(1).collect();
+    let most = match &words[..] {
+        [] => Some(usize::MAX),
+        [option, count] if option == "--lists" => count.parse().ok(),
+        _ => None,
+    };
+    most.filter(|&most| most > 0).unwrap_or_else(|| {
+        eprintln!("usage: bench/run [--lists N], at most N sparse lists of each size");
+        exit(2)
+    })
 }
 
 fn main() {
-    let mut chance = Chance(1);
-    let (mut yes, mut no) = (Vec::new(), Vec::new());
-    for _ in 0..LISTS {
-        let list = sparse(&mut chance, N);
-        let solvable = answer(library, &list).0 == 0;
-        if solvable { &mut yes } else { &mut no }.push(times(&list));
+    let most = most_lists();
+    let mut rows = Rows::new();
+    for size in [SMALL, LARGE] {
+        time_sparse(&size, most, &mut rows);
+        time_chain(&size, &mut rows);
     }
-    println!(
-        "{LISTS} sparse lists, {N} variables, four lines each: {} solvable",
-        yes.len()
-    );
-    print("All of them:", &[yes.clone(), no.clone()].concat());
-    print("The solvable ones:", &yes);
-    print("The others:", &no);
-    println!();
-    println!("A long chain, {N} variables, 512 lines:");
-    for order in [Order::Forward, Order::Backward, Order::Mixed] {
-        print(&format!("{order:?}:"), &[times(&chain(order))]);
-    }
+    println!("The library's time as a multiple of the others':\n");
+    report::print_table(&rows);
 }

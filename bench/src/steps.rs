@@ -24,11 +24,21 @@ pub struct Outputs {
 impl Outputs {
     pub fn new(n: usize) -> Outputs {
         Outputs {
-            model: vec![7; n],
-            bounds: vec![7; 2 * n],
-            groups: vec![7; n],
-            refutation: vec![7; 4 + 4 * n],
-            work: vec![7; 16 * n * n + 64 * n + 64],
+            model: vec![0; n],
+            bounds: vec![0; 2 * n],
+            groups: vec![0; n],
+            refutation: vec![0; 4 + 4 * n],
+            work: vec![0; 16 * n * n + 64 * n + 64],
+        }
+    }
+
+    /// Fills all with a number that means nothing.
+    pub fn fill(&mut self) {
+        for numbers in [&mut self.model, &mut self.bounds, &mut self.work] {
+            numbers.fill(7);
+        }
+        for numbers in [&mut self.groups, &mut self.refutation] {
+            numbers.fill(7);
         }
     }
 }

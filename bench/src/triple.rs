@@ -1,6 +1,6 @@
 //! Least sums by three nested loops over all points.
 
-use crate::rounds;
+use crate::in_place;
 use crate::steps::{Step, NONE};
 
 /// All sums, or the last steps of a row that shows a negative closed walk.
@@ -28,7 +28,7 @@ pub fn sums(
         // Sums would double on and on past a negative closed walk.
         if let Some(point) = (0..points).find(|&point| least[point * points + point] < 0) {
             let (row, steps_back) = (&mut least[..points], &mut last[..points]);
-            return rounds::row(steps, point, row, steps_back);
+            return in_place::row(steps, point, row, steps_back);
         }
     }
     Ok(())
