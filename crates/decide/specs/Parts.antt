@@ -1,19 +1,26 @@
--- The parts of the lent buffers that deciding writes, and what stands in them.
+-- What an answer says of the verdict, and the parts of the lent buffers that deciding writes, with what stands in them.
 use mathlib.Core.Path.{_≡_, refl, ap, _∙_}
+use mathlib.Core.Bool.{Bool, true, false, cond}
 use mathlib.Core.List.{List, _++_}
 use Prim.Native.Nat.{ℕ, _+_}
 use native.Mathlib.Omega.{arith}
 use lib.IntN.{ℤ}
 use lib.ListN.{length, take, drop, length-append}
 use lib.Seq.{take-at}
+use Rattle.integers.specs.Laws.{never}
 use Rattle.integers.specs.Sequence.{length-tabulate}
+use Rattle.lines.specs.declared.Validity.{Validity}
+use Rattle.lines.specs.declared.Validity.the-variants.{Valid}
+use Rattle.lines.specs.declared.Validity.the-variants as validity
 use Rattle.lines.specs.Line.{linesOf}
 use Rattle.refutation.specs.Progress.{headSize}
 use Rattle.soundness.specs.Refutes.{Refutes, kind-1, kind-2, kind-3}
+use Rattle.answers.specs.Verdict.{verdictOf}
 use Rattle.answers.specs.Answers.{modelOf, boundsOf, groupsOf}
 use Rattle.answers.specs.Refuted.{stepsIn}
 use Rattle.buffers.specs.Room.{boundsRoom}
-use Rattle.decide.specs.Decided.{Lent, OnYes, OnNo}
+use Rattle.decide.specs.declared.Answer.the-variants.{Yes, No}
+use Rattle.decide.specs.Decided.{Lent, unlessRefused, decideAnswer, answerFor, validityFor, OnYes, OnNo}
 
 -- The parts that are written: of a refutation, the 3 + p + q numbers that its counts tell.
 abbrev pub modelIn : ℕ → Lent → List ℤ
@@ -25,8 +32,31 @@ boundsIn n a = take (boundsRoom n) (a .bounds)
 abbrev pub groupsIn : ℕ → Lent → List ℕ
 groupsIn n a = take n (a .groups)
 
+abbrev pub stated : List ℕ → List ℕ
+stated R = take (headSize + stepsIn R) R
+
 abbrev pub refutationIn : Lent → List ℕ
-refutationIn a = take (headSize + stepsIn (a .refutation)) (a .refutation)
+refutationIn a = stated (a .refutation)
+
+-- ---- the verdict, by the answer
+module _ (n : ℕ) (L : List ℤ) (b : Lent) where
+  pub yes-verdict : answerFor n L b ≡ Yes → verdictOf n (linesOf L) ≡ true
+  unfolding decideAnswer
+  yes-verdict = go (validityFor n L b) (verdictOf n (linesOf L))
+    where
+      go : (v : Validity) (t : Bool) → unlessRefused v (cond t Yes No) ≡ Yes → t ≡ true
+      go Valid true e = refl
+      go Valid false e = never (cc)
+      go (validity.Refused r) t e = never (cc)
+
+  pub no-verdict : answerFor n L b ≡ No → verdictOf n (linesOf L) ≡ false
+  unfolding decideAnswer
+  no-verdict = go (validityFor n L b) (verdictOf n (linesOf L))
+    where
+      go : (v : Validity) (t : Bool) → unlessRefused v (cond t Yes No) ≡ No → t ≡ false
+      go Valid true e = never (cc)
+      go Valid false e = refl
+      go (validity.Refused r) t e = never (cc)
 
 -- ---- the written part is the refutation
 pub stated-length : (L : List ℤ) (R : List ℕ) → Refutes L R → (rest : List ℕ) → length R ≡ headSize + stepsIn (R ++ rest)

@@ -24,7 +24,7 @@ use Rattle.answers.specs.Answers.{modelOf, boundsOf, groupsOf}
 use Rattle.buffers.specs.Room.{boundsRoom}
 use Rattle.decide.specs.declared.Answer.{Answer}
 use Rattle.decide.specs.declared.Answer.the-variants.{Yes, No, Refused}
-use Rattle.decide.specs.Parts.{modelIn, boundsIn, groupsIn, model-in, bounds-in, groups-in}
+use Rattle.decide.specs.Parts.{yes-verdict, no-verdict, modelIn, boundsIn, groupsIn, model-in, bounds-in, groups-in}
 use Rattle.decide.specs.Decided.{Lent, unlessRefused, decideAnswer, cleared, OnYes, OnNo, Leaves, Decided, validityFor, decide-ok}
 
 -- A call of `decide` that was not refused, whatever stood in the lent buffers before.
@@ -69,19 +69,11 @@ module _ {n : ℕ} {L : List ℤ} (c : Call n L) where
   unfolding decideAnswer
   answer-is = c .decided .is ∙ ap (λ (v : Validity). unlessRefused v (cond (verdictOf n (linesOf L)) Yes No)) all-valid
 
-  pub yes-verdict : c .answer ≡ Yes → verdictOf n (linesOf L) ≡ true
-  yes-verdict e = go (verdictOf n (linesOf L)) (sym answer-is ∙ e)
-    where
-      go : (t : Bool) → cond t Yes No ≡ Yes → t ≡ true
-      go true z = refl
-      go false z = never (cc)
+  pub call-yes : c .answer ≡ Yes → verdictOf n (linesOf L) ≡ true
+  call-yes e = yes-verdict n L (c .before) (sym (c .decided .is) ∙ e)
 
-  pub no-verdict : c .answer ≡ No → verdictOf n (linesOf L) ≡ false
-  no-verdict e = go (verdictOf n (linesOf L)) (sym answer-is ∙ e)
-    where
-      go : (t : Bool) → cond t Yes No ≡ No → t ≡ false
-      go true z = never (cc)
-      go false z = refl
+  pub call-no : c .answer ≡ No → verdictOf n (linesOf L) ≡ false
+  call-no e = no-verdict n L (c .before) (sym (c .decided .is) ∙ e)
 
   pub verdict-yes : verdictOf n (linesOf L) ≡ true → c .answer ≡ Yes
   verdict-yes e = answer-is ∙ ap (λ (t : Bool). cond t Yes No) e
@@ -98,7 +90,7 @@ module _ {n : ℕ} {L : List ℤ} (c : Call n L) where
   pub call-written : c .answer ≡ Yes → Written n (linesOf L) (modelIn n (c .after)) (boundsIn n (c .after)) (groupsIn n (c .after))
   call-written e =
       let w = on-yes e in
-      rw (model-in w, bounds-in w, groups-in w) (computed-written n (linesOf L) (lines-ok n L call-valid) (yes-verdict e))
+      rw (model-in w, bounds-in w, groups-in w) (computed-written n (linesOf L) (lines-ok n L call-valid) (call-yes e))
 
   -- ---- what either answer leaves
   either : {P : Type 0} → (c .answer ≡ Yes → P) → (c .answer ≡ No → P) → P

@@ -33,6 +33,7 @@ use Rattle.answers.specs.Cases.{list-8}
 use Rattle.buffers.specs.Room.{boundsRoom, refutationRoom, workRoom, outputsValidity, decideValidity}
 use Rattle.decide.specs.declared.Answer.{Answer}
 use Rattle.decide.specs.declared.Answer.the-variants.{Yes, No, Refused}
+use Rattle.decide.specs.Parts.{no-verdict}
 use Rattle.decide.specs.Decided.{Lent, OnYes, OnNo, Leaves, Decided, cleared, unlessRefused, decideAnswer, answerFor, validityFor}
 use Rattle.demands.specs.Versions.{falseList}
 
@@ -105,15 +106,6 @@ rightNo n L = refuted n (dueNumbers n L)
 
 pub right : Version
 right = leaving rightYes rightNo
-
-no-verdict : (n : ℕ) (L : List ℤ) (b : Lent) → answerFor n L b ≡ No → verdictOf n (linesOf L) ≡ false
-unfolding decideAnswer
-no-verdict n L b = go (validityFor n L b) (verdictOf n (linesOf L))
-  where
-    go : (v : Validity) (w : Bool) → unlessRefused v (cond w Yes No) ≡ No → w ≡ false
-    go (validity.Refused r) w e = never (cc)
-    go Valid true e = never (cc)
-    go Valid false e = refl
 
 pub right-keeps : Keeps right
 unfolding right

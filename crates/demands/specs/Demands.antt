@@ -49,7 +49,7 @@ use Rattle.decide.specs.declared.Answer.{Answer}
 use Rattle.decide.specs.declared.Answer.the-variants as decide
 use Rattle.decide.specs.Decided.{Lent, cleared, answerFor, Decided, validityFor}
 use Rattle.decide.specs.Parts.{modelIn, boundsIn, groupsIn, refutationIn, refutation-in}
-use Rattle.demands.specs.Calls.{Call, refused-when, call-valid, yes-verdict, no-verdict, verdict-yes, verdict-no, on-yes, on-no, call-written, call-work, beyond-model, beyond-bounds, beyond-groups}
+use Rattle.demands.specs.Calls.{Call, refused-when, call-valid, call-yes, call-no, verdict-yes, verdict-no, on-yes, on-no, call-written, call-work, beyond-model, beyond-bounds, beyond-groups}
 use Rattle.list_file.specs.declared.Listed.{Listed}
 use Rattle.list_file.specs.declared.ReadAnswer.the-variants.{Read}
 use Rattle.list_file.specs.File.{fileOf, fileList}
@@ -105,8 +105,8 @@ pub right-answer : (n : ℕ) (L : List ℤ) (c : Call n L) → RightAnswer n L c
 right-answer n L c =
     let v = call-valid c in
     record {
-      yes-exactly = ((λ e. yes-solvable n L v (yes-verdict c e)), (λ s. verdict-yes c (solvable-yes n L v s)));
-      no-exactly = ((λ e. no-unsolvable n L v (no-verdict c e)), (λ f. verdict-no c (unsolvable-no n L v f)));
+      yes-exactly = ((λ e. yes-solvable n L v (call-yes c e)), (λ s. verdict-yes c (solvable-yes n L v s)));
+      no-exactly = ((λ e. no-unsolvable n L v (call-no c e)), (λ f. verdict-no c (unsolvable-no n L v f)));
       written = λ e. call-written c e;
       beyond-model = beyond-model c;
       beyond-bounds = beyond-bounds c;
@@ -149,7 +149,7 @@ nothing-unlearned n L M c d =
       shown = shown;
       no-exactly-if-refuted = ((λ e. (refutationIn (c .after), shown e .1)), (λ r. verdict-no c (accepted-no n L v (r .0) (r .1))));
       accepted-stays = λ R. answers-longer n L M R u;
-      no-stays-no = λ e. verdict-no d (no-stays n L M v u (no-verdict c e));
+      no-stays-no = λ e. verdict-no d (no-stays n L M v u (call-no c e));
       least = λ a b. least-stays-or-rises n L M v u _ _ _ _ _ _ (call-written c a) (call-written d b);
       greatest = λ a b. greatest-stays-or-falls n L M v u _ _ _ _ _ _ (call-written c a) (call-written d b);
       groups = λ a b. groups-kept n L M v u _ _ _ _ _ _ (call-written c a) (call-written d b);

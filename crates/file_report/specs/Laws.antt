@@ -25,7 +25,7 @@ use Rattle.decide.specs.declared.Answer.{Answer}
 use Rattle.decide.specs.declared.Answer.the-variants as answer
 use Rattle.decide.specs.Decided.{Lent, unlessRefused, decideAnswer, answerFor, OnYes, OnNo, validityFor}
 use Rattle.decide.specs.Decided as decide
-use Rattle.decide.specs.Parts.{stated-length, model-in, bounds-in, groups-in, refutation-in}
+use Rattle.decide.specs.Parts.{stated, yes-verdict, no-verdict, stated-length, model-in, bounds-in, groups-in, refutation-in}
 use Rattle.records.specs.declared.FileRefusal.{FileRefusal}
 use Rattle.records.specs.Refusal.{fileNumber, filePlace}
 use Rattle.list_file.specs.declared.Listed.{Listed}
@@ -38,7 +38,7 @@ use Rattle.list_file.specs.Back.{IsRead, is-read}
 use Rattle.report.specs.Text.{yesText, noText, refusedText}
 use Rattle.report.specs.Put.{Wrote}
 use Rattle.file_report.specs.Report.{mostVariables, mostLines, Behind, Decided, yes, no, Reported, refused, decided}
-use Rattle.file_report.specs.Ready.{stated, textSize, RefutationReady, ListReady}
+use Rattle.file_report.specs.Ready.{textSize, RefutationReady, ListReady}
 
 -- ---- the text is the front, and what is behind it stays
 text-of : {T d e : List ℕ} {r : ℕ} → Wrote T d e r → take r e ≡ T
@@ -50,26 +50,8 @@ behind {T} {d} {e} {r} w = record { kept = ap (drop r) (w .whole) ∙ drop-at T 
 pub same-text : (R : List ℕ) (j k : ℕ) → j ≡ k → {d e : List ℕ} {r : ℕ} → Wrote (noText (take j R)) d e r → Wrote (noText (take k R)) d e r
 same-text R j k z {d} {e} {r} w = subst (λ (i : ℕ). Wrote (noText (take i R)) d e r) z w
 
--- ---- the verdict, by the answer
+-- ---- a valid call is not refused
 module _ (n : ℕ) (L : List ℤ) (b : Lent) where
-  yes-verdict : answer.Yes ≡ answerFor n L b → verdictOf n (linesOf L) ≡ true
-  unfolding decideAnswer
-  yes-verdict = go (validityFor n L b) (verdictOf n (linesOf L))
-    where
-      go : (v : Validity) (t : Bool) → answer.Yes ≡ unlessRefused v (cond t answer.Yes answer.No) → t ≡ true
-      go validity.Valid true e = refl
-      go validity.Valid false e = never (cc)
-      go (validity.Refused r) t e = never (cc)
-
-  no-verdict : answer.No ≡ answerFor n L b → verdictOf n (linesOf L) ≡ false
-  unfolding decideAnswer
-  no-verdict = go (validityFor n L b) (verdictOf n (linesOf L))
-    where
-      go : (v : Validity) (t : Bool) → answer.No ≡ unlessRefused v (cond t answer.Yes answer.No) → t ≡ false
-      go validity.Valid true e = never (cc)
-      go validity.Valid false e = refl
-      go (validity.Refused r) t e = never (cc)
-
   refused-validity : (r : Refusal) → answer.Refused r ≡ answerFor n L b → validityFor n L b ≡ validity.Valid → ⊥
   unfolding decideAnswer
   refused-validity r e v = go (verdictOf n (linesOf L)) (e ∙ ap (λ (x : Validity). unlessRefused x (cond (verdictOf n (linesOf L)) answer.Yes answer.No)) v)
@@ -84,7 +66,7 @@ module _ {n : ℕ} {L : List ℤ} {found : Answer} {b a : Lent} (k : decide.Deci
       → Wrote (yesText n (take i (a .model)) (take j (a .bounds)) (take l (a .groups))) d e r → Decided n L (take r e) × Behind d e r
   yes-written f x y z {d} {e} {r} w =
       let o : OnYes n L b a = subst (λ (q : Answer). decide.Leaves n L q b a) f (k .leaves) in
-      let v = yes-verdict n L b (sym f ∙ k .is) in
+      let v = yes-verdict n L b (sym (k .is) ∙ f) in
       let t : take r e ≡ yesText n (modelOf n (linesOf L)) (boundsOf n (linesOf L)) (groupsOf n (linesOf L)) = text-of w ∙ rw (x, y, z, model-in o, bounds-in o, groups-in o) in
       (subst (Decided n L) (sym t) (yes v), behind w)
 
@@ -95,7 +77,7 @@ module _ {n : ℕ} {L : List ℤ} {found : Answer} {b a : Lent} (k : decide.Deci
     pub no-written : {d e : List ℕ} {r : ℕ} → Wrote (noText (stated (a .refutation))) d e r → Decided n L (take r e) × Behind d e r
     no-written {d} {e} {r} w =
         let t : take r e ≡ noText (on-no .numbers) = text-of w ∙ ap noText (refutation-in on-no) in
-        (subst (Decided n L) (sym t) (no (no-verdict n L b (sym f ∙ k .is)) (on-no .numbers) (on-no .due)), behind w)
+        (subst (Decided n L) (sym t) (no (no-verdict n L b (sym (k .is) ∙ f)) (on-no .numbers) (on-no .due)), behind w)
 
     pub no-ready : length (a .refutation) ≤ refutationRoom mostVariables → (text : List ℕ) → textSize ≤ length text → RefutationReady (a .refutation) text
     no-ready h text s =

@@ -3,17 +3,13 @@ use mathlib.Core.Path.{_≡_}
 use mathlib.Core.List.{List}
 use Prim.Native.Nat.{ℕ, _+_, _≤_}
 use lib.IntN.{ℤ}
-use lib.ListN.{length, take}
+use lib.ListN.{length}
 use Rattle.lines.specs.declared.Validity.the-variants.{Valid}
 use Rattle.lines.specs.Refusal.{validityOf}
 use Rattle.refutation.specs.Progress.{headSize}
 use Rattle.answers.specs.Refuted.{stepsIn}
 use Rattle.buffers.specs.Room.{refutationRoom}
 use Rattle.file_report.specs.Report.{mostVariables}
-
--- the refutation in front: as many numbers as its counts say
-abbrev pub stated : List ℕ → List ℕ
-stated R = take (headSize + stepsIn R) R
 
 -- the room for text that the program has
 abbrev pub textSize : ℕ

@@ -14,7 +14,8 @@ ghost use lib.ListN.{take};
 ghost use Rattle.report.specs.Text.{noText};
 ghost use Rattle.report.specs.Put.{Wrote};
 ghost use Rattle.file_report.specs.Report.{Behind, Decided, Reported};
-ghost use Rattle.file_report.specs.Ready.{stated, RefutationReady, ListReady};
+ghost use Rattle.decide.specs.Parts.{stated};
+ghost use Rattle.file_report.specs.Ready.{RefutationReady, ListReady};
 
 // The program's own limits.
 const MOST_VARIABLES: usize = 16;
