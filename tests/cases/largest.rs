@@ -119,23 +119,25 @@ fn only_halves_would_do() {
 /// same with one line more, that a variable is above its greatest value.
 #[test]
 fn random_lists() {
-    let mut chance = Chance::new(113);
-    let shape = Shape {
-        n: MOST_N,
-        count: MOST_LINES - 1,
-        largest: LARGEST_BOUND,
-    };
-    let mut lines = shape.met(&mut chance, 1);
-    lines.push([0; 5]);
-    let Verdict::Yes(solved) = decided(&mut chance, &lines).verdict else {
-        panic!("values meet the list, but it is a no");
-    };
-    let near = |x: &usize| solved.bounds[2 * x + 1].abs() < LARGEST_BOUND;
-    let x = (0..MOST_VARIABLES).find(near).unwrap();
-    let greatest = solved.bounds[2 * x + 1] as i32;
-    lines[MOST_LINES - 1] = [0, 0, -1, x as i32, -greatest - 1];
-    let verdict = decided(&mut chance, &lines).verdict;
-    assert!(matches!(verdict, Verdict::No(_)), "{verdict:?}");
+    for seed in 120..124 {
+        let mut chance = Chance::new(seed);
+        let shape = Shape {
+            n: MOST_N,
+            count: MOST_LINES - 1,
+            largest: LARGEST_BOUND,
+        };
+        let mut lines = shape.met(&mut chance, 1);
+        lines.push([0; 5]);
+        let Verdict::Yes(solved) = decided(&mut chance, &lines).verdict else {
+            panic!("values meet the list, but it is a no");
+        };
+        let near = |x: &usize| solved.bounds[2 * x + 1].abs() < LARGEST_BOUND;
+        let x = (0..MOST_VARIABLES).find(near).unwrap();
+        let greatest = solved.bounds[2 * x + 1] as i32;
+        lines[MOST_LINES - 1] = [0, 0, -1, x as i32, -greatest - 1];
+        let verdict = decided(&mut chance, &lines).verdict;
+        assert!(matches!(verdict, Verdict::No(_)), "{verdict:?}");
+    }
 }
 
 /// What a thread itself takes of its stack, beside the calls.
