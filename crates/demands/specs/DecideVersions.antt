@@ -1,6 +1,6 @@
 -- Versions of deciding that answer idly or by guessing, each a definition, and at a named input what breaks the promise.
 use mathlib.Core.Path.{_≡_, refl, sym, ap, subst, _∙_}
-use mathlib.Core.Bool.{Bool, true, false, cond}
+use mathlib.Core.Bool.{Bool, true, false}
 use mathlib.Core.List.{List, [], _∷_, _++_}
 use Prim.Native.Nat.{ℕ, zero, suc, _<_}
 use native.Mathlib.Omega.{arith}
@@ -9,8 +9,6 @@ use lib.ListN.{length, getD, take, drop, replicate}
 use Rattle.integers.specs.Laws.{never}
 use Rattle.integers.specs.Sequence.{tabulate}
 use Rattle.lines.specs.declared.Refusal.the-variants.{TooManyVariables}
-use Rattle.lines.specs.declared.Validity.{Validity}
-use Rattle.lines.specs.declared.Validity.the-variants.{Valid}
 use Rattle.lines.specs.declared.Validity.the-variants as validity
 use Rattle.lines.specs.Line.{lineAt, linesOf, isFalse}
 use Rattle.lines.specs.Refusal.{coefficientsOk, variableOk, variablesOk, constantOk, linesValidity, validityOf}

@@ -10,7 +10,7 @@ use native.Mathlib.Numerals.{add-one}
 use native.Mathlib.Omega.{arith}
 use lib.IntN.{ℤ, pos}
 use lib.ListN.{length, take, drop, length-map, length-append, length-take, length-drop}
-use lib.Seq.{length-take-le, take-at, drop-at, drop-drop, ext-getD, length-paste}
+use lib.Seq.{length-take-le, take-at, drop-at, drop-drop, ext-getD}
 use Rattle.integers.specs.Laws.{never}
 use Rattle.integers.specs.Table.{allBelow, below-at, below-all}
 use Rattle.lines.specs.Limits.{maxVariables}
@@ -22,11 +22,11 @@ use Rattle.walks.specs.Distance.{Distance}
 use Rattle.walks.specs.Row.{WithinPoints, at, relaxRow, best, row-zero, start-self}
 use Rattle.walks.specs.Negative.{notBelow0, noNegative}
 use Rattle.walks.specs.Wide.{wide}
-use Rattle.walks.specs.AllPairs.{startTable, tableAt, table-zero, table-suc, table-length, table-at, table-all, table-fixed, table-negative, table-best, start-table-length}
+use Rattle.walks.specs.AllPairs.{startTable, tableAt, table-zero, table-suc, table-length, table-at, table-all, table-fixed, table-negative, table-best}
 use Rattle.answers.specs.Graph.{ends-points}
 use Rattle.distances.specs.Stored.{stored, storedRow}
 use Rattle.distances.specs.Copy.{copied, CopyReady}
-use Rattle.distances.specs.Read.{distanceOf, rowOf, Short, AllShort, maxDistance, short-more, row-of-stored, at-row-of, stored-of}
+use Rattle.distances.specs.Read.{rowOf, Short, AllShort, maxDistance, short-more, row-of-stored, at-row-of, stored-of}
 use Rattle.distances.specs.Next.{rowIn, withNext, sameRows, same-rows, RowReady, RowDone}
 use Rattle.distances.specs.Rows.{rows-short, before, middle, behind}
 use Rattle.distances.specs.Table.{storedTable, tableStart, TableReady, table-length as stored-length, stored-at}

@@ -1,11 +1,11 @@
 -- The first point whose halves sum below 0, and what the number found says.
-use mathlib.Core.Path.{_≡_, refl, sym, _∙_}
+use mathlib.Core.Path.{_≡_, sym, _∙_}
 use mathlib.Core.Logic.{_⊎_, inl, inr, _↔_}
-use mathlib.Core.Bool.{Bool, true, false, not}
-use Prim.Native.Nat.{ℕ, zero, suc, _+_, _<_}
+use mathlib.Core.Bool.{true, false, not}
+use Prim.Native.Nat.{ℕ, _+_, _<_}
 use native.Mathlib.Omega.{arith}
 use borrow.Author.Tests.{not-true, not-false}
-use Rattle.integers.specs.Laws.{never, both-true}
+use Rattle.integers.specs.Laws.{never}
 use Rattle.integers.specs.Table.{allBelow, below-at, below-all}
 use Rattle.bounds.specs.Tight.{Table}
 use Rattle.answers.specs.Answers.{lowest}

@@ -1,6 +1,6 @@
 -- A checker stopped after any number goes on to the same answer, from the list, the numbers not yet read and what was kept.
 use mathlib.Core.Path.{_≡_, refl, sym, ap, _∙_}
-use mathlib.Core.Bool.{Bool, true, false, cond, _&&_}
+use mathlib.Core.Bool.{Bool, true, false, cond}
 use mathlib.Core.List.{List, [], _∷_, _++_}
 use Prim.Native.Nat.{ℕ, _+_, _^_, _<_, _≤_}
 use native.Mathlib.Omega.{arith}
@@ -18,7 +18,7 @@ use Rattle.refutation.specs.declared.RefutationAnswer.the-variants.{No}
 use Rattle.refutation.specs.Progress.{start, advance, run}
 use Rattle.refutation.specs.Small.{Small, start-small, advance-small, advance-read}
 use Rattle.refutation.specs.Answer.{unlessRefused, verdict, refutationValidity, refutationAnswer}
-use Rattle.pieces.specs.Taken.{namesValid, isSmall, tooLong, takeOn, takeAll, endAnswer, names-ok, valid-names, test-small}
+use Rattle.pieces.specs.Taken.{isSmall, takeOn, takeAll, endAnswer, names-ok, valid-names, test-small}
 
 -- ---- pieces, of any list and from any state
 pub take-append : (L : List ℤ) (s : Progress) (A B : List ℕ) → takeAll L s (A ++ B) ≡ takeAll L (takeAll L s A) B

@@ -10,16 +10,16 @@ use lib.Dec.{eqb, ltb}
 use lib.IntN.{ℤ}
 use lib.ListN.{length, getD, take, drop, take-append-drop}
 use lib.Seq.{take-take, take-all}
-use Rattle.integers.specs.Laws.{never, and-true}
+use Rattle.integers.specs.Laws.{never}
 use Rattle.steps.specs.declared.NamedStep.{NamedStep}
 use Rattle.steps.specs.declared.NamedStep.the-variants.{Found, Nothing}
 use Rattle.steps.specs.Step.{stepNumbered}
 use Rattle.refutation.specs.declared.Progress.{Progress}
-use Rattle.refutation.specs.Progress.{headSize, start, countsOk, isFalseStep, headOn, wrongAfter, joins, turns, along, walkOn, advance, run, closes, accepted, accepts, kindOk, brokenAt}
+use Rattle.refutation.specs.Progress.{headSize, start, countsOk, isFalseStep, wrongAfter, along, walkOn, advance, run, accepted, accepts, kindOk, brokenAt}
 use Rattle.refutation.specs.Small.{either, advance-read, run-read}
 use Rattle.soundness.specs.Run.{no-true, run-good, Same, run-same}
 use Rattle.soundness.specs.Refutes.{Refutes, kind-1, kind-2, kind-3}
-use Rattle.soundness.specs.Meaning.{headed, run-headed, End, end-of, accepts-exactly}
+use Rattle.soundness.specs.Meaning.{headed, run-headed, end-of, accepts-exactly}
 
 -- ---- the first wrong step number
 -- one number more: what was wrong stays, and what is wrong now is the number just read

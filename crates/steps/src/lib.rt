@@ -4,7 +4,7 @@ use lines::limits::LINE_SIZE;
 use lines::line_at;
 ghost use mathlib.Core.Path.{_≡_};
 ghost use Prim.Native.Nat.{_<_};
-ghost use lib.IntN.{ℤ, pos, natAbs, _*ℤ_};
+ghost use lib.IntN.{pos, natAbs, _*ℤ_};
 ghost use Rattle.integers.specs.Integer.{Within};
 ghost use Rattle.lines.specs.Limits.{maxVariables, maxConstant};
 ghost use Rattle.lines.specs.Valid.{VariableOk, LineOk};

@@ -1,7 +1,7 @@
 -- `distance_table::distance_table` meets its contract. The invariant: the table after k rounds, with nothing negative on its diagonal.
 use mathlib.Core.Path.{_≡_, refl, _∙_}
 use mathlib.Core.List.{List}
-use Prim.Native.Nat.{ℕ, suc, _+_, _*_, _-_, _<_, _≤_}
+use Prim.Native.Nat.{ℕ, suc, _+_, _*_, _-_, _≤_}
 use native.Mathlib.Omega.{arith}
 use borrow.Author.Needs.{needs}
 use denote.Ref.{now}
@@ -141,7 +141,7 @@ loop-again c =
     let b = a r in (
       search needs,
       turn-more (n b) (L b) (w₀ b) (ready b) (l r .loop .work) (l r .loop .k) (l r .loop .inv .1) (i r .loop-test .taken) (y r .copy-row .last .0) (y r .copy-row .ensures)
-      (w₂ r) (r .next-row .result) (r .next-row .ensures) (f .first-negative .result) (part r) (part-is r) (f .first-negative .ensures) (c .before .if1 .left),
+          (w₂ r) (r .next-row .result) (r .next-row .ensures) (f .first-negative .result) (part r) (part-is r) (f .first-negative .ensures) (c .before .if1 .left),
     )
 
 returns-3 : tie.Need-returns-3 Inv-loop μ-loop

@@ -1,5 +1,5 @@
 -- `distance_table::start_table` meets its contract. The invariant: the rows 0 to v - 1 are written, and `at` is where row v begins.
-use mathlib.Core.Path.{_≡_, refl, _∙_}
+use mathlib.Core.Path.{_≡_, refl}
 use Prim.Native.Nat.{_+_, _-_, _≤_}
 use native.Mathlib.Omega.{arith}
 use borrow.Author.Needs.{needs}

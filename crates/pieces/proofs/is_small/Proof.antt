@@ -1,5 +1,5 @@
 -- `pieces::is_small` meets its contract.
-use mathlib.Core.Path.{_≡_, ap₂, _∙_}
+use mathlib.Core.Path.{ap₂}
 use mathlib.Core.Bool.{Bool, not, _&&_}
 use Prim.Native.Nat.{_^_}
 use borrow.Author.Needs.{needs}

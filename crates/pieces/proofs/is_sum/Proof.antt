@@ -1,5 +1,4 @@
 -- `pieces::is_sum` meets its contract: no sum of that many weights comes near 64 bits.
-use mathlib.Core.Path.{_≡_, _∙_}
 use Prim.Native.Nat.{ℕ, _*_, _^_, _<_}
 use native.Mathlib.Omega.{arith}
 use borrow.Author.Needs.{needs}

@@ -1,12 +1,8 @@
 -- `pieces::names_valid` meets its contract.
 use mathlib.Core.Path.{_≡_, sym, ap, _∙_}
-use Prim.Native.Nat.{_/_}
 use borrow.Author.Needs.{needs}
 use borrow.Author.Tests.{lt-ltb, le-ltb}
-use Rattle.lines.specs.declared.Line.{Line}
-use Rattle.lines.specs.declared.Validity.the-variants.{Valid}
 use Rattle.lines.specs.Limits.{maxVariables}
-use Rattle.lines.specs.Line.{lineAt}
 use Rattle.lines.specs.Refusal.{lineValidity}
 use Rattle.pieces.specs.Taken.{isValid, namesValid}
 use Rattle.pieces.proofs.names_valid.Statement.{statement}

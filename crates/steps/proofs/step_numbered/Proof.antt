@@ -1,6 +1,6 @@
 -- `steps::step_numbered` meets its contract.
 use mathlib.Core.Path.{ap, _∙_}
-use Prim.Native.Nat.{_/_, _%_}
+use Prim.Native.Nat.{_%_}
 use native.Mathlib.Omega.{arith}
 use borrow.Author.Needs.{needs}
 use borrow.Author.Tests.{lt-ltb, le-ltb}

@@ -1,5 +1,5 @@
 -- `refutation::Progress::judge` meets its contract.
-use mathlib.Core.Path.{_≡_, sym, ap, _∙_}
+use mathlib.Core.Path.{sym, ap, _∙_}
 use borrow.Author.Needs.{needs}
 use Rattle.refutation.specs.declared.RefutationAnswer.the-variants.{No}
 use Rattle.refutation.specs.Answer.{verdict}

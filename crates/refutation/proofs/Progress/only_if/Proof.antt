@@ -1,5 +1,4 @@
 -- `refutation::Progress::only_if` meets its contract.
-use mathlib.Core.Path.{_≡_}
 use borrow.Author.Needs.{needs}
 use Rattle.refutation.specs.Progress.{wrongAfter}
 use Rattle.refutation.proofs.Progress.only_if.Statement.{statement}
