@@ -99,6 +99,16 @@ fn a_chain_that_does_not() {
     assert_eq!(decision.refutation[1], points, "there is no shorter one");
 }
 
+/// A walk is not gone twice: of two rules that clash, each stands once.
+#[test]
+fn a_clash_of_two() {
+    let mut chance = Chance::new(115);
+    let lines = filled(&mut chance, vec![[1, 0, -1, 1, -1], [1, 1, -1, 0, 0]]);
+    let decision = decided(&mut chance, &lines);
+    assert_eq!(decision.verdict, Verdict::No(Reason::ClosedWalk));
+    assert_eq!(decision.refutation[1], 2);
+}
+
 /// All variables equal but for their signs, and the last one three and a half.
 #[test]
 fn only_halves_would_do() {

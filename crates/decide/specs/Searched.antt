@@ -1,5 +1,6 @@
 -- The search for a refutation: what it asks, what it leaves, and why that is right in each of its ways out.
 use mathlib.Core.Path.{_≡_, refl, sym, ap, subst, _∙_}
+use mathlib.Core.Logic.{inl}
 use mathlib.Core.Bool.{Bool, true, false, not}
 use mathlib.Core.List.{List, [], _∷_, _++_}
 use Prim.Native.Nat.{ℕ, _+_, _*_, _-_, _<_, _≤_}
@@ -137,7 +138,7 @@ module _ (n : ℕ) (L : List ℤ) (R : List ℕ) (w : List ℤ) (a : SearchReady
           record {
             ready =
                 record {
-                  ready = record { few = ok .variables; valid = ok .lines; within = h; room = omega (arith, a .work-room, d .same-length); value = low .0; reached = low .1 };
+                  ready = record { few = ok .variables; valid = ok .lines; within = h; room = omega (arith, a .work-room, d .same-length); value = low .0; reached = low .1; wanted = inl refl };
                   lines = ok .count;
                   room = omega (arith, a .room);
                 };
@@ -204,6 +205,7 @@ module _ (n : ℕ) (L : List ℤ) (R : List ℕ) (w : List ℤ) (a : SearchReady
                     there-is = i;
                     back-is = j;
                     negative = subst (λ (v : ℤ). v ⋖ pos 0) (some-is (sym (r .1))) (r .2);
+                    clear = d .clear whole;
                   }
 
           pub by-halves : (R′ : List ℕ) (w₂ : List ℤ) → RefutationWritten n L 2 R w₁ R′ w₂ → Searched n L R w R′ w₂ true

@@ -8,6 +8,7 @@ use native.Mathlib.Nat.{not-suc-le-zero, le-of-suc-le-suc}
 use native.Mathlib.Omega.{arith}
 use lib.IntN.{ℤ, pos, _+ℤ_}
 use lib.ListN.{length, set, replicate}
+use lib.Signed.{leZ}
 use mir.Syntax.{w64}
 use mir.Val.{SFits}
 use Rattle.integers.specs.Integer.{_⩽_, _⋖_, minZ, eqZ, Within}
@@ -19,6 +20,7 @@ use Rattle.steps.specs.declared.Step.{Step}
 use Rattle.steps.specs.Step.{maxWeight}
 use Rattle.walks.specs.Distance.{Distance, none, some, minD, _⊕_, min-one, ⊕-some}
 use Rattle.walks.specs.Row.{at, relaxStep, relaxFrom, relaxRow, Along, relax-one}
+use Rattle.walks.specs.Negative.{notBelow0}
 use Rattle.walks.specs.Size.{WithinWeights, within-more, within-sum}
 use Rattle.distances.specs.Stored.{stored, storedRow}
 
@@ -59,6 +61,15 @@ of-none z e = ap (λ (t : Bool). cond t none (some z)) (eq-eqZ z noWalk e)
 pub of-some : (z : ℤ) → (z ≡ noWalk → ⊥) → distanceOf z ≡ some z
 unfolding distanceOf
 of-some z n = ap (λ (t : Bool). cond t none (some z)) (ne-eqZ z noWalk n)
+
+-- the number for no walk is above 0, so that the sign of a stored number is that of its distance
+pub stored-sign : (z : ℤ) → leZ (pos 0) z ≡ notBelow0 (distanceOf z)
+unfolding distanceOf
+stored-sign z = go (eqZ z noWalk) refl
+  where
+    go : (t : Bool) → eqZ z noWalk ≡ t → leZ (pos 0) z ≡ notBelow0 (cond t none (some z))
+    go true e = ap (leZ (pos 0)) (eqZ-true z noWalk e)
+    go false e = refl
 
 -- an entry and a weight: still far from the number that stands for no walk
 abbrev pub maxSum : ℕ
@@ -136,16 +147,6 @@ back-from old new (t ∷ F) s w b =
 -- ---- rows whose numbers are small
 pub short-more : {b c : ℕ} {d : Distance} → b ≤ c → Short b d → Short c d
 short-more h s z e = within-more h (s z e)
-
--- a relaxed row's numbers are larger by at most a weight
-pub relax-short : (E : List Step) (w b : ℕ) (row : List Distance) → WithinWeights w E → AllShort b row → AllShort (b + w) (relaxRow E row)
-relax-short E w b row small s q z e = go (relax-one E row q)
-  where
-    go : (at (relaxRow E row) q ≡ at row q) ⊎ Along E row q (at (relaxRow E row) q) → Within (b + w) z
-    go (inl f) = within-more (omega arith) (s q z (sym f ∙ e))
-    go (inr a) =
-        let x = ⊕-some (at row (a .step .from)) (a .step .weight) z (sym (a .value) ∙ e) in
-        rw (x .2) at (within-sum (s (a .step .from) (x .0) (x .1)) (small (a .step) (a .member)))
 
 -- ---- sums fit, and the smaller of an entry and a sum
 pub sum-fits : (z w : ℤ) → Within maxDistance z → Within maxWeight w → SFits w64 (z +ℤ w)

@@ -1,26 +1,30 @@
 -- The rows of a source one behind the other, and the loop that writes them.
 use mathlib.Core.Path.{_≡_, refl, sym, ap, ap₂, _∙_}
-use mathlib.Core.Bool.{Bool, true}
+use mathlib.Core.Bool.{Bool, true, false}
 use mathlib.Core.List.{List, _++_, append-assoc}
 use Prim.Native.Nat.{ℕ, zero, suc, _+_, _*_, _<_, _≤_}
 use native.Mathlib.Nat.{mul-le-mul-right}
 use native.Mathlib.Numerals.{add-one}
 use native.Mathlib.Omega.{arith}
-use lib.IntN.{ℤ}
+use lib.IntN.{ℤ, pos}
 use lib.ListN.{length, take, drop, length-map, length-append}
-use lib.Seq.{take-at, drop-at, drop-drop}
+use lib.Seq.{take-at, drop-at, drop-drop, getD-take, getD-drop}
+use lib.Signed.{leZ}
+use Rattle.integers.specs.Integer.{_⋖_}
+use Rattle.integers.specs.Linear.{ints}
 use Rattle.lines.specs.Limits.{maxVariables}
-use Rattle.lines.specs.Line.{linesOf}
+use Rattle.lines.specs.Line.{number, linesOf}
 use Rattle.lines.specs.Valid.{LinesOk, all-ok}
 use Rattle.steps.specs.declared.Step.{Step}
 use Rattle.steps.specs.Step.{maxWeight, stepsOf}
 use Rattle.walks.specs.Distance.{Distance}
-use Rattle.walks.specs.Row.{relaxRow, startRow, rowAt, row-length, row-zero, row-suc, start-length}
+use Rattle.walks.specs.Row.{at, relaxRow, startRow, rowAt, row-length, row-zero, row-suc, start-length}
 use Rattle.walks.specs.Reach.{row-fixed}
+use Rattle.walks.specs.Negative.{notBelow0}
 use Rattle.walks.specs.Size.{within-more, row-within}
 use Rattle.answers.specs.Graph.{weights-small}
 use Rattle.distances.specs.Stored.{stored, storedRow, storedRows}
-use Rattle.distances.specs.Read.{rowOf, AllShort, maxDistance, short-more, row-of-stored}
+use Rattle.distances.specs.Read.{rowOf, AllShort, maxDistance, short-more, stored-sign, row-of-stored, at-row-of}
 use Rattle.distances.specs.Next.{sameRows, same-rows, rowIn, withNext, RowDone}
 
 pub record RowsReady (n u : ℕ) (L w : List ℤ) : Type 0 where
@@ -29,11 +33,16 @@ pub record RowsReady (n u : ℕ) (L w : List ℤ) : Type 0 where
   pub within : u < 2 * n
   pub room : (2 * n + 1) * (2 * n) ≤ length w
 
--- rows 0 to k of u stand one behind the other, what lies beyond them is as it was, and row k is the last that changes
+-- why row k of u is the last that is made: it is the same as row m, or it shows a closed walk of negative sum
+pub data Stops (E : List Step) (m u k : ℕ) : Type 0 where
+  settled : rowAt E m u k ≡ rowAt E m u m → Stops E m u k
+  negative : notBelow0 (at (rowAt E m u k) u) ≡ false → Stops E m u k
+
+-- rows 0 to k of u stand one behind the other, what lies beyond them is as it was, and there was reason to stop
 pub record RowsDone (E : List Step) (m u : ℕ) (w w′ : List ℤ) (k : ℕ) : Type 0 where
   pub count : k ≤ m
   pub rows : w′ ≡ storedRows E m u (suc k) ++ drop (suc k * m) w
-  pub last : rowAt E m u k ≡ rowAt E m u m
+  pub stops : Stops E m u k
 
 -- the loop after k rounds; w₀ is what it began with, the start row and what was behind it
 pub record Turn (E : List Step) (m u : ℕ) (w₀ w : List ℤ) (k from : ℕ) : Type 0 where
@@ -119,11 +128,11 @@ module _ (E : List Step) (m u : ℕ) (w₁ w₀ : List ℤ) (e₀ : w₀ ≡ sto
     turn-row : rowIn m w from ≡ b
     turn-row = ap (λ (x : List ℤ). take m (drop from x)) parts ∙ middle a b c from m a-length b-length
 
-    pub turn-end : rowAt E m u k ≡ rowAt E m u m → RowsDone E m u w₁ w k
+    pub turn-end : Stops E m u k → RowsDone E m u w₁ w k
     turn-end g =
         record {
           count = t .count;
-          last = g;
+          stops = g;
           rows =
               t .rows
               ∙ ap (λ (x : List ℤ). storedRows E m u (suc k) ++ x)
@@ -143,6 +152,19 @@ module _ (E : List Step) (m u : ℕ) (w₁ w₀ : List ℤ) (e₀ : w₀ ≡ sto
 
       pub turn-short : AllShort maxDistance (rowOf (rowIn m w from))
       turn-short = rw (turn-row, row-back) short
+
+      -- the number where the source's own entry stands is below 0
+      pub turn-negative : u < m → number w (from + u) ⋖ pos 0 → Stops E m u k
+      turn-negative h l =
+          let i : u < length (rowIn m w from) = omega (arith, ap length turn-row, b-length) in
+          let s : notBelow0 (at (rowAt E m u k) u) ≡ leZ (pos 0) (number w (from + u)) =
+          ap (λ (x : List Distance). notBelow0 (at x u)) (sym row-back ∙ ap rowOf (sym turn-row))
+          ∙ ap notBelow0 (at-row-of (rowIn m w from) u i) ∙ sym (stored-sign (number (rowIn m w from) u))
+          ∙ ap (leZ (pos 0)) (getD-take m (drop from w) u (pos 0) h ∙ getD-drop from w u (pos 0)) in
+          negative (s ∙ not-le (number w (from + u)) l)
+        where
+          not-le : (z : ℤ) → z ⋖ pos 0 → leZ (pos 0) z ≡ false
+          not-le z = simp ints (omega arith)
 
       next-is : withNext E (rowIn m w from) ≡ b ++ storedRow (rowAt E m u (suc k))
       next-is =
@@ -182,12 +204,3 @@ module _ (E : List Step) (m u : ℕ) (w₁ w₀ : List ℤ) (e₀ : w₀ ≡ sto
             sym (row-of-stored (rowAt E m u (suc k)) (λ p. short-more (omega arith) (short′ p)))
             ∙ ap rowOf (sym (drop-at b e m b-length) ∙ s ∙ take-at b e m b-length) ∙ row-back in
             ap (rowAt E m u) (add-one k) ∙ r ∙ sym (row-fixed E m u k (sym (row-suc E m u k) ∙ r) m (omega arith))
-
--- ---- the last row, where it stands
-pub rows-last : (E : List Step) (m u k : ℕ) (w w′ : List ℤ) → RowsDone E m u w w′ k → rowIn m w′ (k * m) ≡ storedRow (rowAt E m u k)
-rows-last E m u k w w′ d =
-    let a = storedRows E m u k in
-    let b = storedRow (rowAt E m u k) in
-    let c = drop (suc k * m) w in
-    ap (λ (x : List ℤ). rowIn m x (k * m)) (d .rows ∙ ap (λ (x : List ℤ). x ++ c) (rows-suc E m u k))
-    ∙ middle a b c (k * m) m (rows-length E m u k) (stored-length E m u k)

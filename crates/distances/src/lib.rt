@@ -131,8 +131,9 @@ pub fn next_row(list: &[i32], n: usize, width: usize, work: &mut [i64], from: us
     settled(&work[from..to], size)
 }
 
-// Rows 0, 1, .. of the source u one behind the other, until a row is the same as the one before it or 2n rounds are done.
-// The number of the last row.
+// Rows 0, 1, .. of the source u one behind the other, until a row is the same as the one before it, the source's own entry
+// is below 0, or 2n rounds are done. The number of the last row. An entry of the source below 0 is the sum of a closed walk:
+// in the first row that has one the walk is as short as any of negative sum, and later rows would only go round it again.
 pub fn rows(list: &[i32], n: usize, u: usize, work: &mut [i64]) -> usize
     requires { ⌜ RowsReady n u (now list) (now work) ⌝ }
     ensures { λ r. ⌜ RowsDone (stepsOf (linesOf (now (list .entry)))) (2 * n) u (now (work .entry)) (now (work .exit)) r ⌝ }
@@ -146,6 +147,9 @@ pub fn rows(list: &[i32], n: usize, u: usize, work: &mut [i64]) -> usize
         k += 1;
         from += size;
         if same {
+            return k;
+        }
+        if work[from + u] < 0 {
             return k;
         }
     }

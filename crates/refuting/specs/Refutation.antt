@@ -1,5 +1,7 @@
--- Refutations of kinds 1 and 2, made of walks of least sum and written in front of what the buffer held.
+-- Refutations of kinds 1 and 2, made of the walks found and written in front of what the buffer held.
 use mathlib.Core.Path.{_≡_, refl, sym, ap, ap₂, subst, _∙_}
+use mathlib.Core.Logic.{inr}
+use mathlib.Core.Bool.{true}
 use mathlib.Core.List.{List, [], _∷_, _++_, append-assoc}
 use Prim.Native.Nat.{ℕ, _+_, _*_, _<_, _≤_}
 use native.Mathlib.Omega.{arith}
@@ -17,11 +19,12 @@ use Rattle.steps.specs.Step.{stepsOf}
 use Rattle.steps.specs.Walk.{Path, total, Names}
 use Rattle.walks.specs.Distance.{some}
 use Rattle.walks.specs.Row.{best, some-is}
+use Rattle.walks.specs.Negative.{noNegative, no-negative-at}
 use Rattle.bounds.specs.Points.{opposite-below}
 use Rattle.soundness.specs.Refutes.{Refutes, kind-1, kind-2}
 use Rattle.answers.specs.Refuted.{kindOf, stepsIn}
 use Rattle.refutation.specs.Progress.{headSize}
-use Rattle.refuting.specs.Shortest.{walkStart}
+use Rattle.refuting.specs.Shortest.{walkStart, SumFound, least, closed}
 use Rattle.refuting.specs.Written.{WriteReady, WalkWritten}
 
 -- a refutation of a kind, with at most 4n steps, in front of what stood in the buffer
@@ -48,15 +51,22 @@ negative-some [] h = absurd (clash h)
     clash = simp ints (omega arith)
 negative-some (t ∷ ts) h = omega arith
 
-there-some : (p : ℕ) (ts : List Step) → Path p ts (opposite p) → 0 < length ts
+opposite-other : (p : ℕ) → opposite p ≡ p → ⊥
 unfolding opposite
-there-some p [] e = absurd (omega (arith, e))
+opposite-other p e = omega (arith, e)
+
+there-some : (p : ℕ) (ts : List Step) → Path p ts (opposite p) → 0 < length ts
+there-some p [] e = absurd (opposite-other p (sym e))
 there-some p (t ∷ ts) e = omega arith
 
 back-some : (p : ℕ) (ts : List Step) → Path (opposite p) ts p → 0 < length ts
-unfolding opposite
-back-some p [] e = absurd (omega (arith, e))
+back-some p [] e = absurd (opposite-other p e)
 back-some p (t ∷ ts) e = omega arith
+
+-- a walk between two points that differ has the least sum
+sum-least : {E : List Step} {m u v : ℕ} {z : ℤ} → (u ≡ v → ⊥) → SumFound E m u v z → best E m u v ≡ some z
+sum-least ne (least e) = e
+sum-least ne (closed e l) = absurd (ne e)
 
 -- ---- what stands behind the head
 module _ (R : List ℕ) (place r : ℕ) (ks : List ℕ) (room : place ≤ length R) where
@@ -88,7 +98,11 @@ closed-written n L u R w a R₁ w′ r k R′ e =
     }
   where
     low : total (k .steps) ⋖ pos 0
-    low = subst (λ (z : ℤ). z ⋖ pos 0) (some-is (sym (a .ready .ready .reached) ∙ k .sum)) (a .negative)
+    low = go (k .sum)
+      where
+        go : SumFound (stepsOf (linesOf L)) (2 * n) u u (total (k .steps)) → total (k .steps) ⋖ pos 0
+        go (least e) = subst (λ (z : ℤ). z ⋖ pos 0) (some-is (sym (a .ready .ready .reached) ∙ e)) (a .negative)
+        go (closed e l) = l
 
     last : headSize + r ≡ length (1 ∷ length (k .numbers) ∷ 0 ∷ k .numbers)
     last = omega (arith, k .count)
@@ -106,10 +120,25 @@ pub record HalvesReady (n : ℕ) (L : List ℤ) (p : ℕ) (R : List ℕ) (w : Li
   pub there-is : best (stepsOf (linesOf L)) (2 * n) p (opposite p) ≡ some there
   pub back-is : best (stepsOf (linesOf L)) (2 * n) (opposite p) p ≡ some back
   pub negative : half there +ℤ half back ⋖ pos 0
+  pub clear : noNegative (stepsOf (linesOf L)) (2 * n) ≡ true
 
 module _ (n : ℕ) (L : List ℤ) (p : ℕ) (R : List ℕ) (w : List ℤ) (a : HalvesReady n L p R w) where
   pub first-ready : WriteReady n L p (opposite p) R headSize w
-  first-ready = record { ready = record { few = a .few; valid = a .valid; within = a .within; room = a .work-room; value = a .there; reached = a .there-is }; lines = a .lines; room = omega (arith, a .room) }
+  first-ready =
+      record {
+        ready =
+            record {
+              few = a .few;
+              valid = a .valid;
+              within = a .within;
+              room = a .work-room;
+              value = a .there;
+              reached = a .there-is;
+              wanted = inr (no-negative-at (stepsOf (linesOf L)) (2 * n) (a .clear) p (a .within));
+            };
+        lines = a .lines;
+        room = omega (arith, a .room);
+      }
 
   module _ (R₁ : List ℕ) (w₁ : List ℤ) (r : ℕ) (k : WalkWritten n L p (opposite p) R headSize w R₁ w₁ r) where
     first-length : length R₁ ≡ length R
@@ -120,7 +149,16 @@ module _ (n : ℕ) (L : List ℤ) (p : ℕ) (R : List ℕ) (w : List ℤ) (a : H
     pub second-ready : WriteReady n L (opposite p) p R₁ (headSize + r) w₁
     second-ready =
         record {
-          ready = record { few = a .few; valid = a .valid; within = opposite-below n p (a .within); room = omega (arith, a .work-room, k .same-length); value = a .back; reached = a .back-is };
+          ready =
+              record {
+                few = a .few;
+                valid = a .valid;
+                within = opposite-below n p (a .within);
+                room = omega (arith, a .work-room, k .same-length);
+                value = a .back;
+                reached = a .back-is;
+                wanted = inr (no-negative-at (stepsOf (linesOf L)) (2 * n) (a .clear) (opposite p) (opposite-below n p (a .within)));
+              };
           lines = a .lines;
           room = omega (arith, a .room, first-length, k .few);
         }
@@ -151,10 +189,10 @@ module _ (n : ℕ) (L : List ℤ) (p : ℕ) (R : List ℕ) (w : List ℤ) (a : H
         }
       where
         there-sum : a .there ≡ total (k .steps)
-        there-sum = some-is (sym (a .there-is) ∙ k .sum)
+        there-sum = some-is (sym (a .there-is) ∙ sum-least (λ e. opposite-other p (sym e)) (k .sum))
 
         back-sum : a .back ≡ total (j .steps)
-        back-sum = some-is (sym (a .back-is) ∙ j .sum)
+        back-sum = some-is (sym (a .back-is) ∙ sum-least (opposite-other p) (j .sum))
 
         head-room : headSize ≤ length R
         head-room = omega (arith, a .room)

@@ -1,5 +1,7 @@
--- A walk of least sum between two points, as its step numbers stand in the work area.
-use mathlib.Core.Path.{_≡_, sym, ap, _∙_}
+-- A walk of least sum between two points, or a closed walk of negative sum, as its step numbers stand in the work area.
+use mathlib.Core.Path.{_≡_, sym, ap, subst, _∙_}
+use mathlib.Core.Logic.{_⊎_, inl, inr}
+use mathlib.Core.Bool.{true, false}
 use mathlib.Core.List.{List, _++_, map}
 use Prim.Native.Nat.{ℕ, suc, _+_, _*_, _-_, _<_, _≤_}
 use native.Mathlib.Nat.{mul-le-mul-right}
@@ -7,16 +9,20 @@ use native.Mathlib.Omega.{arith}
 use lib.IntN.{ℤ, pos}
 use lib.ListN.{length, take, drop, length-append, length-map, length-drop}
 use lib.Seq.{take-at, drop-at, length-take-le, drop-drop}
+use Rattle.integers.specs.Integer.{_⋖_}
+use Rattle.integers.specs.Laws.{never}
 use Rattle.lines.specs.Limits.{maxVariables}
 use Rattle.lines.specs.Line.{linesOf}
-use Rattle.lines.specs.Valid.{LinesOk}
+use Rattle.lines.specs.Valid.{LinesOk, all-ok}
 use Rattle.steps.specs.declared.Step.{Step}
 use Rattle.steps.specs.Step.{stepsOf}
 use Rattle.steps.specs.Walk.{Path, total, Names}
 use Rattle.walks.specs.Distance.{Distance, some}
-use Rattle.walks.specs.Row.{at, rowAt, best}
+use Rattle.walks.specs.Row.{at, rowAt, best, some-is}
+use Rattle.walks.specs.Negative.{notBelow0, is-below, negative-stays}
+use Rattle.answers.specs.Graph.{ends-points}
 use Rattle.distances.specs.Stored.{storedRows}
-use Rattle.distances.specs.Rows.{RowsReady, RowsDone, rows-length}
+use Rattle.distances.specs.Rows.{RowsReady, Stops, settled, negative, RowsDone, rows-length}
 use Rattle.distances.specs.Table.{tableStart}
 use Rattle.walkback.specs.WalkBack.{RowsStand, Walked}
 
@@ -24,6 +30,7 @@ use Rattle.walkback.specs.WalkBack.{RowsStand, Walked}
 abbrev pub walkStart : ℕ → ℕ
 walkStart m = tableStart m + m * m
 
+-- the rows of u end early where they show a closed walk of negative sum: such a walk is wanted, or none goes through u
 pub record WalkReady (n : ℕ) (L : List ℤ) (u v : ℕ) (w : List ℤ) : Type 0 where
   pub few : n ≤ maxVariables
   pub valid : LinesOk n L
@@ -31,6 +38,12 @@ pub record WalkReady (n : ℕ) (L : List ℤ) (u v : ℕ) (w : List ℤ) : Type 
   pub room : walkStart (2 * n) + 2 * n ≤ length w
   pub value : ℤ
   pub reached : best (stepsOf (linesOf L)) (2 * n) u v ≡ some value
+  pub wanted : (u ≡ v) ⊎ (notBelow0 (best (stepsOf (linesOf L)) (2 * n) u u) ≡ true)
+
+-- the sum of the walk found: the distance, or below 0 if the walk is closed
+pub data SumFound (E : List Step) (m u v : ℕ) (z : ℤ) : Type 0 where
+  least : best E m u v ≡ some z → SumFound E m u v z
+  closed : u ≡ v → z ⋖ pos 0 → SumFound E m u v z
 
 -- the r numbers before the place 2n behind the start name the steps of such a walk, and what lies behind them is as it was
 pub record WalkFound (n : ℕ) (L : List ℤ) (u v : ℕ) (w w′ : List ℤ) (r : ℕ) : Type 0 where
@@ -42,7 +55,7 @@ pub record WalkFound (n : ℕ) (L : List ℤ) (u v : ℕ) (w w′ : List ℤ) (r
   pub steps : List Step
   pub named : Names L numbers steps
   pub path : Path u steps v
-  pub sum : best (stepsOf (linesOf L)) (2 * n) u v ≡ some (total steps)
+  pub sum : SumFound (stepsOf (linesOf L)) (2 * n) u v (total steps)
 
 module _ (n : ℕ) (L : List ℤ) (u v : ℕ) (w : List ℤ) (ready : WalkReady n L u v w) where
   abbrev E : List Step
@@ -73,9 +86,22 @@ module _ (n : ℕ) (L : List ℤ) (u v : ℕ) (w : List ℤ) (ready : WalkReady 
     pub rows-same-length : length w₁ ≡ length w
     rows-same-length = ap length (d .rows) ∙ length-append (storedRows E m u (suc top)) (drop (suc top * m) w) ∙ omega (arith, rows-size, length-drop (suc top * m) w, front, ready .room)
 
-    last-at : at (rowAt E m u top) v ≡ best E m u v
+    is-best : rowAt E m u top ≡ rowAt E m u m → at (rowAt E m u top) v ≡ best E m u v
     unfolding best
-    last-at = ap (λ (row : List Distance). at row v) (d .last)
+    is-best e = ap (λ (row : List Distance). at row v) e
+
+    -- the entry of v in the last row
+    last-at : (z : ℤ) × (at (rowAt E m u top) v ≡ some z) × SumFound E m u v z
+    last-at = go (d .stops) (ready .wanted)
+      where
+        go : Stops E m u top → (u ≡ v) ⊎ (notBelow0 (best E m u u) ≡ true) → (z : ℤ) × (at (rowAt E m u top) v ≡ some z) × SumFound E m u v z
+        go (settled e) a = (ready .value, is-best e ∙ ready .reached, least (ready .reached))
+        go (negative e) (inl s) =
+            let b = is-below (at (rowAt E m u top) u) e in
+            (b .0, ap (at (rowAt E m u top)) (sym s) ∙ b .1, closed s (b .2))
+        go (negative e) (inr f) =
+            let clash : true ≡ false = sym f ∙ negative-stays E m (ends-points n (linesOf L) (all-ok n L (ready .valid))) u top (ready .within) (d .count) e in
+            never (cc)
 
     pub rows-stand : (place : ℕ) → place ≡ walkStart m + (m - top) → RowsStand n L u w₁ top v place
     rows-stand place e =
@@ -84,8 +110,8 @@ module _ (n : ℕ) (L : List ℤ) (u v : ℕ) (w : List ℤ) (ready : WalkReady 
           lines = ready .valid;
           rounds = d .count;
           rows = ap (take (suc top * m)) (d .rows) ∙ take-at (storedRows E m u (suc top)) (drop (suc top * m) w) (suc top * m) rows-size;
-          value = ready .value;
-          reached = last-at ∙ ready .reached;
+          value = last-at .0;
+          reached = last-at .1;
           behind = omega (arith, front);
           room = omega (arith, rows-same-length, ready .room, d .count);
         }
@@ -104,7 +130,7 @@ module _ (n : ℕ) (L : List ℤ) (u v : ℕ) (w : List ℤ) (ready : WalkReady 
           steps = k .steps;
           named = k .named;
           path = k .path;
-          sum = sym last-at ∙ k .sum;
+          sum = subst (SumFound E m u v) (some-is (sym (last-at .1) ∙ k .sum)) (last-at .2);
         }
       where
         end : walkStart m + m ≡ place + top

@@ -1,4 +1,4 @@
--- The step numbers of a walk of least sum, written into the refutation.
+-- The step numbers of a walk that was found, written into the refutation.
 use mathlib.Core.Path.{_≡_, refl, sym, ap, ap₂, _∙_}
 use mathlib.Core.List.{List, [], _∷_, _++_, map}
 use Prim.Native.Nat.{ℕ, zero, suc, _+_, _*_, _-_, _<_, _≤_}
@@ -11,11 +11,9 @@ use Rattle.lines.specs.Line.{number, lineCount, linesOf}
 use Rattle.steps.specs.declared.Step.{Step}
 use Rattle.steps.specs.Step.{stepsOf}
 use Rattle.steps.specs.Walk.{Path, total, Names}
-use Rattle.walks.specs.Distance.{some}
-use Rattle.walks.specs.Row.{best}
 use Rattle.walkback.specs.WalkBack.{names-below}
 use Rattle.refuting.specs.Copy.{StepNumbers, copiedTo}
-use Rattle.refuting.specs.Shortest.{walkStart, WalkReady, WalkFound}
+use Rattle.refuting.specs.Shortest.{walkStart, WalkReady, SumFound, WalkFound}
 
 -- ---- numbers stored and read back
 getD-pos : (ks : List ℕ) (i : ℕ) → i < length ks → getD (map pos ks) i (pos 0) ≡ pos (getD ks i 0)
@@ -44,7 +42,7 @@ pub record WalkWritten (n : ℕ) (L : List ℤ) (u v : ℕ) (R : List ℕ) (plac
   pub steps : List Step
   pub named : Names L numbers steps
   pub path : Path u steps v
-  pub sum : best (stepsOf (linesOf L)) (2 * n) u v ≡ some (total steps)
+  pub sum : SumFound (stepsOf (linesOf L)) (2 * n) u v (total steps)
 
 module _ (n : ℕ) (L : List ℤ) (u v : ℕ) (R : List ℕ) (place : ℕ) (w w′ : List ℤ) (r : ℕ) (a : WriteReady n L u v R place w) (f : WalkFound n L u v w w′ r) where
   abbrev end : ℕ

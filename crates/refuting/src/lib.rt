@@ -45,8 +45,8 @@ pub fn write_false(refutation: &mut [u32], line: usize)
     refutation[HEAD_SIZE] = (2 * line) as u32;
 }
 
-// A walk of least sum from u to v: how many steps it has. Their numbers stand in the work area, the last of them before the
-// place 2n behind the start of the walks' room.
+// A walk of least sum from u to v, or, if u is v, one of negative sum that is as short as any: how many steps it has. Their
+// numbers stand in the work area, the last of them before the place 2n behind the start of the walks' room.
 fn shortest_walk(list: &[i32], n: usize, u: usize, v: usize, work: &mut [i64]) -> usize
     requires { ⌜ WalkReady n (now list) u v (now work) ⌝ }
     ensures { λ r. ⌜ WalkFound n (now (list .entry)) u v (now (work .entry)) (now (work .exit)) r ⌝ }
@@ -57,7 +57,7 @@ fn shortest_walk(list: &[i32], n: usize, u: usize, v: usize, work: &mut [i64]) -
     walk_back(list, n, u, work, top, v, place)
 }
 
-// Writes the step numbers of a walk of least sum from u to v into the refutation, from a place on: how many they are.
+// Writes the step numbers of such a walk from u to v into the refutation, from a place on: how many they are.
 fn write_walk(
     list: &[i32],
     n: usize,

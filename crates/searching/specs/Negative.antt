@@ -1,35 +1,21 @@
 -- The first point whose distance to itself is below 0, and what the number found says.
 use mathlib.Core.Path.{_≡_, refl, sym, ap, ap₂, _∙_}
 use mathlib.Core.Logic.{_⊎_, inl, inr, _↔_}
-use mathlib.Core.Bool.{Bool, true, false, not, cond, _&&_}
+use mathlib.Core.Bool.{Bool, true, false, not, _&&_}
 use Prim.Native.Nat.{ℕ, zero, suc, _+_, _<_}
 use native.Mathlib.Omega.{arith}
 use borrow.Author.Tests.{not-true, not-false}
-use lib.IntN.{ℤ, pos}
-use lib.Signed.{leZ}
-use Rattle.integers.specs.Integer.{eqZ}
-use Rattle.integers.specs.Laws.{never, both-true, eqZ-true}
+use Rattle.integers.specs.Laws.{never}
 use Rattle.integers.specs.Table.{allBelow, below-at, below-all}
-use Rattle.walks.specs.Distance.{none, some}
 use Rattle.walks.specs.Negative.{notBelow0}
 use Rattle.bounds.specs.Tight.{Table}
 use Rattle.answers.specs.Answers.{lowest}
-use Rattle.distances.specs.Read.{noWalk, distanceOf}
 use Rattle.outputs.specs.Lowest.{Passed, NonePassed, lowest-known, lowest-cong}
 use Rattle.outputs.specs.Agree.{Agree}
 
 -- the lowest of the points below N whose distance to itself is below 0, or N
 abbrev pub firstNegative : ℕ → Table → ℕ
 firstNegative N D = lowest (λ u. not (notBelow0 (D u u))) 0 N
-
--- ---- one stored number: the number for no walk is above 0
-pub stored-sign : (z : ℤ) → leZ (pos 0) z ≡ notBelow0 (distanceOf z)
-unfolding distanceOf
-stored-sign z = go (eqZ z noWalk) refl
-  where
-    go : (t : Bool) → eqZ z noWalk ≡ t → leZ (pos 0) z ≡ notBelow0 (cond t none (some z))
-    go true e = ap (leZ (pos 0)) (eqZ-true z noWalk e)
-    go false e = refl
 
 -- ---- the point found
 module _ (N : ℕ) (D : Table) where
@@ -66,19 +52,3 @@ module _ (N : ℕ) (D : Table) where
       go : Known → Found
       go (inl s) = let q : true ≡ false = sym (s .1) ∙ e in never (cc)
       go (inr s) = s
-
--- ---- two tables with the same distances between the points below N
-module _ (N : ℕ) (D E : Table) (same : Agree N D E) where
-  self-same : (u : ℕ) → u < N → notBelow0 (D u u) ≡ notBelow0 (E u u)
-  self-same u h = ap notBelow0 (same u u h h)
-
-  all-same : (k : ℕ) → ((u : ℕ) → u < k → notBelow0 (D u u) ≡ notBelow0 (E u u)) → allBelow k (λ u. notBelow0 (D u u)) ≡ allBelow k (λ u. notBelow0 (E u u))
-  all-same zero e = refl
-  all-same (suc k) e = ap₂ (λ (a b : Bool). a && b) (e k (omega arith)) (all-same k (λ u h. e u (omega arith)))
-
-  -- the test of all points and the point found are the same
-  pub negative-same : (allBelow N (λ u. notBelow0 (D u u)) ≡ allBelow N (λ u. notBelow0 (E u u))) × (firstNegative N D ≡ firstNegative N E)
-  negative-same = (
-    all-same N self-same,
-    lowest-cong (λ u. not (notBelow0 (D u u))) (λ u. not (notBelow0 (E u u))) 0 N (λ u h. ap not (self-same u (omega arith))),
-  )

@@ -2,23 +2,19 @@
 -- Its rounds are those of each row, and the last table holds all distances.
 use mathlib.Core.Path.{_≡_, refl, sym, _∙_, ap, ap₂, subst}
 use mathlib.Core.Logic.{_≢_}
-use mathlib.Core.Bool.{Bool, true, false}
+use mathlib.Core.Bool.{false}
 use mathlib.Core.List.{List, [], _++_}
 use Prim.Native.Nat.{ℕ, zero, suc, _+_, _-_, _*_, _/_, _%_, _≤_, _<_}
 use native.Mathlib.Omega.{arith}
 use native.Mathlib.Nat.{mod-lt, div-add-mod', div-lt-iff-lt-mul, mul-le-mul-right}
 use native.Mathlib.Decide.{decLt, ℕ-discrete}
-use lib.IntN.{ℤ, pos}
 use lib.ListN.{length, length-append, replicate, getD-replicate, List·getD-append, List·getD-eq-default}
 use lib.Seq.{getD-set-other, getD-append-add}
-use Rattle.integers.specs.Integer.{_⩽_, _⋖_}
-use Rattle.integers.specs.Linear.{ints}
 use Rattle.steps.specs.declared.Step.{Step}
-use Rattle.walks.specs.Distance.{Distance, none, some, _⊑_, ⊑-trans, le-some}
+use Rattle.walks.specs.Distance.{Distance, none}
 use Rattle.walks.specs.Row.{WithinPoints, at, relaxRow, startRow, rounds, rowAt, best, rounds-length, rounds-suc, rounds-add, start-length, row-zero, row-suc}
-use Rattle.walks.specs.Reach.{row-attained, rounds-fixed}
-use Rattle.walks.specs.Least.{best-short}
-use Rattle.walks.specs.Negative.{notBelow0, is-below, is-not-below}
+use Rattle.walks.specs.Reach.{rounds-fixed}
+use Rattle.walks.specs.Negative.{notBelow0, negative-stays}
 use Rattle.walks.specs.Wide.{wide, Column, column-relax}
 
 -- the start rows of 0 to k - 1, one after the other
@@ -130,18 +126,7 @@ module _ (E : List Step) (N : ℕ) (within : WithinPoints N E) where
 
   -- a negative entry on the diagonal stays negative
   pub table-negative : (k u : ℕ) → k ≤ N → u < N → notBelow0 (at (tableAt E N k) (u * N + u)) ≡ false → notBelow0 (best E N u u) ≡ false
-  table-negative k u h l t = go (notBelow0 (best E N u u)) refl
-    where
-      clash : (z : ℤ) → pos 0 ⩽ z → z ⋖ pos 0 → ⊥
-      clash z = simp ints (omega arith)
-
-      go : (b : Bool) → notBelow0 (best E N u u) ≡ b → b ≡ false
-      go false n = refl
-      go true n =
-          let d = is-below (at (rowAt E N u k) u) (ap notBelow0 (sym (table-at k u u l l)) ∙ t) in
-          let r = row-attained E N u k u (d .0) (d .1) in
-          let least : best E N u u ⊑ some (d .0) = rw (r .sum) at (best-short E N within u u l (r .steps) (r .walk) (omega (arith, r .count, h))) in
-          absurd (clash (d .0) (le-some (⊑-trans (is-not-below (best E N u u) n) least)) (d .2))
+  table-negative k u h l t = negative-stays E N within u k l h (ap notBelow0 (sym (table-at k u u l l)) ∙ t)
 
   -- the last table holds the distances
   pub table-best : (u v : ℕ) → u < N → v < N → at (tableAt E N N) (v * N + u) ≡ best E N u v

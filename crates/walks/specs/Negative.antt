@@ -14,9 +14,9 @@ use Rattle.integers.specs.Table.{allBelow, below-at}
 use Rattle.steps.specs.declared.Step.{Step}
 use Rattle.steps.specs.Walk.{total}
 use Rattle.walks.specs.Distance.{Distance, none, some, _⊑_, some-le, le-some, le-none, ⊑-trans, ⊑-of-eq}
-use Rattle.walks.specs.Row.{WithinPoints, best}
-use Rattle.walks.specs.Reach.{Walk}
-use Rattle.walks.specs.Least.{NoneNegative, best-attained, closed-nonneg}
+use Rattle.walks.specs.Row.{WithinPoints, at, rowAt, best}
+use Rattle.walks.specs.Reach.{Walk, row-attained}
+use Rattle.walks.specs.Least.{NoneNegative, best-attained, best-short, closed-nonneg}
 
 -- a distance is not below 0
 abbrev pub notBelow0 : Distance → Bool
@@ -81,9 +81,12 @@ some-steps (s ∷ ss) h = omega arith
 
 module _ (E : List Step) (N : ℕ) where
   -- ---- what the answers mean
-  pub no-negative-yes : noNegative E N ≡ true → NoneNegative E N
+  pub no-negative-at : noNegative E N ≡ true → (u : ℕ) → u < N → notBelow0 (best E N u u) ≡ true
   unfolding noNegative
-  no-negative-yes t u h = is-not-below (best E N u u) (below-at N (λ u. notBelow0 (best E N u u)) t u h)
+  no-negative-at t u h = below-at N (λ u. notBelow0 (best E N u u)) t u h
+
+  pub no-negative-yes : noNegative E N ≡ true → NoneNegative E N
+  no-negative-yes t u h = is-not-below (best E N u u) (no-negative-at t u h)
 
   pub negative-point : noNegative E N ≡ false → NegativePoint E N
   unfolding noNegative
@@ -126,3 +129,15 @@ module _ (E : List Step) (N : ℕ) where
       go : (b : Bool) → noNegative E N ≡ b → b ≡ false
       go true t = not-both (total ss) (closed-nonneg E N within (no-negative-yes t) u ss w) k
       go false t = refl
+
+  -- a negative entry of the source in one of its rows stays negative: the walk that it sums is short enough for the last row
+  pub negative-stays : WithinPoints N E → (u k : ℕ) → u < N → k ≤ N → notBelow0 (at (rowAt E N u k) u) ≡ false → notBelow0 (best E N u u) ≡ false
+  negative-stays within u k l h t = go (notBelow0 (best E N u u)) refl
+    where
+      go : (b : Bool) → notBelow0 (best E N u u) ≡ b → b ≡ false
+      go true n =
+          let d = is-below (at (rowAt E N u k) u) t in
+          let r = row-attained E N u k u (d .0) (d .1) in
+          let least : best E N u u ⊑ some (d .0) = rw (r .sum) at (best-short E N within u u l (r .steps) (r .walk) (omega (arith, r .count, h))) in
+          not-both (d .0) (le-some (⊑-trans (is-not-below (best E N u u) n) least)) (d .2)
+      go false n = refl

@@ -7,13 +7,16 @@ use borrow.Author.Needs.{needs}
 use denote.Ref.{now}
 use lib.IntN.{ℤ}
 use lib.ListN.{length}
-use Rattle.lines.specs.Line.{linesOf}
+use mir.Syntax.{w64}
+use Rattle.integers.specs.Linear.{ints, zs, given}
+use Rattle.integers.specs.Bits.{kept}
+use Rattle.lines.specs.Line.{number, linesOf}
 use Rattle.steps.specs.declared.Step.{Step}
 use Rattle.steps.specs.Step.{stepsOf}
 use Rattle.walks.specs.Row.{rowAt}
 use Rattle.distances.specs.Read.{AllShort, maxDistance}
 use Rattle.distances.specs.Next.{RowDone, single-ready, single-done}
-use Rattle.distances.specs.Rows.{Turn, rows-short, rows-fit, turn-start, turn-short, turn-more, turn-same, turn-end}
+use Rattle.distances.specs.Rows.{settled, Turn, rows-short, rows-fit, turn-start, turn-short, turn-negative, turn-more, turn-same, turn-end}
 use Rattle.distances.proofs.rows.Statement.{statement}
 use Rattle.distances.proofs.rows.Tie as tie
 
@@ -71,16 +74,19 @@ module _ (r : tie.After-next-row Inv-loop μ-loop) where
   abbrev a : tie.After-start-row Inv-loop μ-loop
   a = l .before .before
 
+  abbrev w₂ : List ℤ
+  w₂ = r .next-row .last .1 .1 .1 .0
+
   low : l .loop .k < 2 * n a
   low = omega (arith, r .before .before .loop-test .taken)
 
-  done : RowDone (2 * n a) (E a) (l .loop .work) (l .loop .from) (r .next-row .last .1 .1 .1 .0) (r .next-row .result)
-  done = single-done (2 * n a) (E a) (l .loop .work) (l .loop .from) (r .next-row .last .1 .1 .1 .0) (r .next-row .result) (r .next-row .ensures)
+  done : RowDone (2 * n a) (E a) (l .loop .work) (l .loop .from) w₂ (r .next-row .result)
+  done = single-done (2 * n a) (E a) (l .loop .work) (l .loop .from) w₂ (r .next-row .result) (r .next-row .ensures)
 
-  more : Turn (E a) (2 * n a) (u a) (w₀ a) (r .next-row .last .1 .1 .1 .0) (l .loop .k + 1) (l .loop .from + 2 * n a)
+  more : Turn (E a) (2 * n a) (u a) (w₀ a) w₂ (l .loop .k + 1) (l .loop .from + 2 * n a)
   more =
       turn-more (E a) (2 * n a) (u a) (w₁ a) (w₀ a) (a .start-row .ensures) (l .loop .work) (l .loop .k) (l .loop .from) (l .loop .inv .1)
-      (short a (l .loop .k) (omega (arith, low))) (r .next-row .last .1 .1 .1 .0) (r .next-row .result) done low
+      (short a (l .loop .k) (omega (arith, low))) w₂ (r .next-row .result) done low
 
 add-from : tie.Need-add-from Inv-loop μ-loop
 add-from c =
@@ -94,21 +100,54 @@ returns c =
     let b = a r in
     let i = l r .loop in
     let h = low r in
-    turn-end (E b) (2 * n b) (u b) (w₁ b) (w₀ b) (b .start-row .ensures) (r .next-row .last .1 .1 .1 .0) (i .k + 1) (i .from + 2 * n b) (more r)
-    (turn-same (E b) (2 * n b) (u b) (w₁ b) (w₀ b) (b .start-row .ensures) (i .work) (i .k) (i .from) (i .inv .1) (short b (i .k) (omega (arith, h)))
-    (r .next-row .last .1 .1 .1 .0) (r .next-row .result) (done r) (short b (suc (i .k)) h) h (c .if1 .taken))
+    turn-end (E b) (2 * n b) (u b) (w₁ b) (w₀ b) (b .start-row .ensures) (w₂ r) (i .k + 1) (i .from + 2 * n b) (more r)
+    (settled (turn-same (E b) (2 * n b) (u b) (w₁ b) (w₀ b) (b .start-row .ensures) (i .work) (i .k) (i .from) (i .inv .1) (short b (i .k) (omega (arith, h)))
+    (w₂ r) (r .next-row .result) (done r) (short b (suc (i .k)) h) h (c .if1 .taken)))
 
-loop-again : tie.Need-loop-again Inv-loop μ-loop
-loop-again c =
-    let r = c .before .before in
-    (r .next-row .kept .1 .1 .1 .0 ∙ l r .loop .inv .0, more r)
+-- the source's own entry stands in the work area
+module _ (c : tie.Else1 Inv-loop μ-loop) where
+  abbrev r : tie.After-next-row Inv-loop μ-loop
+  r = c .before .before
+
+  same-room : length (w₂ r) ≡ length (w₁ (a r))
+  same-room = omega (arith, r .next-row .kept .1 .1 .1 .0, l r .loop .inv .0, a r .start-row .kept .0)
+
+  entry-in : l r .loop .from + 2 * n (a r) + u (a r) < length (w₂ r)
+  entry-in =
+      let s = start (a r) in
+      omega (arith, same-room, l r .loop .inv .1 .place, s .pre .within, s .pre .room, rows-fit (l r .loop .k) (2 * n (a r)) (low r))
+
+add-if2 : tie.Need-add-if2 Inv-loop μ-loop
+add-if2 c = record { fits = omega (arith, entry-in c, same-room c, start (a (r c)) .good .1 .1 .1 .0 .0) }
+
+mul-if2 : tie.Need-mul-if2 Inv-loop μ-loop
+mul-if2 c = record { fits = omega (arith, entry-in c, same-room c, start (a (r c)) .good .1 .1 .1 .0 .0) }
+
+slice-copy-out-if2 : tie.Need-slice-copy-out-if2 Inv-loop μ-loop
+slice-copy-out-if2 c = entry-in c
 
 returns-2 : tie.Need-returns-2 Inv-loop μ-loop
 returns-2 c =
+    let r = c .before .before .before .before in
+    let b = a r in
+    let i = l r .loop in
+    let f = i .from + 2 * n b in
+    let z = kept w64 (number (w₂ r) (f + u b)) (c .before .if22 .given) in
+    turn-end (E b) (2 * n b) (u b) (w₁ b) (w₀ b) (b .start-row .ensures) (w₂ r) (i .k + 1) f (more r)
+    (turn-negative (E b) (2 * n b) (u b) (w₁ b) (w₀ b) (b .start-row .ensures) (w₂ r) (i .k + 1) f (more r) (short b (i .k + 1) (omega (arith, low r))) (start b .pre .within)
+    (given (rw z at (c .if2 .taken)) (simp ints (omega zs))))
+
+loop-again : tie.Need-loop-again Inv-loop μ-loop
+loop-again c =
+    let r = c .before .before .before .before in
+    (r .next-row .kept .1 .1 .1 .0 ∙ l r .loop .inv .0, more r)
+
+returns-3 : tie.Need-returns-3 Inv-loop μ-loop
+returns-3 c =
     let i = c .before .loop in
     let b = c .before .before .before in
     let e : i .k ≡ 2 * n b = omega (arith, i .inv .1 .count, c .loop-test .left) in
-    turn-end (E b) (2 * n b) (u b) (w₁ b) (w₀ b) (b .start-row .ensures) (i .work) (i .k) (i .from) (i .inv .1) (ap (rowAt (E b) (2 * n b) (u b)) e)
+    turn-end (E b) (2 * n b) (u b) (w₁ b) (w₀ b) (b .start-row .ensures) (i .work) (i .k) (i .from) (i .inv .1) (settled (ap (rowAt (E b) (2 * n b) (u b)) e))
 
 pub rows-spec : {M : Type 1} → statement M
 rows-spec =
@@ -124,7 +163,12 @@ rows-spec =
     add-from
     (search needs)
     returns
+    add-if2
+    mul-if2
+    slice-copy-out-if2
+    (search needs)
+    returns-2
     (search needs)
     loop-again
     (search needs)
-    returns-2)
+    returns-3)

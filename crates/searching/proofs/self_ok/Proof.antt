@@ -1,14 +1,13 @@
 -- `searching::self_ok` meets its contract: no walk is stored as a number above 0, so that the stored number alone is tested.
 use mathlib.Core.Path.{ap, _∙_}
 use Prim.Native.Nat.{_+_, _*_}
-use borrow.Author.Needs.{needs}
 use denote.Ref.{now}
 use lib.IntN.{pos}
 use lib.Signed.{leZ}
 use mir.Syntax.{w64}
 use Rattle.integers.specs.Bits.{kept}
 use Rattle.lines.specs.Line.{number}
-use Rattle.searching.specs.Negative.{stored-sign}
+use Rattle.distances.specs.Read.{stored-sign}
 use Rattle.searching.proofs.self_ok.Statement.{statement}
 use Rattle.searching.proofs.self_ok.Tie as tie
 
