@@ -19,7 +19,7 @@ use Rattle.lines.specs.Line.{number}
 use Rattle.steps.specs.declared.Step.{Step}
 use Rattle.steps.specs.Step.{maxWeight}
 use Rattle.walks.specs.Distance.{Distance, none, some, minD, _⊕_, min-one, ⊕-some}
-use Rattle.walks.specs.Row.{at, relaxStep, relaxFrom, relaxRow, Along, relax-one}
+use Rattle.walks.specs.Row.{at, relaxStep, relaxFrom}
 use Rattle.walks.specs.Negative.{notBelow0}
 use Rattle.walks.specs.Size.{WithinWeights, within-more, within-sum}
 use Rattle.distances.specs.Stored.{stored, storedRow}

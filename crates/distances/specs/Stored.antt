@@ -1,6 +1,5 @@
 -- Distances as the 64-bit numbers that stand for them in the work area, and rows of them one behind the other.
-use mathlib.Core.Path.{_≡_}
-use mathlib.Core.List.{List, [], _∷_, _++_, map}
+use mathlib.Core.List.{List, [], _++_, map}
 use Prim.Native.Nat.{ℕ, zero, suc}
 use lib.IntN.{ℤ}
 use Rattle.steps.specs.declared.Step.{Step}

@@ -1,7 +1,7 @@
 -- Two tables with the same distances between the points of n variables have the same bounds, groups and first bad point.
 -- So what is read off the stored table is what the definitions say of the distances themselves.
 use mathlib.Core.Path.{_≡_, refl, ap, ap₂}
-use mathlib.Core.Bool.{Bool, not, cond, _&&_}
+use mathlib.Core.Bool.{Bool, cond, _&&_}
 use Prim.Native.Nat.{ℕ, zero, suc, _*_, _/_, _%_, _<_}
 use native.Mathlib.Omega.{arith}
 use lib.Dec.{eqb}
@@ -15,7 +15,6 @@ use Rattle.bounds.specs.Tight.{Table, halves, tight}
 use Rattle.answers.specs.Answers.{leastOf, greatestOf, boundAt, notAbove0, sameGroup, groupAt}
 use Rattle.answers.specs.Verdict.{halvesOk}
 use Rattle.outputs.specs.Lowest.{lowest-cong}
-use Rattle.outputs.specs.Bad.{firstBad}
 
 -- the same distances between the points below N
 abbrev pub Agree : ℕ → Table → Table → Type 0
@@ -55,9 +54,6 @@ module _ (n : ℕ) (D E : Table) (same : Agree (2 * n) D E) where
   ok-same p h =
       let l = opposite-below n p h in
       ap₂ (λ (a b : Distance). notBelow0 (halfD a ⊞ halfD b)) (same p (opposite p) h l) (same (opposite p) p l h)
-
-  pub bad-same : firstBad (2 * n) D ≡ firstBad (2 * n) E
-  bad-same = lowest-cong (λ p. not (halvesOk D p)) (λ p. not (halvesOk E p)) 0 (2 * n) (λ p h. ap not (ok-same p (omega arith)))
 
   pub all-ok-same : allBelow (2 * n) (halvesOk D) ≡ allBelow (2 * n) (halvesOk E)
   all-ok-same = go (2 * n) ok-same

@@ -22,7 +22,7 @@ use Rattle.walks.specs.Row.{at, rowAt, best, some-is}
 use Rattle.walks.specs.Negative.{notBelow0, is-below, negative-stays}
 use Rattle.answers.specs.Graph.{ends-points}
 use Rattle.distances.specs.Stored.{storedRows}
-use Rattle.distances.specs.Rows.{RowsReady, Stops, settled, negative, RowsDone, rows-length}
+use Rattle.distances.specs.Rows.{Stops, settled, negative, RowsDone, rows-length}
 use Rattle.distances.specs.Table.{tableStart}
 use Rattle.walkback.specs.WalkBack.{RowsStand, Walked}
 
@@ -63,9 +63,6 @@ module _ (n : ℕ) (L : List ℤ) (u v : ℕ) (w : List ℤ) (ready : WalkReady 
 
   abbrev m : ℕ
   m = 2 * n
-
-  pub rows-ready : RowsReady n u L w
-  rows-ready = record { few = ready .few; valid = ready .valid; within = ready .within; room = omega (arith, ready .room) }
 
   module _ (w₁ : List ℤ) (top : ℕ) (d : RowsDone E m u w w₁ top) where
     front : suc top * m ≤ tableStart m

@@ -4,7 +4,7 @@ use refutation::HEAD_SIZE;
 use steps::opposite_of;
 use walkback::walk_back;
 ghost use mathlib.Core.Path.{_≡_};
-ghost use mathlib.Core.List.{List, [], _∷_, _++_};
+ghost use mathlib.Core.List.{_∷_};
 ghost use Prim.Native.Nat.{_+_, _*_, _<_, _≤_};
 ghost use lib.ListN.{length, drop};
 ghost use Rattle.lines.specs.Limits.{maxLines};

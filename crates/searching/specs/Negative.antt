@@ -1,8 +1,8 @@
 -- The first point whose distance to itself is below 0, and what the number found says.
-use mathlib.Core.Path.{_≡_, refl, sym, ap, ap₂, _∙_}
+use mathlib.Core.Path.{_≡_, sym, _∙_}
 use mathlib.Core.Logic.{_⊎_, inl, inr, _↔_}
-use mathlib.Core.Bool.{Bool, true, false, not, _&&_}
-use Prim.Native.Nat.{ℕ, zero, suc, _+_, _<_}
+use mathlib.Core.Bool.{true, false, not}
+use Prim.Native.Nat.{ℕ, _+_, _<_}
 use native.Mathlib.Omega.{arith}
 use borrow.Author.Tests.{not-true, not-false}
 use Rattle.integers.specs.Laws.{never}
@@ -10,8 +10,7 @@ use Rattle.integers.specs.Table.{allBelow, below-at, below-all}
 use Rattle.walks.specs.Negative.{notBelow0}
 use Rattle.bounds.specs.Tight.{Table}
 use Rattle.answers.specs.Answers.{lowest}
-use Rattle.outputs.specs.Lowest.{Passed, NonePassed, lowest-known, lowest-cong}
-use Rattle.outputs.specs.Agree.{Agree}
+use Rattle.outputs.specs.Lowest.{Passed, NonePassed, lowest-known}
 
 -- the lowest of the points below N whose distance to itself is below 0, or N
 abbrev pub firstNegative : ℕ → Table → ℕ

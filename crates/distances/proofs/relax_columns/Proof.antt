@@ -1,16 +1,13 @@
 -- `distances::relax_columns` meets its contract. The invariant: the step was gone in the columns 0 to j - 1.
-use mathlib.Core.Path.{_≡_, refl, ap, _∙_}
-use mathlib.Core.List.{List}
-use Prim.Native.Nat.{ℕ, _+_, _*_, _-_, _<_, _≤_}
+use mathlib.Core.Path.{_≡_, refl, _∙_}
+use Prim.Native.Nat.{_-_}
 use native.Mathlib.Omega.{arith}
 use borrow.Author.Needs.{needs}
 use denote.Ref.{now}
-use lib.IntN.{ℤ}
 use lib.ListN.{length}
 use mir.Syntax.{w64}
 use mir.Val.{toZ, ofZ}
 use mir.Facts.{toZ-ofZ}
-use Rattle.steps.specs.declared.Step.{Step}
 use Rattle.distances.specs.Read.{weight-fits}
 use Rattle.distances.specs.Relax.{Across, across-start, across-length, across-short, across-more, across-end}
 use Rattle.distances.proofs.relax_columns.Statement.{statement}

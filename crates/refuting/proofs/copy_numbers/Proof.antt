@@ -1,15 +1,13 @@
 -- `refuting::copy_numbers` meets its contract. The invariant: the first i numbers are copied.
-use mathlib.Core.Path.{_≡_, refl, sym, ap, ap₂, _∙_}
+use mathlib.Core.Path.{_≡_, refl, ap, ap₂, _∙_}
 use mathlib.Core.List.{List}
 use Prim.Native.Nat.{ℕ, _+_, _*_, _-_, _≤_, _<_}
 use native.Mathlib.Omega.{arith}
 use borrow.Author.Needs.{needs}
 use lib.IntN.{ℤ, pos, natAbs}
 use lib.ListN.{length, set, length-set}
-use lib.Signed.{yes-nonNeg}
 use mir.Syntax.{w64}
-use mir.Val.{SFits, ofZ, toZ}
-use mir.Facts.{toZ-ofZ}
+use mir.Val.{ofZ, toZ}
 use Rattle.integers.specs.Bits.{kept}
 use Rattle.lines.specs.Limits.{maxLines}
 use Rattle.lines.specs.Line.{number}

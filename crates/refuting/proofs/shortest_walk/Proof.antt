@@ -1,7 +1,7 @@
 -- `refuting::shortest_walk` meets its contract: the rows of u, then the walk read back from them.
-use mathlib.Core.Path.{_≡_, refl}
+use mathlib.Core.Path.{refl}
 use borrow.Author.Needs.{needs}
-use Rattle.refuting.specs.Shortest.{rows-ready, rows-stand, walk-found}
+use Rattle.refuting.specs.Shortest.{rows-stand, walk-found}
 use Rattle.refuting.proofs.shortest_walk.Statement.{statement}
 use Rattle.refuting.proofs.shortest_walk.Tie as tie
 

@@ -1,9 +1,6 @@
 -- `refuting::write_halves` meets its contract: the two walks are written one behind the other, then the head.
-use mathlib.Core.Path.{_≡_, sym, subst}
-use Prim.Native.Nat.{ℕ, _+_}
 use borrow.Author.Needs.{needs}
 use Rattle.steps.specs.Point.{opposite}
-use Rattle.refuting.specs.Written.{WriteReady, WalkWritten}
 use Rattle.refuting.specs.Refutation.{first-ready, second-ready, halves-written}
 use Rattle.refuting.proofs.write_halves.Statement.{statement}
 use Rattle.refuting.proofs.write_halves.Tie as tie

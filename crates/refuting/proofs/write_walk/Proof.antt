@@ -1,5 +1,4 @@
 -- `refuting::write_walk` meets its contract: a walk is found, and its numbers are copied.
-use mathlib.Core.Path.{_≡_, refl}
 use native.Mathlib.Omega.{arith}
 use borrow.Author.Needs.{needs}
 use Rattle.refuting.specs.Written.{numbers-fit, numbers-small, walk-written}
