@@ -2,7 +2,6 @@
 use mathlib.Core.Path.{sym, ap, _∙_}
 use mathlib.Core.Bool.{Bool, cond}
 use native.Mathlib.Omega.{arith}
-use borrow.Author.Needs.{needs}
 use mir.Syntax.{w64}
 use mir.Val.{ofZ}
 use mir.Facts.{toZ-ofZ}
@@ -34,4 +33,4 @@ returns-2 c =
     (q .put-signed .ensures)
 
 pub put-bound-spec : {M : Type 1} → statement M
-put-bound-spec = tie.close (tie.spec (search needs) (search needs) returns (search needs) (search needs) returns-2)
+put-bound-spec = tie.close (tie.spec (λ c. omega arith) (λ c. omega arith) returns (λ c. omega arith) (λ c. omega arith) returns-2)

@@ -2,7 +2,6 @@
 use mathlib.Core.Path.{ap}
 use Prim.Native.Nat.{_≤_}
 use native.Mathlib.Omega.{arith}
-use borrow.Author.Needs.{needs}
 use denote.Ref.{now}
 use lib.ListN.{length}
 use mir.Facts.{toZ-ofZ}
@@ -25,4 +24,4 @@ returns c =
     wider (omega arith) (then h (then h (then h least (p2 .put-byte .ensures)) greatest) (p4 .put-byte2 .ensures))
 
 pub put-bounds-spec : {M : Type 1} → statement M
-put-bounds-spec = tie.close (tie.spec (search needs) (search needs) (search needs) (search needs) (search needs) returns)
+put-bounds-spec = tie.close (tie.spec (λ c. omega arith) (λ c. omega arith) (λ c. omega arith) (λ c. omega arith) (λ c. omega arith) returns)

@@ -15,4 +15,4 @@ returns c =
     is-put 1 (a .at) (a .byte ∷ []) (now (a .out)) _ _ (byte-put (now (a .out)) (a .at) (a .byte) (omega arith)) refl (omega arith) (c .pre)
 
 pub put-byte-spec : {M : Type 1} → statement M
-put-byte-spec = tie.close (tie.spec (search needs) (search needs) (search needs) returns)
+put-byte-spec = tie.close (tie.spec (λ c. omega arith) (λ c. omega arith) (search needs) returns)

@@ -2,7 +2,6 @@
 use mathlib.Core.Path.{_≡_, _∙_}
 use Prim.Native.Nat.{_≤_}
 use native.Mathlib.Omega.{arith}
-use borrow.Author.Needs.{needs}
 use lib.ListN.{length, take, length-take}
 use Rattle.report.specs.Text.{decimalOf}
 use Rattle.report.specs.Decimal.{decimal-is, few}
@@ -31,4 +30,4 @@ returns c =
     same (is k) (wider (short k) (p .put-text .ensures))
 
 pub put-decimal-spec : {M : Type 1} → statement M
-put-decimal-spec = tie.close (tie.spec (search needs) (search needs) (search needs) put-text-requires (search needs) returns)
+put-decimal-spec = tie.close (tie.spec (λ c. omega arith) (λ c. omega arith) (λ c. omega arith) put-text-requires (λ c. omega arith) returns)

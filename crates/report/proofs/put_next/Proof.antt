@@ -1,7 +1,6 @@
 -- `report::put_next` meets its contract.
 use Prim.Native.Nat.{_≤_}
 use native.Mathlib.Omega.{arith}
-use borrow.Author.Needs.{needs}
 use denote.Ref.{now}
 use lib.ListN.{length}
 use Rattle.report.specs.Put.{then, wider, same}
@@ -26,4 +25,4 @@ returns-2 c =
     same (next-later (a .i) (a .number) (t .if1 .left)) (wider (omega arith) (then h (p .put-byte .ensures) (q .put-decimal2 .ensures)))
 
 pub put-next-spec : {M : Type 1} → statement M
-put-next-spec = tie.close (tie.spec (search needs) (search needs) returns (search needs) (search needs) (search needs) returns-2)
+put-next-spec = tie.close (tie.spec (λ c. omega arith) (λ c. omega arith) returns (λ c. omega arith) (λ c. omega arith) (λ c. omega arith) returns-2)

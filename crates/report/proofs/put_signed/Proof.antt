@@ -3,7 +3,6 @@ use mathlib.Core.Path.{ap, _∙_}
 use mathlib.Core.List.{_++_}
 use Prim.Native.Nat.{ℕ, _≤_}
 use native.Mathlib.Omega.{arith}
-use borrow.Author.Needs.{needs}
 use denote.Ref.{now}
 use lib.IntN.{ℤ, pos, natAbs}
 use lib.ListN.{length}
@@ -55,12 +54,12 @@ pub put-signed-spec : {M : Type 1} → statement M
 put-signed-spec =
     tie.close
     (tie.spec
-    (search needs)
+    (λ c. omega arith)
     magnitude-requires
-    (search needs)
-    (search needs)
+    (λ c. omega arith)
+    (λ c. omega arith)
     returns
     cast-put-decimal
-    (search needs)
-    (search needs)
+    (λ c. omega arith)
+    (λ c. omega arith)
     returns-2)
