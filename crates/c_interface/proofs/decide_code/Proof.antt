@@ -1,6 +1,6 @@
 -- `c_interface::decide_code` meets its contract.
 use mathlib.Core.Path.{_≡_, sym, ap, subst, _∙_}
-use borrow.Author.Needs.{needs}
+use native.Mathlib.Omega.{arith}
 use mir.Syntax.{w64}
 use Rattle.integers.specs.Bits.{kept}
 use Rattle.decide.specs.Places.{Below}
@@ -24,10 +24,10 @@ pub decide-code-spec : {M : Type 1} → statement M
 decide-code-spec =
     tie.close
     (tie.spec
-    (search needs)
-    (search needs)
-    (search needs)
-    (search needs)
+    (λ c. omega arith)
+    (λ c. omega arith)
+    (λ c. omega arith)
+    (λ c. omega arith)
     refusal-code-requires
     returns
     returns-2

@@ -2,7 +2,6 @@
 use mathlib.Core.Path.{_≡_, sym, ap, subst, _∙_}
 use native.Mathlib.Omega.{arith}
 use Prim.Native.Nat.{_<_}
-use borrow.Author.Needs.{needs}
 use mir.Syntax.{w64}
 use mir.Facts.{toZ-pos}
 use Rattle.integers.specs.Bits.{kept}
@@ -36,11 +35,11 @@ pub model-code-spec : {M : Type 1} → statement M
 model-code-spec =
     tie.close
     (tie.spec
-    (search needs)
-    (search needs)
+    (λ c. omega arith)
+    (λ c. omega arith)
     add-result
     cast-result
-    (search needs)
+    (λ c. omega arith)
     refusal-code-requires
     returns
     returns-2

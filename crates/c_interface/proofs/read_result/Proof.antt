@@ -1,7 +1,7 @@
 -- `c_interface::read_result` meets its contract.
 use mathlib.Core.Path.{_≡_, sym, ap, ap₂, _∙_}
 use Prim.Native.Nat.{ℕ}
-use borrow.Author.Needs.{needs}
+use native.Mathlib.Omega.{arith}
 use Rattle.c_interface.specs.declared.FileRead.{FileRead}
 use Rattle.c_interface.specs.Files.{fileRead}
 use Rattle.c_interface.proofs.read_result.Statement.{statement}
@@ -16,4 +16,4 @@ returns-2 c =
     ap₂ (λ (x y : ℕ). record { refusal = x; place = y; n = 0; lines = 0 }) (n .file-number .ensures) (c .file-place .ensures) ∙ ap fileRead (sym (n .before .before .a2 .given .1))
 
 pub read-result-spec : {M : Type 1} → statement M
-read-result-spec = tie.close (tie.spec (search needs) (search needs) (search needs) (search needs) returns returns-2)
+read-result-spec = tie.close (tie.spec (λ c. omega arith) (λ c. omega arith) (λ c. omega arith) (λ c. omega arith) returns returns-2)

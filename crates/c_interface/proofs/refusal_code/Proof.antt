@@ -2,7 +2,6 @@
 use mathlib.Core.Path.{_≡_, refl, ap, ap₂, _∙_}
 use Prim.Native.Nat.{ℕ, _+_, _*_, _^_, _<_}
 use native.Mathlib.Omega.{arith}
-use borrow.Author.Needs.{needs}
 use lib.IntN.{pos, negℤ}
 use mir.Syntax.{w64}
 use mir.Facts.{toZ-pos}
@@ -39,4 +38,4 @@ unfolding refusalCode
 returns c = rw (toZ-pos w64 (small c)) (minus-is (code c) (small c) ∙ ap (λ (n : ℕ). negℤ (pos n)) (code-is c))
 
 pub refusal-code-spec : {M : Type 1} → statement M
-refusal-code-spec = tie.close (tie.spec (search needs) mul-code (search needs) add-code cast-result sub-result returns)
+refusal-code-spec = tie.close (tie.spec (λ c. omega arith) mul-code (λ c. omega arith) add-code cast-result sub-result returns)

@@ -1,6 +1,6 @@
 -- `c_interface::refutation_of_numbers` meets its contract.
 use mathlib.Core.Path.{_≡_, ap, _∙_}
-use borrow.Author.Needs.{needs}
+use native.Mathlib.Omega.{arith}
 use borrow.Author.Tests.{lt-ltb, le-ltb, eq-eqb, ne-eqb}
 use Rattle.little_endian.specs.Bytes.{nat32s}
 use Rattle.pieces.specs.Taken.{endAnswer}
@@ -27,4 +27,4 @@ returns-3 c =
     (c .end .ensures ∙ ap (endAnswer (s .args .n) (s .args .list .now)) (t .take-bytes .ensures .0) ∙ whole (s .args .n) (s .args .list .now) (nat32s (s .args .refutation .now)) (t .take-bytes .ensures .1))
 
 pub refutation-of-numbers-spec : {M : Type 1} → statement M
-refutation-of-numbers-spec = tie.close (tie.spec (search needs) returns returns-2 (search needs) (search needs) returns-3)
+refutation-of-numbers-spec = tie.close (tie.spec (λ c. omega arith) returns returns-2 (λ c. omega arith) (λ c. omega arith) returns-3)

@@ -1,6 +1,6 @@
 -- `c_interface::utvpi_decide` meets its contract.
 use mathlib.Core.Path.{_≡_, _∙_}
-use borrow.Author.Needs.{needs}
+use native.Mathlib.Omega.{arith}
 use mir.Syntax.{w64}
 use Rattle.integers.specs.Bits.{kept}
 use Rattle.c_interface.specs.Laws.{decided-below, decide-returns}
@@ -21,11 +21,11 @@ pub utvpi-decide-spec : {M : Type 1} → statement M
 utvpi-decide-spec =
     tie.close
     (tie.spec
-    (search needs)
+    (λ c. omega arith)
     decide-code-requires
-    (search needs)
-    (search needs)
-    (search needs)
-    (search needs)
-    (search needs)
+    (λ c. omega arith)
+    (λ c. omega arith)
+    (λ c. omega arith)
+    (λ c. omega arith)
+    (λ c. omega arith)
     returns)

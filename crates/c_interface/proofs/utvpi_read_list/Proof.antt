@@ -1,6 +1,6 @@
 -- `c_interface::utvpi_read_list` meets its contract.
 use mathlib.Core.Path.{_≡_}
-use borrow.Author.Needs.{needs}
+use native.Mathlib.Omega.{arith}
 use Rattle.c_interface.specs.Files.{read-returns}
 use Rattle.c_interface.proofs.utvpi_read_list.Statement.{statement}
 use Rattle.c_interface.proofs.utvpi_read_list.Tie as tie
@@ -9,4 +9,4 @@ returns : tie.Need-returns
 returns c = read-returns (c .before .before .read-list .ensures) _ (c .read-result .ensures)
 
 pub utvpi-read-list-spec : {M : Type 1} → statement M
-utvpi-read-list-spec = tie.close (tie.spec (search needs) (search needs) (search needs) returns)
+utvpi-read-list-spec = tie.close (tie.spec (λ c. omega arith) (λ c. omega arith) (λ c. omega arith) returns)

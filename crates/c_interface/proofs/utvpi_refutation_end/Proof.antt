@@ -1,6 +1,6 @@
 -- `c_interface::utvpi_refutation_end` meets its contract.
 use mathlib.Core.Path.{_≡_, ap, _∙_}
-use borrow.Author.Needs.{needs}
+use native.Mathlib.Omega.{arith}
 use mir.Syntax.{w64}
 use Rattle.integers.specs.Bits.{kept}
 use Rattle.c_interface.specs.Codes.{refutationCode}
@@ -15,4 +15,4 @@ returns : tie.Need-returns
 returns c = kept w64 (c .refutation-code .result) (c .refutation-code .ok) ∙ c .refutation-code .ensures ∙ ap refutationCode (c .before .end .ensures)
 
 pub utvpi-refutation-end-spec : {M : Type 1} → statement M
-utvpi-refutation-end-spec = tie.close (tie.spec (search needs) refutation-code-requires returns)
+utvpi-refutation-end-spec = tie.close (tie.spec (λ c. omega arith) refutation-code-requires returns)

@@ -1,6 +1,6 @@
 -- `c_interface::utvpi_write_list` meets its contract.
 use mathlib.Core.Path.{_≡_}
-use borrow.Author.Needs.{needs}
+use native.Mathlib.Omega.{arith}
 use Rattle.c_interface.specs.Files.{write-returns}
 use Rattle.c_interface.proofs.utvpi_write_list.Statement.{statement}
 use Rattle.c_interface.proofs.utvpi_write_list.Tie as tie
@@ -9,4 +9,4 @@ returns : tie.Need-returns
 returns c = write-returns (c .before .before .before .write-list .ensures) _ (c .write-result .ensures)
 
 pub utvpi-write-list-spec : {M : Type 1} → statement M
-utvpi-write-list-spec = tie.close (tie.spec (search needs) (search needs) (search needs) returns)
+utvpi-write-list-spec = tie.close (tie.spec (λ c. omega arith) (λ c. omega arith) (λ c. omega arith) returns)
