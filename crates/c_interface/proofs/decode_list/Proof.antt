@@ -4,10 +4,10 @@ use mathlib.Core.List.{List}
 use Prim.Native.Nat.{ℕ, _/_, _-_}
 use native.Mathlib.Omega.{arith}
 use borrow.Author.Tests.{lt-ltb, le-ltb, ne-eqb}
-use lib.IntN.{ℤ}
 use lib.ListN.{length, take}
 use lib.Seq.{take-at}
 use Rattle.integers.specs.Laws.{never}
+use Rattle.lines.specs.Limits.{maxVariables}
 use Rattle.lines.specs.Refusal.{validityOf}
 use Rattle.little_endian.specs.Bytes.{int32, int32s, length-firstOf}
 use Rattle.c_interface.specs.Calls.{numberBytes, bytesValidity}
@@ -17,7 +17,7 @@ use Rattle.c_interface.proofs.decode_list.Tie as tie
 
 returns : tie.Need-returns
 unfolding bytesValidity
-returns c = record { answer = rw (lt-ltb _ _ (c .if1 .taken)); numbers = λ e. never (cc) }
+returns c = record { answer = rw (lt-ltb maxVariables _ (c .if1 .taken)); numbers = λ e. never (cc) }
 
 returns-2 : tie.Need-returns-2
 unfolding bytesValidity

@@ -1,7 +1,7 @@
 -- `c_interface::model_of_values` meets its contract.
 use mathlib.Core.Path.{_≡_, ap, ap₂, _∙_}
 use mathlib.Core.List.{List}
-use Prim.Native.Nat.{ℕ, _/_, _-_}
+use Prim.Native.Nat.{ℕ, _*_, _/_, _-_}
 use native.Mathlib.Omega.{arith}
 use borrow.Author.Tests.{eq-eqb, ne-eqb}
 use lib.IntN.{ℤ}
@@ -15,7 +15,7 @@ use Rattle.c_interface.proofs.model_of_values.Tie as tie
 
 returns : tie.Need-returns
 unfolding modelOfValues
-returns c = rw (ne-eqb _ _ (c .if1 .taken))
+returns c = rw (ne-eqb _ (valueBytes * c .before .before .args .n) (c .if1 .taken))
 
 returns-2 : tie.Need-returns-2
 unfolding modelOfValues

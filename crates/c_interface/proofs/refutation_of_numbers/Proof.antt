@@ -1,21 +1,24 @@
 -- `c_interface::refutation_of_numbers` meets its contract.
 use mathlib.Core.Path.{_≡_, ap, _∙_}
+use Prim.Native.Nat.{_*_, _%_}
 use native.Mathlib.Omega.{arith}
 use borrow.Author.Tests.{lt-ltb, le-ltb, eq-eqb, ne-eqb}
+use lib.ListN.{length}
+use Rattle.lines.specs.Limits.{maxRefutation}
 use Rattle.little_endian.specs.Bytes.{nat32s}
 use Rattle.pieces.specs.Taken.{endAnswer}
 use Rattle.pieces.specs.Cut.{whole}
-use Rattle.c_interface.specs.Calls.{refutationOfNumbers}
+use Rattle.c_interface.specs.Calls.{numberBytes, refutationOfNumbers}
 use Rattle.c_interface.proofs.refutation_of_numbers.Statement.{statement}
 use Rattle.c_interface.proofs.refutation_of_numbers.Tie as tie
 
 returns : tie.Need-returns
 unfolding refutationOfNumbers
-returns c = rw (lt-ltb _ _ (c .if1 .taken))
+returns c = rw (lt-ltb (numberBytes * maxRefutation) _ (c .if1 .taken))
 
 returns-2 : tie.Need-returns-2
 unfolding refutationOfNumbers
-returns-2 c = rw (le-ltb _ _ (c .before .if1 .left), ne-eqb _ _ (c .if2 .taken))
+returns-2 c = rw (le-ltb _ _ (c .before .if1 .left), ne-eqb (length (c .before .before .before .args .refutation .now) % numberBytes) 0 (c .if2 .taken))
 
 returns-3 : tie.Need-returns-3
 unfolding refutationOfNumbers
