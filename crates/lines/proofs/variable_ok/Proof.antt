@@ -1,7 +1,9 @@
 -- `lines::variable_ok` meets its contract.
-use mathlib.Core.Path.{ap}
+use mathlib.Core.Path.{_≡_, ap}
+use mathlib.Core.Bool.{true, false}
 use borrow.Author.Needs.{needs}
 use lib.IntN.{pos}
+use lib.Signed.{leZ}
 use mir.Syntax.{w32}
 use mir.Val.{ofZ}
 use mir.Facts.{toZ-ofZ, toZ-pos}
@@ -25,14 +27,14 @@ returns-2 : tie.Need-returns-2
 unfolding variableOk
 returns-2 c =
     let s = c .before .before in
-    let t = rw (toZ-ofZ (s .fits .x)) at (c .if2 .taken) in
+    let t : leZ (pos 0) (s .args .x) ≡ true = rw (toZ-ofZ (s .fits .x)) at (c .if2 .taken) in
     rw (ne-eqZ (s .args .a) (pos 0) (λ q. c .before .if1 .left (ap (ofZ w32) q)), t, toZ-ofZ (s .fits .x), toZ-pos w32 {n = s .args .n} (omega arith))
 
 returns-3 : tie.Need-returns-3
 unfolding variableOk
 returns-3 c =
     let s = c .before .before in
-    let t = rw (toZ-ofZ (s .fits .x)) at (c .if2 .left) in
+    let t : leZ (pos 0) (s .args .x) ≡ false = rw (toZ-ofZ (s .fits .x)) at (c .if2 .left) in
     rw (ne-eqZ (s .args .a) (pos 0) (λ q. c .before .if1 .left (ap (ofZ w32) q)), toZ-ofZ (s .fits .x), t)
 
 pub variable-ok-spec : {M : Type 1} → statement M
