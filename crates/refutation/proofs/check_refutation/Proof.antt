@@ -55,7 +55,7 @@ module _ (c : tie.After-enum-told) where
   valid = ap (answerAfter v) (sym (c .enum-told .given .1)) ∙ answered v
 
 returns-2 : tie.Need-returns-2
-returns-2 c = rw (lt-ltb _ _ (c .if1 .taken)) at (valid (c .before))
+returns-2 c = rw (lt-ltb maxRefutation _ (c .if1 .taken)) at (valid (c .before))
 
 read-all-requires : tie.Need-read-all-requires
 read-all-requires c κs =

@@ -21,7 +21,10 @@ returns c = rw (eq-eqb _ _ (c .if1 .taken))
 
 returns-2 : tie.Need-returns-2
 unfolding closes
-returns-2 c = rw (ne-eqb _ _ (c .before .before .if1 .left), ne-eqb _ _ (c .if2 .taken))
+returns-2 c =
+    let e = c .before .before in
+    let p = e .before .before .args .self in
+    rw (ne-eqb _ _ (e .if1 .left), ne-eqb (p .here) (p .u) (c .if2 .taken))
 
 returns-3 : tie.Need-returns-3
 unfolding closes
