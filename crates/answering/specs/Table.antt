@@ -1,20 +1,19 @@
 -- The stored table of a valid list holds the distances themselves: so the model, bounds and groups read off it are those of the definitions.
 use mathlib.Core.Path.{_≡_, ap, ap₂, _∙_}
 use mathlib.Core.Bool.{true}
-use mathlib.Core.List.{List, [], _∷_}
+use mathlib.Core.List.{List}
 use Prim.Native.Nat.{ℕ, _*_, _<_, _≤_}
 use native.Mathlib.Nat.{mul-le-mul-right}
 use native.Mathlib.Omega.{arith}
-use lib.IntN.{ℤ, pos, negℤ, natAbs}
-use Rattle.integers.specs.Integer.{_⩽_, Within}
-use Rattle.integers.specs.Linear.{ints}
+use lib.IntN.{ℤ, natAbs}
+use Rattle.integers.specs.Integer.{Within}
+use Rattle.integers.specs.Laws.{abs-within}
 use Rattle.integers.specs.Sequence.{tabulate, tabulate-cong}
-use Rattle.lines.specs.declared.Line.{Line}
 use Rattle.lines.specs.declared.Validity.the-variants.{Valid}
 use Rattle.lines.specs.Limits.{maxVariables, maxConstant}
 use Rattle.lines.specs.Line.{linesOf, assignmentOf}
 use Rattle.lines.specs.Refusal.{validityOf}
-use Rattle.lines.specs.Valid.{LinesOk, AllOk, valid-list}
+use Rattle.lines.specs.Valid.{LinesOk, valid-list}
 use Rattle.steps.specs.Point.{opposite}
 use Rattle.steps.specs.Step.{stepsOf}
 use Rattle.walks.specs.Distance.{Distance, minD, _⊞_, halfD}
@@ -26,7 +25,7 @@ use Rattle.bounds.specs.Table.{tableModel}
 use Rattle.answers.specs.Answers.{modelOf, boundAt, boundsOf, groupAt, groupsOf}
 use Rattle.answers.specs.Verdict.{distances, verdictOf}
 use Rattle.answers.specs.Meaning.{model-is-model, model-value}
-use Rattle.answers.specs.Small.{AllAbove, model-small}
+use Rattle.answers.specs.Small.{all-above, model-small}
 use Rattle.answers.specs.Decided.{lines-ok}
 use Rattle.distances.specs.Read.{distanceOf, short-more}
 use Rattle.distances.specs.Table.{storedTable, table-length, stored-at, best-short}
@@ -83,20 +82,8 @@ module _ (n : ℕ) (L : List ℤ) (few : n ≤ maxVariables) (ok : LinesOk n L) 
   groups-agree = groups-same n D (distances n (linesOf L)) agree
 
 -- ---- on a yes, the model's values are small
-all-above : (n : ℕ) (ls : List Line) → AllOk n ls → AllAbove maxConstant ls
-all-above n [] ok = tt
-all-above n (l ∷ ls) ok = (ok .0 .constant .low, all-above n ls (ok .1))
-
 small-within : (n : ℕ) (z : ℤ) → n ≤ maxVariables → natAbs z ≤ n * maxConstant → Within maxModel z
-small-within n z l h =
-    let k : natAbs z ≤ maxModel = omega (arith, mul-le-mul-right maxConstant l) in
-    record { low = low maxModel z k; high = high maxModel z k }
-  where
-    low : (m : ℕ) (z : ℤ) → natAbs z ≤ m → negℤ (pos m) ⩽ z
-    low m z = simp ints (omega arith)
-
-    high : (m : ℕ) (z : ℤ) → natAbs z ≤ m → z ⩽ pos m
-    high m z = simp ints (omega arith)
+small-within n z l h = abs-within maxModel z (omega (arith, mul-le-mul-right maxConstant l))
 
 module _ (n : ℕ) (L : List ℤ) (valid : validityOf n L ≡ Valid) (yes-verdict : verdictOf n (linesOf L) ≡ true) where
   pub model-ready : (k : ℕ) → k < n → Within maxModel (tableModel n (tableOf (2 * n) (tableFor n L)) k)

@@ -1,15 +1,14 @@
 -- The verdict is yes exactly if the list has a solution, and no exactly if the checker accepts some refutation: then it accepts one of the due kind.
-use mathlib.Core.Path.{_≡_, refl}
+use mathlib.Core.Path.{_≡_, refl, ap, _∙_}
 use mathlib.Core.Logic.{_↔_}
 use mathlib.Core.Bool.{Bool, true, false, cond}
-use mathlib.Core.List.{List}
-use Prim.Native.Nat.{ℕ, _*_}
+use mathlib.Core.List.{List, [], _∷_}
+use Prim.Native.Nat.{ℕ, _*_, _<_}
 use native.Mathlib.Omega.{arith}
 use lib.IntN.{ℤ}
-use lib.ListN.{length}
 use Rattle.integers.specs.Laws.{never}
 use Rattle.lines.specs.declared.Validity.the-variants.{Valid}
-use Rattle.lines.specs.Line.{linesOf, assignmentOf, Solvable}
+use Rattle.lines.specs.Line.{lineAt, lineCount, linesOf, assignmentOf, Solvable, isFalse}
 use Rattle.lines.specs.Refusal.{validityOf}
 use Rattle.lines.specs.Valid.{ListOk, AllOk, valid-list, all-ok}
 use Rattle.steps.specs.Step.{stepsOf}
@@ -18,11 +17,17 @@ use Rattle.refutation.specs.declared.RefutationAnswer.the-variants.{Yes}
 use Rattle.refutation.specs.Answer.{refutationAnswer}
 use Rattle.soundness.specs.Refutes.{Closed, Falsehood}
 use Rattle.soundness.specs.Answered.{accepted-when, answers-no-solvable}
-use Rattle.answers.specs.Graph.{line-at, ends-points, named-steps}
-use Rattle.answers.specs.Verdict.{hasFalse, no-false, verdictOf, dueKind}
-use Rattle.answers.specs.Refuted.{Due, falsehood, closed-walk, due-refutation}
+use Rattle.answers.specs.Graph.{line-at, at-line, ends-points, named-steps}
+use Rattle.answers.specs.Verdict.{hasFalse, no-false, firstFalse, lowest-false, verdictOf, dueKind}
+use Rattle.answers.specs.Refuted.{Due, kind-false, falsehood, closed-walk, due-refutation}
 use Rattle.answers.specs.Answers.{modelOf}
 use Rattle.answers.specs.Meaning.{model-is-model}
+
+-- line k is the lowest false line
+pub record LowestFalseLine (L : List ℤ) (k : ℕ) : Type 0 where
+  pub within : k < lineCount L
+  pub false-line : isFalse (lineAt L k) ≡ true
+  pub lowest : (j : ℕ) → j < k → isFalse (lineAt L j) ≡ false
 
 -- which kind is due, by the checker's rule
 abbrev pub Some : (List ℕ → Type 0) → Type 0
@@ -75,6 +80,21 @@ module _ (n : ℕ) (L : List ℤ) (valid : validityOf n L ≡ Valid) where
       go : (b : Bool) → hasFalse (linesOf L) ≡ b → {R : List ℕ} → Falsehood L R → b ≡ true
       go true e f = refl
       go false e f = absurd (no-false (linesOf L) e (f .line) _ (line-at L (f .line) (f .within)) (f .false-line))
+
+  -- where some line is false, a due refutation names the lowest
+  pub names-the-lowest : (R : List ℕ) → Due n L R → (j : ℕ) → j < lineCount L → isFalse (lineAt L j) ≡ true → (k : ℕ) × LowestFalseLine L k × (R ≡ 3 ∷ 1 ∷ 0 ∷ 2 * k ∷ [])
+  names-the-lowest R d j h f = go (hasFalse (linesOf L)) refl
+    where
+      go : (b : Bool) → hasFalse (linesOf L) ≡ b → (k : ℕ) × LowestFalseLine L k × (R ≡ 3 ∷ 1 ∷ 0 ∷ 2 * k ∷ [])
+      go false e = absurd (no-false (linesOf L) e j _ (line-at L j h) f)
+      go true e =
+          let k = firstFalse 0 (linesOf L) in
+          let l = lowest-false (linesOf L) e in
+          let a = at-line L k (l .line) (l .at) in (
+            k,
+            record { within = a .0; false-line = ap isFalse (a .1) ∙ l .false-line; lowest = λ i q. l .before i (lineAt L i) q (line-at L i (omega (arith, a .0))) },
+            d .lowest (kind-false n (linesOf L) e),
+          )
 
   has-closed : (noNegative (stepsOf (linesOf L)) (2 * n) ≡ false) ↔ Some (Closed L)
   has-closed = ((λ e. closed-walk n L e), (λ c. found (c .1)))

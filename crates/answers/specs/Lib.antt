@@ -8,5 +8,6 @@ pub mod Solved
 pub mod Meaning
 pub mod Decided
 pub mod Unique
+pub mod Absent
 pub mod Longer
-pub mod Cases
+pub mod Same

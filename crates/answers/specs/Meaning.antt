@@ -22,7 +22,7 @@ use Rattle.walks.specs.Distance.{Distance, none, some, _⊑_, some-le, le-some}
 use Rattle.bounds.specs.Points.{variableOf, value-cong, variable-below}
 use Rattle.bounds.specs.Tight.{Table, halves, tight}
 use Rattle.bounds.specs.Table.{ClosedTable, Solution, tableModel, model-solves, model-nearest, model-unique, consecutive, greatest, no-greatest, least, no-least, grouped}
-use Rattle.answers.specs.Semantics.{Agrees, IsModel, Together, IsGroup, LeastWritten, GreatestWritten, Written}
+use Rattle.answers.specs.Semantics.{Agrees, IsModel, Together, IsGroup, LeastWritten, GreatestWritten, Written, NoGreatest, NoLeast}
 use Rattle.answers.specs.Verdict.{distances, verdictOf}
 use Rattle.answers.specs.Answers.{modelOf, greatestOf, leastOf, boundAt, boundsOf, lowest, notAbove0, sameGroup, groupAt, groupsOf}
 use Rattle.answers.specs.Solved.{Verdicts, verdict-yes, to-table, of-table, closed-table}
@@ -110,6 +110,13 @@ module _ (n : ℕ) (ls : List Line) (ok : AllOk n ls) (yes-verdict : verdictOf n
       (w .0, table-solves (w .0) (w .1), w .2, w .3)
 
   -- ---- bounds
+  -- where no walk limits a variable there is no bound
+  pub none-greatest : (x : ℕ) → x < n → halves D (point x 0) ≡ none → NoGreatest ls x
+  none-greatest x h e = record { beyond = λ z. let g = no-greatest n D closed x h e z in (g .0, table-solves (g .0) (g .1), g .2) }
+
+  pub none-least : (x : ℕ) → x < n → halves D (point x 1) ≡ none → NoLeast ls x
+  none-least x h e = record { beyond = λ z. let g = no-least n D closed x h e z in (g .0, table-solves (g .0) (g .1), g .2) }
+
   pub greatest-written : (x : ℕ) → x < n → GreatestWritten ls x (greatestOf (halves D (point x 0)))
   greatest-written x h = go (halves D (point x 0)) refl
     where
@@ -117,7 +124,7 @@ module _ (n : ℕ) (ls : List Line) (ok : AllOk n ls) (yes-verdict : verdictOf n
       go (some z) e =
           let g = greatest n D closed x h z e in
           inl (record { bounds = λ t st. g .0 t (to-table n ls ok t st); taken-by = g .1 .0; solves = table-solves (g .1 .0) (g .1 .1); taken = g .1 .2 })
-      go none e = inr (record { beyond = λ z. let g = no-greatest n D closed x h e z in (g .0, table-solves (g .0) (g .1), g .2) }, refl)
+      go none e = inr (none-greatest x h e, refl)
 
   pub least-written : (x : ℕ) → x < n → LeastWritten ls x (leastOf (halves D (point x 1)))
   least-written x h = go (halves D (point x 1)) refl
@@ -126,7 +133,7 @@ module _ (n : ℕ) (ls : List Line) (ok : AllOk n ls) (yes-verdict : verdictOf n
       go (some z) e =
           let g = least n D closed x h z e in
           inl (record { bounds = λ t st. g .0 t (to-table n ls ok t st); taken-by = g .1 .0; solves = table-solves (g .1 .0) (g .1 .1); taken = g .1 .2 })
-      go none e = inr (record { beyond = λ z. let g = no-least n D closed x h e z in (g .0, table-solves (g .0) (g .1), g .2) }, refl)
+      go none e = inr (none-least x h e, refl)
 
   least-at : (x : ℕ) → x < n → getD (boundsOf n ls) (2 * x) (pos 0) ≡ leastOf (halves D (point x 1))
   unfolding boundsOf

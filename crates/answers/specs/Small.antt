@@ -9,6 +9,7 @@ use lib.IntN.{ℤ, pos, negsuc, negℤ, natAbs, _+ℤ_, _-ℤ_, _*ℤ_}
 use Rattle.integers.specs.Integer.{_⩽_, _⋖_, Within}
 use Rattle.integers.specs.Linear.{ints, given}
 use Rattle.lines.specs.declared.Line.{Line}
+use Rattle.lines.specs.Limits.{maxConstant}
 use Rattle.lines.specs.Line.{Assignment, leftSide, Meets, Solves}
 use Rattle.lines.specs.Valid.{LineOk, variable-lt, AllOk}
 use Rattle.answers.specs.Semantics.{Agrees, IsModel}
@@ -17,6 +18,10 @@ use Rattle.answers.specs.Semantics.{Agrees, IsModel}
 abbrev pub AllAbove : ℕ → List Line → Type 0
 AllAbove M [] = Unit {0}
 AllAbove M (l ∷ ls) = (negℤ (pos M) ⩽ l .d) × AllAbove M ls
+
+pub all-above : (n : ℕ) (ls : List Line) → AllOk n ls → AllAbove maxConstant ls
+all-above n [] ok = tt
+all-above n (l ∷ ls) ok = (ok .0 .constant .low, all-above n ls (ok .1))
 
 -- ---- one value moved toward zero
 -- a size beyond F falls by one

@@ -4,7 +4,7 @@ use mathlib.Core.Bool.{Bool, true, false, cond}
 use mathlib.Core.List.{List, _++_}
 use Prim.Native.Nat.{ℕ, _+_, _*_, _-_, _^_, _<_, _≤_}
 use native.Mathlib.Omega.{arith}
-use borrow.Author.Tests.{ltb-false}
+use borrow.Author.Tests.{ltb-false, le-ltb}
 use lib.Dec.{ltb}
 use lib.IntN.{ℤ, pos}
 use lib.ListN.{length, drop, replicate}
@@ -112,6 +112,11 @@ decide-ok n L b e =
     let s = or-valid _ _ (r .1) in
     let t = or-valid _ _ (s .1) in
     record { list = p .0; model = room-of _ _ _ (r .0); bounds = room-of _ _ _ (s .0); groups = room-of _ _ _ (t .0); refutation = room-of _ _ _ (t .1); work = room-of _ _ _ (q .1) }
+
+pub ok-decide : (n : ℕ) (L : List ℤ) (b : Lent) → DecideOk n L b → validityFor n L b ≡ Valid
+unfolding decideValidity outputsValidity
+ok-decide n L b o =
+    rw (o .list, le-ltb (length (b .model)) n (o .model), le-ltb (length (b .bounds)) (boundsRoom n) (o .bounds), le-ltb (length (b .groups)) n (o .groups), le-ltb (length (b .refutation)) (refutationRoom n) (o .refutation), le-ltb (length (b .work)) (workRoom n) (o .work))
 
 module _ (n : ℕ) (L : List ℤ) (b : Lent) where
   pub refused : (r : Refusal) → validityFor n L b ≡ validity.Refused r → Decided n L (Refused r) b b

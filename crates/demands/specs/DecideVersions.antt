@@ -1,9 +1,10 @@
 -- Versions of deciding that answer idly or by guessing, each a definition, and at a named input what breaks the promise.
 use mathlib.Core.Path.{_≡_, refl, sym, ap, subst, _∙_}
-use mathlib.Core.Bool.{Bool, true, false}
+use mathlib.Core.Bool.{Bool, true, false, cond}
 use mathlib.Core.List.{List, [], _∷_, _++_}
 use Prim.Native.Nat.{ℕ, zero, suc, _<_}
 use native.Mathlib.Omega.{arith}
+use lib.Dec.{eqb}
 use lib.IntN.{ℤ, pos, negℤ}
 use lib.ListN.{length, getD, take, drop, replicate}
 use Rattle.integers.specs.Laws.{never}
@@ -18,22 +19,30 @@ use Rattle.steps.specs.Point.{opposite}
 use Rattle.steps.specs.Table.{entry, digit}
 use Rattle.steps.specs.Step.{stepOf, stepNumbered, stepsOf}
 use Rattle.steps.specs.Walk.{Names}
-use Rattle.refutation.specs.Progress.{headSize}
+use Rattle.refutation.specs.declared.RefutationAnswer.the-variants as answer
+use Rattle.refutation.specs.Progress.{headSize, countsOk, headOn, wrongAfter, joins, turns, along, advance, run, closes, accepted, brokenAt}
+use Rattle.refutation.specs.Answer.{verdict, refutationValidity, refutationAnswer}
 use Rattle.soundness.specs.Refutes.{Refutes, kind-1, kind-2, kind-3}
 use Rattle.walks.specs.Row.{relaxRow, startRow, rounds, rowAt, best}
 use Rattle.walks.specs.Negative.{noNegative}
+use Rattle.bounds.specs.Points.{assign}
+use Rattle.bounds.specs.Near.{above, atMost, near}
 use Rattle.bounds.specs.Tight.{halves, tight}
+use Rattle.bounds.specs.Extend.{limit, pick}
+use Rattle.bounds.specs.Model.{model}
+use Rattle.bounds.specs.Table.{tableModel}
 use Rattle.answers.specs.Semantics.{absentLeast, absentGreatest}
 use Rattle.answers.specs.Verdict.{hasFalse, consistentHalves, verdictOf, dueKind}
 use Rattle.answers.specs.Answers.{modelOf, boundsOf, groupsOf}
 use Rattle.answers.specs.Refuted.{Due, kindOf, due-refutation}
-use Rattle.answers.specs.Cases.{list-8}
+use Rattle.answers.specs.Decided.{due-accepted}
 use Rattle.buffers.specs.Room.{boundsRoom, refutationRoom, workRoom, outputsValidity, decideValidity}
 use Rattle.decide.specs.declared.Answer.{Answer}
 use Rattle.decide.specs.declared.Answer.the-variants.{Yes, No, Refused}
-use Rattle.decide.specs.Parts.{no-verdict}
+use Rattle.decide.specs.Parts.{no-verdict, refutationIn, refutation-in}
 use Rattle.decide.specs.Decided.{Lent, OnYes, OnNo, Leaves, Decided, cleared, unlessRefused, decideAnswer, answerFor, validityFor}
 use Rattle.demands.specs.Versions.{falseList}
+use Rattle.demands.specs.Cases.{list-4, list-8, list-9}
 
 -- what a call gives back: its answer, and what the lent buffers hold after
 pub record Outcome : Type 0 where
@@ -284,3 +293,55 @@ counts-not-written-breaks k =
     -- the number behind the head, with R in front
     fourth : List ℕ → ℕ
     fourth R = getD (R ++ drop (length R) (replicate (refutationRoom 1) 9)) headSize 0
+
+-- on a yes it writes right bounds and groups, and zeros for the model
+abbrev zeroModelYes : Left
+zeroModelYes n L = written n (replicate n (pos 0)) (boundsOf n (linesOf L)) (groupsOf n (linesOf L))
+
+pub zeroModel : Version
+zeroModel = leaving zeroModelYes rightNo
+
+-- case 9: x is at least 4
+pub zero-model-breaks : Keeps zeroModel → ⊥
+unfolding zeroModel decideAnswer decideValidity outputsValidity validityOf linesValidity coefficientsOk variableOk variablesOk constantOk lineAt isFalse verdictOf hasFalse noNegative consistentHalves
+    entry digit stepOf stepsOf relaxRow startRow rounds rowAt best opposite assign above atMost near halves tight limit pick model tableModel modelOf
+zero-model-breaks k =
+    let s = on-yes zeroModelYes rightNo k 1 list-9 (room 1) refl in
+    let e : pos 0 ∷ [] ≡ pos 4 ∷ [] = s .model in never (cc)
+
+-- on a no it writes a refutation of the due kind, always the same one
+abbrev stock : ℕ → List ℕ
+stock k = cond (eqb k 3) (3 ∷ 1 ∷ 0 ∷ 0 ∷ []) (cond (eqb k 1) (1 ∷ 2 ∷ 0 ∷ 0 ∷ 2 ∷ []) (2 ∷ 1 ∷ 1 ∷ 0 ∷ 2 ∷ []))
+
+abbrev stockNo : Left
+stockNo n L = refuted n (stock (dueKind n (linesOf L)))
+
+pub stockRefutation : Version
+stockRefutation = leaving rightYes stockNo
+
+list-4-no : answerFor 3 list-4 (room 3) ≡ No
+unfolding decideAnswer decideValidity outputsValidity validityOf linesValidity coefficientsOk variableOk variablesOk constantOk lineAt isFalse verdictOf hasFalse noNegative consistentHalves
+    entry digit stepOf stepsOf relaxRow startRow rounds rowAt best opposite halves
+list-4-no = refl
+
+valid-4 : validityOf 3 list-4 ≡ validity.Valid
+unfolding validityOf linesValidity coefficientsOk variableOk variablesOk constantOk lineAt
+valid-4 = refl
+
+kind-of-4 : dueKind 3 (linesOf list-4) ≡ 2
+unfolding dueKind hasFalse noNegative lineAt isFalse entry digit stepOf stepsOf relaxRow startRow rounds rowAt best
+kind-of-4 = refl
+
+-- case 4: what was written is no refutation, since the first step does not lead to the opposite of its start
+stock-not-accepted : refutationAnswer 3 list-4 (stock 2) ≡ answer.No 3
+unfolding refutationAnswer refutationValidity validityOf linesValidity coefficientsOk variableOk variablesOk constantOk lineAt isFalse countsOk headOn joins turns along advance run closes accepted brokenAt verdict
+    opposite entry digit stepOf stepNumbered wrongAfter
+stock-not-accepted = refl
+
+pub stock-refutation-breaks : Keeps stockRefutation → ⊥
+unfolding stockRefutation
+stock-refutation-breaks k =
+    let o = on-no rightYes stockNo k 3 list-4 (room 3) list-4-no in
+    let written : refutationIn (stockNo 3 list-4 (room 3)) ≡ stock 2 = ap (λ (j : ℕ). refutationIn (refuted 3 (stock j) (room 3))) kind-of-4 in
+    let d : Due 3 list-4 (stock 2) = subst (Due 3 list-4) (sym (refutation-in o) ∙ written) (o .due) in
+    let e : answer.No 3 ≡ answer.Yes = sym stock-not-accepted ∙ due-accepted 3 list-4 valid-4 (stock 2) d in never (cc)

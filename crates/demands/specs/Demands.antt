@@ -6,10 +6,10 @@
 -- The promises of the code are equations, for every input: `decide` promises `Decided` (decide/specs/Decided.antt), `check_model` answers
 -- `modelAnswer`, `check_refutation` answers `refutationAnswer`, and the exported functions return `DecideReturns`, `checkModel` and
 -- `checkRefutation`. src/lib.rt calls both checkers on buffers that could be written, and proves that every buffer is left as it was.
-use mathlib.Core.Path.{_≡_, sym, ap, subst, _∙_}
+use mathlib.Core.Path.{_≡_, refl, sym, ap, subst, _∙_}
 use mathlib.Core.Logic.{_↔_}
-use mathlib.Core.Bool.{true, false}
-use mathlib.Core.List.{List, _++_}
+use mathlib.Core.Bool.{Bool, true, false}
+use mathlib.Core.List.{List, [], _∷_, _++_}
 use Prim.Native.Nat.{ℕ, suc, _+_, _*_, _%_, _<_, _≤_}
 use native.Mathlib.Omega.{arith}
 use lib.IntN.{ℤ, pos, natAbs}
@@ -18,10 +18,10 @@ use Rattle.integers.specs.Integer.{_⩽_}
 use Rattle.lines.specs.declared.Refusal.{Refusal}
 use Rattle.lines.specs.declared.Validity.the-variants.{Valid}
 use Rattle.lines.specs.declared.Validity.the-variants as validity
-use Rattle.lines.specs.Limits.{maxRefutation}
-use Rattle.lines.specs.Line.{Assignment, Solves, Solvable, lineAt, lineCount, linesOf, assignmentOf}
+use Rattle.lines.specs.Limits.{lineSize, maxRefutation}
+use Rattle.lines.specs.Line.{Assignment, Solves, Solvable, SameSolutions, lineAt, lineCount, linesOf, assignmentOf, isFalse}
 use Rattle.lines.specs.Refusal.{validityOf}
-use Rattle.lines.specs.Valid.{LineOk, valid-list}
+use Rattle.lines.specs.Valid.{LineOk, valid-list, shorter-valid}
 use Rattle.little_endian.specs.Bytes.{int32s, nat32s}
 use Rattle.model.specs.declared.ModelAnswer.the-variants as model
 use Rattle.model.specs.Model.{modelValidity, modelAnswer}
@@ -34,21 +34,25 @@ use Rattle.pieces.specs.Cut.{Words, takePieces, joined, resumed, in-pieces}
 use Rattle.soundness.specs.Refutes.{Refutes}
 use Rattle.soundness.specs.Place.{Agree, short-place, place-below, first-fault, place-grows}
 use Rattle.soundness.specs.Answered.{answered-yes, answered-no, accepted-when, answers-longer, answers-no-solvable}
-use Rattle.answers.specs.Semantics.{Agrees, IsModel, Written}
+use Rattle.answers.specs.Semantics.{Agrees, IsModel, NoLeast, NoGreatest, absentLeast, absentGreatest, Written}
 use Rattle.answers.specs.Verdict.{verdictOf, dueKind}
 use Rattle.answers.specs.Answers.{modelOf, boundsOf, groupsOf}
 use Rattle.answers.specs.Small.{AllAbove, model-small}
-use Rattle.answers.specs.Refuted.{Due}
+use Rattle.answers.specs.Refuted.{Due, kindOf, stepsIn, due-refutation}
 use Rattle.answers.specs.Meaning.{computed-written, no-tie}
-use Rattle.answers.specs.Decided.{DueKind, lines-ok, yes-solvable, no-unsolvable, solvable-yes, unsolvable-no, due-accepted, accepted-no, kind-due}
+use Rattle.answers.specs.Decided.{DueKind, LowestFalseLine, names-the-lowest, lines-ok, yes-solvable, no-unsolvable, solvable-yes, unsolvable-no, due-accepted, accepted-no, kind-due}
 use Rattle.answers.specs.Unique.{written-model, written-bounds, written-groups}
-use Rattle.answers.specs.Longer.{no-stays, least-stays-or-rises, greatest-stays-or-falls, groups-kept, model-kept}
-use Rattle.answers.specs.Cases.{AllHold, cases, all-cases}
+use Rattle.answers.specs.Absent.{least-absent, greatest-absent}
+use Rattle.answers.specs.Longer.{no-stays, yes-before, least-stays-or-rises, greatest-stays-or-falls, groups-kept, model-kept, solves-both, longer-entails}
+use Rattle.answers.specs.Same.{same-verdict, same-written}
 use Rattle.buffers.specs.Room.{boundsRoom}
 use Rattle.decide.specs.declared.Answer.{Answer}
 use Rattle.decide.specs.declared.Answer.the-variants as decide
-use Rattle.decide.specs.Decided.{Lent, cleared, answerFor, Decided, validityFor}
-use Rattle.decide.specs.Parts.{modelIn, boundsIn, groupsIn, refutationIn, refutation-in}
+use Rattle.decide.specs.Decided.{Lent, cleared, answerFor, Decided, validityFor, DecideOk}
+use Rattle.decide.specs.Parts.{modelIn, boundsIn, groupsIn, refutationIn, model-in, bounds-in, groups-in, refutation-in}
+use Rattle.demands.specs.Cases.{AllHold, cases, all-cases}
+use Rattle.demands.specs.Exists.{a-call}
+use Rattle.demands.specs.Shown.{model-accepted}
 use Rattle.demands.specs.Calls.{Call, refused-when, call-valid, call-yes, call-no, verdict-yes, verdict-no, on-yes, on-no, call-written, call-work, beyond-model, beyond-bounds, beyond-groups}
 use Rattle.list_file.specs.declared.Listed.{Listed}
 use Rattle.list_file.specs.declared.ReadAnswer.the-variants.{Read}
@@ -84,6 +88,10 @@ refusal-changes-nothing n L r before after d = d .leaves
 pub names-its-variables : (n : ℕ) (L : List ℤ) → ValidFor n L → (k : ℕ) → k < lineCount L → LineOk n (lineAt L k)
 names-its-variables n L v = valid-list n L v .lines
 
+-- Every valid list, with buffers that have room, has a call that is not refused, whatever stood in them: the demands below are of something.
+pub calls-exist : (n : ℕ) (L : List ℤ) (before : Lent) → DecideOk n L before → (c : Call n L) × (c .before ≡ before)
+calls-exist n L before ok = a-call n L before ok
+
 -- ---- demand 2: the answer is yes exactly if whole numbers exist that meet every line
 
 pub record RightAnswer (n : ℕ) (L : List ℤ) (c : Call n L) : Type 0 where
@@ -91,6 +99,11 @@ pub record RightAnswer (n : ℕ) (L : List ℤ) (c : Call n L) : Type 0 where
   pub no-exactly : (c .answer ≡ decide.No) ↔ (Solvable (linesOf L) → ⊥)
   -- On a yes the one model, the tightest bounds and the groups are written; what lies beyond them, and the refutation, is untouched.
   pub written : c .answer ≡ decide.Yes → Written n (linesOf L) (modelIn n (c .after)) (boundsIn n (c .after)) (groupsIn n (c .after))
+  -- A bound's number is the absent one exactly if there is no bound.
+  pub least-absent-exactly : c .answer ≡ decide.Yes → (x : ℕ) → x < n → (getD (boundsIn n (c .after)) (2 * x) (pos 0) ≡ absentLeast) ↔ NoLeast (linesOf L) x
+  pub greatest-absent-exactly : c .answer ≡ decide.Yes → (x : ℕ) → x < n → (getD (boundsIn n (c .after)) (2 * x + 1) (pos 0) ≡ absentGreatest) ↔ NoGreatest (linesOf L) x
+  -- A yes is shown too: the model checker accepts the model, its limits included.
+  pub yes-is-shown : c .answer ≡ decide.Yes → modelAnswer n L (modelIn n (c .after)) ≡ model.Yes
   pub beyond-model : drop n (c .after .model) ≡ drop n (c .before .model)
   pub beyond-bounds : drop (boundsRoom n) (c .after .bounds) ≡ drop (boundsRoom n) (c .before .bounds)
   pub beyond-groups : drop n (c .after .groups) ≡ drop n (c .before .groups)
@@ -108,6 +121,9 @@ right-answer n L c =
       yes-exactly = ((λ e. yes-solvable n L v (call-yes c e)), (λ s. verdict-yes c (solvable-yes n L v s)));
       no-exactly = ((λ e. no-unsolvable n L v (call-no c e)), (λ f. verdict-no c (unsolvable-no n L v f)));
       written = λ e. call-written c e;
+      least-absent-exactly = λ e. least-absent n L v _ _ _ (call-written c e);
+      greatest-absent-exactly = λ e. greatest-absent n L v _ _ _ (call-written c e);
+      yes-is-shown = λ e. model-accepted n L _ _ _ v (call-written c e);
       beyond-model = beyond-model c;
       beyond-bounds = beyond-bounds c;
       beyond-groups = beyond-groups c;
@@ -119,16 +135,37 @@ right-answer n L c =
 
 -- ---- demand 3: every no is shown, and nothing learned is unlearned when lines are added
 
+-- A no hands over a refutation R of the due kind: in document 01's words, kind 3 with the lowest false line, or one with at most 4n steps in all.
+pub record ShowsNo (n : ℕ) (L : List ℤ) (R : List ℕ) : Type 0 where
+  pub kind : DueKind L (kindOf R)
+  pub lowest : (j : ℕ) → j < lineCount L → isFalse (lineAt L j) ≡ true → (k : ℕ) × LowestFalseLine L k × (R ≡ 3 ∷ 1 ∷ 0 ∷ 2 * k ∷ [])
+  pub few : (kindOf R ≡ 3 → ⊥) → stepsIn R ≤ 4 * n
+  pub is-accepted : Accepted n L R
+
+shows-no : (n : ℕ) (L : List ℤ) (R : List ℕ) → ValidFor n L → Due n L R → ShowsNo n L R
+shows-no n L R v d =
+    record {
+      kind = subst (DueKind L) (sym (d .kind)) (kind-due n L v);
+      lowest = names-the-lowest n L v R d;
+      few = λ z. d .few (λ e. z (d .kind ∙ e));
+      is-accepted = due-accepted n L v R d;
+    }
+
+-- A list of whole lines with which a valid list begins is valid.
+pub shorter-is-valid : (n : ℕ) (L M : List ℤ) → length L % lineSize ≡ 0 → ValidFor n (L ++ M) → ValidFor n L
+shorter-is-valid n L M = shorter-valid n L M
+
 -- One claim over any two calls that were not refused, on a list and on one that begins with all its lines.
 pub record NothingUnlearned (n : ℕ) (L M : List ℤ) (c : Call n L) (d : Call n (L ++ M)) : Type 0 where
-  -- A no hands over a refutation of the due kind, that of the lowest false line or one with at most 4n steps in all, and the checker accepts it.
-  pub shown : c .answer ≡ decide.No → Due n L (refutationIn (c .after)) × Accepted n L (refutationIn (c .after))
+  -- A no hands over a refutation of the due kind, and the checker accepts it.
+  pub shown : c .answer ≡ decide.No → ShowsNo n L (refutationIn (c .after))
   -- The answer is no exactly if the checker accepts some refutation, whoever proposed it.
   pub no-exactly-if-refuted : (c .answer ≡ decide.No) ↔ ((R : List ℕ) × Accepted n L R)
   -- Accepted refutations stay accepted, unchanged.
   pub accepted-stays : (R : List ℕ) → Accepted n L R → Accepted n (L ++ M) R
-  -- A no stays a no.
+  -- A no stays a no; and if the longer is a yes, so is the shorter.
   pub no-stays-no : c .answer ≡ decide.No → d .answer ≡ decide.No
+  pub yes-was-yes : d .answer ≡ decide.Yes → c .answer ≡ decide.Yes
   -- Where both are a yes: least values stay or rise and greatest stay or fall, as the numbers written, absent ones included.
   pub least : c .answer ≡ decide.Yes → d .answer ≡ decide.Yes → (x : ℕ) → x < n
       → getD (boundsIn n (c .after)) (2 * x) (pos 0) ⩽ getD (boundsIn n (d .after)) (2 * x) (pos 0)
@@ -145,22 +182,54 @@ pub nothing-unlearned : (n : ℕ) (L M : List ℤ) (c : Call n L) (d : Call n (L
 nothing-unlearned n L M c d =
     let v = call-valid c in
     let u = call-valid d in
+    let whole = valid-list n L v .whole in
+    let more = longer-entails L M whole in
     record {
       shown = shown;
-      no-exactly-if-refuted = ((λ e. (refutationIn (c .after), shown e .1)), (λ r. verdict-no c (accepted-no n L v (r .0) (r .1))));
+      no-exactly-if-refuted = ((λ e. (refutationIn (c .after), shown e .is-accepted)), (λ r. verdict-no c (accepted-no n L v (r .0) (r .1))));
       accepted-stays = λ R. answers-longer n L M R u;
-      no-stays-no = λ e. verdict-no d (no-stays n L M v u (call-no c e));
-      least = λ a b. least-stays-or-rises n L M v u _ _ _ _ _ _ (call-written c a) (call-written d b);
-      greatest = λ a b. greatest-stays-or-falls n L M v u _ _ _ _ _ _ (call-written c a) (call-written d b);
-      groups = λ a b. groups-kept n L M v u _ _ _ _ _ _ (call-written c a) (call-written d b);
-      model = λ a b. model-kept n L M v u _ _ _ _ _ _ (call-written c a) (call-written d b);
+      no-stays-no = λ e. verdict-no d (no-stays n L (L ++ M) v u more (call-no c e));
+      yes-was-yes = λ e. verdict-yes c (yes-before n L (L ++ M) v u more (call-yes d e));
+      least = λ a b. least-stays-or-rises n L (L ++ M) v u more _ _ _ _ _ _ (call-written c a) (call-written d b);
+      greatest = λ a b. greatest-stays-or-falls n L (L ++ M) v u more _ _ _ _ _ _ (call-written c a) (call-written d b);
+      groups = λ a b. groups-kept n L (L ++ M) v u more _ _ _ _ _ _ (call-written c a) (call-written d b);
+      model = λ a b.
+          let w = call-written c a in
+          let k = model-kept n L (L ++ M) v u more _ _ _ _ _ _ w (call-written d b) in
+          ((λ e. solves-both L M whole _ .0 (k .0 e) .1), (λ s. k .1 (solves-both L M whole _ .1 (w .model-is .solves, s))));
     }
   where
-    shown : c .answer ≡ decide.No → Due n L (refutationIn (c .after)) × Accepted n L (refutationIn (c .after))
-    shown e =
-        let w = on-no c e in
-        let k : Due n L (refutationIn (c .after)) = subst (Due n L) (sym (refutation-in w)) (w .due) in
-        (k, due-accepted n L (call-valid c) (refutationIn (c .after)) k)
+    shown : c .answer ≡ decide.No → ShowsNo n L (refutationIn (c .after))
+    shown e = let w = on-no c e in shows-no n L (refutationIn (c .after)) (call-valid c) (subst (Due n L) (sym (refutation-in w)) (w .due))
+
+-- Answers depend on the solutions alone: two lists with the same solutions have the same verdict, model, bounds and groups, whatever stood in the buffers.
+pub record SameAnswers (n : ℕ) (L M : List ℤ) (c : Call n L) (d : Call n M) : Type 0 where
+  pub answer : c .answer ≡ d .answer
+  pub model : c .answer ≡ decide.Yes → modelIn n (c .after) ≡ modelIn n (d .after)
+  pub bounds : c .answer ≡ decide.Yes → boundsIn n (c .after) ≡ boundsIn n (d .after)
+  pub groups : c .answer ≡ decide.Yes → groupsIn n (c .after) ≡ groupsIn n (d .after)
+
+pub answers-by-solutions-alone : (n : ℕ) (L M : List ℤ) (c : Call n L) (d : Call n M) → SameSolutions (linesOf L) (linesOf M) → SameAnswers n L M c d
+answers-by-solutions-alone n L M c d same =
+    record {
+      answer = answer;
+      model = λ e. model-in (on-yes c e) ∙ written e .0 ∙ sym (model-in (on-yes d (sym answer ∙ e)));
+      bounds = λ e. bounds-in (on-yes c e) ∙ written e .1 ∙ sym (bounds-in (on-yes d (sym answer ∙ e)));
+      groups = λ e. groups-in (on-yes c e) ∙ written e .2 ∙ sym (groups-in (on-yes d (sym answer ∙ e)));
+    }
+  where
+    verdicts : verdictOf n (linesOf L) ≡ verdictOf n (linesOf M)
+    verdicts = same-verdict n L M (call-valid c) (call-valid d) same
+
+    answer : c .answer ≡ d .answer
+    answer = go (verdictOf n (linesOf L)) refl
+      where
+        go : (t : Bool) → verdictOf n (linesOf L) ≡ t → c .answer ≡ d .answer
+        go true e = verdict-yes c e ∙ sym (verdict-yes d (sym verdicts ∙ e))
+        go false e = verdict-no c e ∙ sym (verdict-no d (sym verdicts ∙ e))
+
+    written : c .answer ≡ decide.Yes → (modelOf n (linesOf L) ≡ modelOf n (linesOf M)) × (boundsOf n (linesOf L) ≡ boundsOf n (linesOf M)) × (groupsOf n (linesOf L) ≡ groupsOf n (linesOf M))
+    written e = same-written n L M (call-valid c) (call-valid d) same (call-yes c e)
 
 -- ---- what the answers mean
 
@@ -188,6 +257,17 @@ consecutive-values n L v k h s t a b =
 pub model-is-small : (n m : ℕ) (L : List ℤ) → ValidFor n L → AllAbove m (linesOf L) → (s : Assignment) → IsModel n (linesOf L) s → (k : ℕ) → k < n
     → natAbs (s k) ≤ n * m
 model-is-small n m L v a = model-small n m (linesOf L) (lines-ok n L v) a
+
+-- There is no solution exactly if the checker accepts some refutation, whoever proposed it.
+pub unsolvable-exactly-if-refuted : (n : ℕ) (L : List ℤ) → ValidFor n L → (Solvable (linesOf L) → ⊥) ↔ ((R : List ℕ) × Accepted n L R)
+unsolvable-exactly-if-refuted n L v = (
+  (λ f. let r = due-refutation n L (unsolvable-no n L v f) in (r .0, due-accepted n L v (r .0) (r .1))),
+  (λ r. answers-no-solvable n L (r .0) (r .1)),
+)
+
+-- Whatever is accepted, a short one of the due kind is accepted too.
+pub short-one-too : (n : ℕ) (L : List ℤ) (R : List ℕ) → ValidFor n L → Accepted n L R → (T : List ℕ) × ShowsNo n L T
+short-one-too n L R v a = let r = due-refutation n L (accepted-no n L v R a) in (r .0, shows-no n L (r .0) v (r .1))
 
 -- Kind 3 is due if some line is false, else kind 1 if a closed walk of negative sum exists, else kind 2.
 pub the-due-kind : (n : ℕ) (L : List ℤ) → ValidFor n L → DueKind L (dueKind n (linesOf L))

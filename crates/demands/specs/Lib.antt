@@ -1,4 +1,7 @@
 pub mod Calls
-pub mod Demands
+pub mod Cases
 pub mod Versions
 pub mod DecideVersions
+pub mod Exists
+pub mod Shown
+pub mod Demands

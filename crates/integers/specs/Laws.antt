@@ -77,3 +77,13 @@ is-within m z e =
 
 pub within-is : (m : ℕ) (z : ℤ) → Within m z → isWithin m z ≡ true
 within-is m z h = both-true (leZ (negℤ (pos m)) z) (leZ z (pos m)) (given (h .low) (simp ints (omega zs))) (given (h .high) (simp ints (omega zs)))
+
+-- a number that is no larger than m without its sign
+pub abs-within : (m : ℕ) (z : ℤ) → natAbs z ≤ m → Within m z
+abs-within m z h = record { low = low m z h; high = high m z h }
+  where
+    low : (m : ℕ) (z : ℤ) → natAbs z ≤ m → negℤ (pos m) ⩽ z
+    low m z = simp ints (omega arith)
+
+    high : (m : ℕ) (z : ℤ) → natAbs z ≤ m → z ⩽ pos m
+    high m z = simp ints (omega arith)

@@ -1,4 +1,5 @@
 -- A list of numbers read as lines, and what it means that whole numbers solve it.
+use mathlib.Core.Logic.{_↔_}
 use mathlib.Core.List.{List, [], _∷_}
 use mathlib.Core.Bool.{Bool, _&&_}
 use Prim.Native.Nat.{ℕ, _+_, _*_, _/_}
@@ -56,6 +57,14 @@ Solves (l ∷ ls) s = Meets s l × Solves ls s
 pub record Solvable (ls : List Line) : Type 0 where
   pub assignment : Assignment
   pub solves : Solves ls assignment
+
+-- every solution of ms solves ls
+abbrev pub Entails : List Line → List Line → Type 0
+Entails ms ls = (s : Assignment) → Solves ms s → Solves ls s
+
+-- what solves the one solves the other
+abbrev pub SameSolutions : List Line → List Line → Type 0
+SameSolutions ls ms = (s : Assignment) → Solves ls s ↔ Solves ms s
 
 -- a zero, zero line: both coefficients are 0
 abbrev pub isZero : Line → Bool

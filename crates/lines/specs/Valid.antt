@@ -1,11 +1,12 @@
 -- What a valid list grants: its limits, and of each line what the rules say.
 use mathlib.Core.Path.{_≡_, refl, sym, ap, _∙_}
-use mathlib.Core.Bool.{Bool, true, false, cond, _&&_}
-use mathlib.Core.List.{List, [], _∷_}
+use mathlib.Core.Bool.{Bool, true, false, not, cond, _&&_}
+use mathlib.Core.List.{List, [], _∷_, _++_}
 use Prim.Native.Nat.{ℕ, zero, suc, _+_, _%_, _<_, _≤_}
 use native.Mathlib.Numerals.{add-one}
 use native.Mathlib.Omega.{arith}
-use borrow.Author.Tests.{ltb-false, eqb-true, not-false}
+use borrow.Author.Tests.{ltb-false, le-ltb, eq-eqb, eqb-true, not-false}
+use lib.Dec.{ltb, eqb}
 use lib.IntN.{ℤ, pos, natAbs}
 use lib.ListN.{length, drop}
 use lib.Signed.{leZ, ltZ}
@@ -15,12 +16,14 @@ use Rattle.integers.specs.Laws.{never, and-true, is-within, ne-eqZ}
 use Rattle.integers.specs.Sequence.{tabulate}
 use Rattle.lines.specs.declared.Line.{Line}
 use Rattle.lines.specs.declared.Refusal.{Refusal}
+use Rattle.lines.specs.declared.Refusal.the-variants.{TooManyVariables, BrokenLength, TooManyLines}
 use Rattle.lines.specs.declared.Validity.{Validity}
 use Rattle.lines.specs.declared.Validity.the-variants.{Valid, Refused}
 use Rattle.lines.specs.Limits.{lineSize, maxVariables, maxLines, maxConstant}
 use Rattle.lines.specs.Line.{lineAt, lineCount, linesOf}
 use Rattle.lines.specs.Refusal.{_orElse_, refuseIf, coefficientsOk, variableOk, variablesOk, constantOk, lineValidity, linesValidity, validityOf}
 use Rattle.lines.specs.Laws.{validity-from}
+use Rattle.lines.specs.Solutions.{count-append, lines-append}
 
 pub record VariableOk (n : ℕ) (x : ℤ) : Type 0 where
   pub low : pos 0 ⩽ x
@@ -103,6 +106,23 @@ valid-list n L e =
       each = each-valid n L (r .1);
       lines = λ k h. line-ok n k (lineAt L k) (each-valid n L (r .1) k h);
     }
+
+-- ---- a list of whole lines with which a valid list begins is valid
+front-valid : (n k : ℕ) (ls ms : List Line) → linesValidity n k (ls ++ ms) ≡ Valid → linesValidity n k ls ≡ Valid
+unfolding linesValidity
+front-valid n k [] ms e = refl
+front-valid n k (l ∷ ls) ms e = let p = or-valid (lineValidity n k l) _ e in rw (p .0) (front-valid n (k + 1) ls ms (p .1))
+
+pub shorter-valid : (n : ℕ) (L M : List ℤ) → length L % lineSize ≡ 0 → validityOf n (L ++ M) ≡ Valid → validityOf n L ≡ Valid
+unfolding validityOf
+shorter-valid n L M whole e =
+    let o = valid-list n (L ++ M) e in
+    let p = or-valid (refuseIf (ltb maxVariables n) TooManyVariables) _ e in
+    let q = or-valid (refuseIf (not (eqb (length (L ++ M) % lineSize) 0)) BrokenLength) _ (p .1) in
+    let all = or-valid (refuseIf (ltb maxLines (lineCount (L ++ M))) TooManyLines) _ (q .1) .1 in
+    let few : lineCount L ≤ maxLines = omega (arith, o .count, count-append L M whole) in
+    let lines : linesValidity n 0 (linesOf L) ≡ Valid = front-valid n 0 (linesOf L) (linesOf M) (ap (linesValidity n 0) (sym (lines-append L M whole)) ∙ all) in
+    rw (le-ltb maxVariables n (o .variables), eq-eqb (length L % lineSize) 0 whole, le-ltb maxLines (lineCount L) few, lines)
 
 -- what is right among n variables is right among more
 variable-more : (n m : ℕ) (x : ℤ) → n ≤ m → VariableOk n x → VariableOk m x

@@ -1,0 +1,38 @@
+-- The model checker accepts the model that deciding writes: it meets every line, and its values are small enough for the check.
+use mathlib.Core.Path.{_≡_, refl}
+use mathlib.Core.List.{List, [], _∷_}
+use Prim.Native.Nat.{ℕ, suc, _+_, _*_, _<_, _≤_}
+use native.Mathlib.Omega.{arith}
+use borrow.Author.Tests.{eq-eqb}
+use lib.IntN.{ℤ, pos, natAbs}
+use lib.ListN.{length, getD}
+use Rattle.integers.specs.Laws.{within-is, abs-within}
+use Rattle.lines.specs.declared.Validity.the-variants.{Valid}
+use Rattle.lines.specs.Limits.{maxConstant, maxValue}
+use Rattle.lines.specs.Line.{linesOf, assignmentOf}
+use Rattle.lines.specs.Refusal.{validityOf}
+use Rattle.lines.specs.Valid.{valid-list}
+use Rattle.model.specs.declared.ModelAnswer.the-variants.{Yes}
+use Rattle.model.specs.Model.{valuesValidity, modelValidity, modelAnswer}
+use Rattle.model.specs.Meaning.{yes-exactly}
+use Rattle.answers.specs.Semantics.{Written}
+use Rattle.answers.specs.Small.{all-above, model-small}
+use Rattle.answers.specs.Decided.{lines-ok}
+
+values-valid : (j : ℕ) (m : List ℤ) → ((k : ℕ) → k < length m → natAbs (getD m k (pos 0)) ≤ maxValue) → valuesValidity j m ≡ Valid
+unfolding valuesValidity
+values-valid j [] h = refl
+values-valid j (z ∷ m) h = rw (within-is maxValue z (abs-within maxValue z (h 0 (omega arith))), values-valid (j + 1) m (λ k l. h (suc k) (omega arith)))
+
+module _ (n : ℕ) (L m b : List ℤ) (g : List ℕ) (valid : validityOf n L ≡ Valid) (w : Written n (linesOf L) m b g) where
+  pub value-small : (k : ℕ) → k < length m → natAbs (getD m k (pos 0)) ≤ n * maxConstant
+  value-small k l =
+      let ok = lines-ok n L valid in
+      model-small n maxConstant (linesOf L) ok (all-above n (linesOf L) ok) (assignmentOf m) (w .model-is) k (omega (arith, w .model-length))
+
+  pub model-accepted : modelAnswer n L m ≡ Yes
+  unfolding modelValidity
+  model-accepted =
+      let few = valid-list n L valid .variables in
+      let small : (k : ℕ) → k < length m → natAbs (getD m k (pos 0)) ≤ maxValue = λ k l. omega (arith, value-small k l, few) in
+      yes-exactly n L m .1 (rw (valid, eq-eqb (length m) n (w .model-length), values-valid 0 m small), w .model-is .solves)
