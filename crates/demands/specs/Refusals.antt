@@ -2,7 +2,7 @@
 use mathlib.Core.Path.{_≡_}
 use mathlib.Core.Logic.{_⊎_}
 use mathlib.Core.List.{List, [], _∷_, _++_}
-use Prim.Native.Nat.{ℕ, zero, suc, _+_, _%_, _<_}
+use Prim.Native.Nat.{ℕ, zero, suc, _+_, _*_, _%_, _<_}
 use lib.IntN.{ℤ, pos, negℤ}
 use lib.ListN.{length}
 use Rattle.integers.specs.Integer.{_⩽_, _⋖_}
@@ -11,6 +11,7 @@ use Rattle.lines.specs.declared.Refusal.{Refusal}
 use Rattle.lines.specs.declared.Refusal.the-variants.{TooManyVariables, BrokenLength, TooManyLines, BadCoefficient, BadVariable, BadConstant, ShortOutput, ShortWorkArea, WrongModelLength, BadValue, LongRefutation}
 use Rattle.lines.specs.Limits.{lineSize, maxVariables, maxLines, maxConstant, maxValue, maxRefutation}
 use Rattle.lines.specs.Line.{number, lineAt, lineCount}
+use Rattle.little_endian.specs.Bytes.{int32s, int64s}
 use Rattle.buffers.specs.Room.{boundsRoom, refutationRoom, workRoom}
 use Rattle.model.specs.declared.ModelAnswer.the-variants as model
 use Rattle.model.specs.Model.{modelAnswer}
@@ -18,12 +19,16 @@ use Rattle.refutation.specs.declared.RefutationAnswer.the-variants as refutatio
 use Rattle.refutation.specs.Answer.{refutationAnswer}
 use Rattle.decide.specs.declared.Answer.the-variants as decide
 use Rattle.decide.specs.Decided.{Lent, answerFor}
+use Rattle.c_interface.specs.Codes.{modelCode, refutationCode, decideCode}
+use Rattle.c_interface.specs.Calls.{numberBytes, valueBytes, modelOfBytes, refutationOfBytes, checkModel, checkRefutation}
 
--- What is asked, for n variables: to decide a list, with these lent buffers; to check a model of a list; to check a refutation of a list.
+-- What is asked, for n variables: to decide a list, with these lent buffers; to check a model of a list, or a refutation; and from C both checks on bytes.
 pub data Asked : Type 0 where
   deciding : (n : ℕ) (list : List ℤ) (lent : Lent) → Asked
   checking-model : (n : ℕ) (list values : List ℤ) → Asked
   checking-refutation : (n : ℕ) (list : List ℤ) (numbers : List ℕ) → Asked
+  checking-model-bytes : (n : ℕ) (list values : List ℕ) → Asked
+  checking-refutation-bytes : (n : ℕ) (list numbers : List ℕ) → Asked
 
 -- ---- when a number of a line, or a value, is wrong
 abbrev pub IsCoefficient : ℤ → Type 0
@@ -59,13 +64,17 @@ lineTable n k l =
     ∷ BadConstant k when Outside maxConstant (l .d)
     ∷ []
 
+-- 3; then lines from the first
+abbrev pub linesTable : ℕ → List ℤ → List Row
+linesTable n L = TooManyLines when (maxLines < lineCount L) ∷ rowsFrom 0 (lineCount L) (λ k. lineTable n k (lineAt L k))
+
 -- 1, 2, 3; then lines from the first
 abbrev pub listTable : ℕ → List ℤ → List Row
-listTable n L =
-    TooManyVariables when (maxVariables < n)
-    ∷ BrokenLength when (length L % lineSize ≡ 0 → ⊥)
-    ∷ TooManyLines when (maxLines < lineCount L)
-    ∷ rowsFrom 0 (lineCount L) (λ k. lineTable n k (lineAt L k))
+listTable n L = TooManyVariables when (maxVariables < n) ∷ BrokenLength when (length L % lineSize ≡ 0 → ⊥) ∷ linesTable n L
+
+-- list bytes that are no multiple of a line's give 2
+abbrev pub bytesTable : ℕ → List ℕ → List Row
+bytesTable n b = TooManyVariables when (maxVariables < n) ∷ BrokenLength when (length b % (numberBytes * lineSize) ≡ 0 → ⊥) ∷ linesTable n (int32s b)
 
 -- 10: values from the first
 abbrev pub valuesTable : List ℤ → List Row
@@ -83,6 +92,8 @@ refusalTable (deciding n L lent) =
     ∷ [])
 refusalTable (checking-model n L m) = listTable n L ++ WrongModelLength when (length m ≡ n → ⊥) ∷ valuesTable m
 refusalTable (checking-refutation n L R) = listTable n L ++ LongRefutation when (maxRefutation < length R) ∷ []
+refusalTable (checking-model-bytes n b m) = bytesTable n b ++ WrongModelLength when (length m ≡ valueBytes * n → ⊥) ∷ valuesTable (int64s m)
+refusalTable (checking-refutation-bytes n b R) = bytesTable n b ++ LongRefutation when (numberBytes * maxRefutation < length R) ∷ []
 
 -- ---- the first that applies
 abbrev pub NoneApplies : List Row → Type 0
@@ -103,3 +114,13 @@ abbrev pub IsRefused : Asked → Refusal → Type 0
 IsRefused (deciding n L lent) r = answerFor n L lent ≡ decide.Refused r
 IsRefused (checking-model n L m) r = modelAnswer n L m ≡ model.Refused r
 IsRefused (checking-refutation n L R) r = refutationAnswer n L R ≡ refutation.Refused r
+IsRefused (checking-model-bytes n b m) r = modelOfBytes n b m ≡ model.Refused r
+IsRefused (checking-refutation-bytes n b R) r = refutationOfBytes n b R ≡ refutation.Refused r
+
+-- the number that stands for the answer in C
+abbrev pub returned : Asked → ℤ
+returned (deciding n L lent) = decideCode (answerFor n L lent)
+returned (checking-model n L m) = modelCode (modelAnswer n L m)
+returned (checking-refutation n L R) = refutationCode (refutationAnswer n L R)
+returned (checking-model-bytes n b m) = checkModel n b m
+returned (checking-refutation-bytes n b R) = checkRefutation n b R

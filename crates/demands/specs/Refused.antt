@@ -6,7 +6,7 @@ use mathlib.Core.Path.{_≡_, refl, ap, subst}
 use mathlib.Core.Logic.{_↔_, _⊎_, inl, inr, ⊎-elim, Iff·trans}
 use mathlib.Core.Bool.{Bool, true, false, not, cond, _&&_, false≢true}
 use mathlib.Core.List.{List, [], _∷_, _++_}
-use Prim.Native.Nat.{ℕ, zero, suc, _+_, _<_}
+use Prim.Native.Nat.{ℕ, zero, suc, _+_, _*_, _/_, _%_, _<_}
 use native.Mathlib.Omega.{arith}
 use borrow.Author.Tests.{ltb-true, lt-ltb, eqb-true, eq-eqb, not-true}
 use lib.Dec.{eqb, ltb}
@@ -18,25 +18,31 @@ use Rattle.integers.specs.Linear.{ints, zs, given}
 use Rattle.integers.specs.Laws.{never, is-within, eqZ-true, eq-eqZ}
 use Rattle.lines.specs.declared.Line.{Line}
 use Rattle.lines.specs.declared.Refusal.{Refusal}
-use Rattle.lines.specs.declared.Refusal.the-variants.{BadValue}
+use Rattle.lines.specs.declared.Refusal.the-variants.{TooManyVariables, BrokenLength, WrongModelLength, BadValue, LongRefutation}
 use Rattle.lines.specs.declared.Validity.{Validity}
 use Rattle.lines.specs.declared.Validity.the-variants.{Valid, Refused}
-use Rattle.lines.specs.Limits.{maxVariables, maxLines, maxConstant, maxValue, maxRefutation}
+use Rattle.lines.specs.Limits.{lineSize, maxVariables, maxLines, maxConstant, maxValue, maxRefutation}
 use Rattle.lines.specs.Line.{number, lineAt, lineCount, linesOf}
 use Rattle.lines.specs.Refusal.{_orElse_, refuseIf, coefficientsOk, variableOk, variablesOk, constantOk, lineValidity, linesValidity, validityOf}
 use Rattle.lines.specs.Laws.{validity-from, validity-past}
 use Rattle.buffers.specs.Room.{boundsRoom, refutationRoom, workRoom, outputsValidity, decideValidity}
 use Rattle.answers.specs.Verdict.{verdictOf}
+use Rattle.little_endian.specs.Bytes.{le32, int32, int64, int32s, nat32s, int64s, length-firstOf}
+use Rattle.model.specs.declared.ModelAnswer.{ModelAnswer}
+use Rattle.model.specs.declared.ModelAnswer.the-variants as model
+use Rattle.model.specs.Model as model-check
 use Rattle.model.specs.Model.{valuesValidity, modelValidity}
 use Rattle.model.specs.Laws.{values-from, values-past}
 use Rattle.model.specs.Meaning.{refused-exactly}
+use Rattle.refutation.specs.declared.RefutationAnswer.{RefutationAnswer}
 use Rattle.refutation.specs.declared.RefutationAnswer.the-variants as refutation
 use Rattle.refutation.specs.Progress.{start, run, accepted, brokenAt}
 use Rattle.refutation.specs.Answer.{unlessRefused, refutationValidity, verdict, refutationAnswer}
 use Rattle.decide.specs.declared.Answer.the-variants as decide
 use Rattle.decide.specs.Decided as decision
 use Rattle.decide.specs.Decided.{Lent, decideAnswer, answerFor, validityFor}
-use Rattle.demands.specs.Refusals.{Asked, deciding, checking-model, checking-refutation, IsCoefficient, WrongVariable, Outside, Row, _when_, rowsFrom, lineTable, listTable, valuesTable, refusalTable, NoneApplies, FirstApplies, IsRefused}
+use Rattle.c_interface.specs.Calls.{numberBytes, valueBytes, bytesValidity, modelOfValues, refutationOfNumbers, modelOfBytes, refutationOfBytes}
+use Rattle.demands.specs.Refusals.{Asked, deciding, checking-model, checking-refutation, checking-model-bytes, checking-refutation-bytes, IsCoefficient, WrongVariable, Outside, Row, _when_, rowsFrom, lineTable, linesTable, listTable, bytesTable, valuesTable, refusalTable, NoneApplies, FirstApplies, IsRefused}
 
 -- ---- a validity, read along the rows
 data Gives : List Row → Validity → Type 1 where
@@ -56,10 +62,20 @@ gives-last : {r : Refusal} {t : Bool} {C : Type 0} → Tells t C → Gives (r wh
 gives-last {t = true} h = this (h .0 refl)
 gives-last {t = false} h = later (λ c. false≢true (h .1 c)) none
 
+-- what comes after counts only where none before it applies
+gives-past : {rows rest : List Row} {u v : Validity} → Gives rows u → (NoneApplies rows → Gives rest v) → Gives (rows ++ rest) (u orElse v)
+gives-past none h = h tt
+gives-past (this c) h = this c
+gives-past (later n g) h = later n (gives-past g (λ k. h (n, k)))
+
 gives-or : {rows rest : List Row} {u v : Validity} → Gives rows u → Gives rest v → Gives (rows ++ rest) (u orElse v)
-gives-or none h = h
-gives-or (this c) h = this c
-gives-or (later n g) h = later n (gives-or g h)
+gives-or g h = gives-past g (λ _. h)
+
+-- rows that do not apply may be left out
+gives-rest : (rows rest : List Row) {v : Validity} → Gives (rows ++ rest) v → NoneApplies rows → Gives rest v
+gives-rest [] rest g n = g
+gives-rest (row ∷ rows) rest (this c) n = absurd (n .0 c)
+gives-rest (row ∷ rows) rest (later f g) n = gives-rest rows rest g (n .1)
 
 -- it is refused exactly by the first that applies
 first-row : {rows : List Row} {v : Validity} → Gives rows v → (r : Refusal) → v ≡ Refused r → FirstApplies rows r
@@ -180,11 +196,33 @@ values-give m = go (length m) 0 (omega arith)
     go zero k e = rw (values-past m k (omega arith)) none
     go (suc count) k e = rw (values-from m k (omega arith)) (gives-row (outside-test maxValue (number m k)) (go count (k + 1) (omega arith)))
 
+-- ---- bytes: what applies to the numbers in them applied to the bytes
+module _ (n : ℕ) (b : List ℕ) where
+  whole-numbers : length b % (numberBytes * lineSize) ≡ 0 → length (int32s b) % lineSize ≡ 0
+  whole-numbers e = let k : length (int32s b) ≡ length b / numberBytes = length-firstOf numberBytes int32 b _ in omega arith
+
+  bytes-give : Gives (bytesTable n b) (bytesValidity n b)
+  unfolding bytesValidity
+  bytes-give =
+      gives-past (gives-last (less-test maxVariables n))
+      (λ few. gives-past (gives-last (unequal-test _ 0))
+      (λ whole. gives-rest (TooManyVariables when (maxVariables < n) ∷ BrokenLength when (length (int32s b) % lineSize ≡ 0 → ⊥) ∷ []) (linesTable n (int32s b)) (list-gives n (int32s b))
+      (few .0, ((λ h. whole .0 (λ e. h (whole-numbers e))), tt))))
+
+  none-of-numbers : NoneApplies (bytesTable n b) → NoneApplies (listTable n (int32s b))
+  none-of-numbers k = (k .0, ((λ h. k .1 .0 (λ e. h (whole-numbers e))), k .1 .1))
+
 -- the first refusal that applies, as it is computed
 abbrev pub computed : Asked → Validity
 computed (deciding n L lent) = validityFor n L lent
 computed (checking-model n L m) = modelValidity n L m
 computed (checking-refutation n L R) = refutationValidity n L R
+computed (checking-model-bytes n b m) =
+    bytesValidity n b orElse refuseIf (not (eqb (length m) (valueBytes * n))) WrongModelLength orElse modelValidity n (int32s b) (int64s m)
+computed (checking-refutation-bytes n b R) =
+    bytesValidity n b
+    orElse refuseIf (ltb (numberBytes * maxRefutation) (length R)) LongRefutation
+    orElse cond (eqb (length R % numberBytes) 0) (refutationValidity n (int32s b) (nat32s R)) Valid
 
 table-gives : (a : Asked) → Gives (refusalTable a) (computed a)
 unfolding decideValidity outputsValidity modelValidity refutationValidity
@@ -196,6 +234,27 @@ table-gives (deciding n L lent) =
     (gives-last (less-test (length (lent .work)) (workRoom n))))
 table-gives (checking-model n L m) = gives-or (list-gives n L) (gives-row (unequal-test (length m) n) (values-give m))
 table-gives (checking-refutation n L R) = gives-or (list-gives n L) (gives-last (less-test maxRefutation (length R)))
+table-gives (checking-model-bytes n b m) =
+    gives-past (bytes-give n b)
+    (λ k. gives-past (gives-last (unequal-test (length m) (valueBytes * n)))
+    (λ j. gives-rest (WrongModelLength when (length (int64s m) ≡ n → ⊥) ∷ []) (valuesTable (int64s m))
+    (gives-rest (listTable n (int32s b)) _ (gives-or (list-gives n (int32s b)) (gives-row (unequal-test (length (int64s m)) n) (values-give (int64s m)))) (none-of-numbers n b k))
+    ((λ h. j .0 (λ e. h (whole-values e))), tt)))
+  where
+    whole-values : length m ≡ valueBytes * n → length (int64s m) ≡ n
+    whole-values e = let k : length (int64s m) ≡ length m / valueBytes = length-firstOf valueBytes int64 m _ in omega arith
+table-gives (checking-refutation-bytes n b R) =
+    gives-past (bytes-give n b) (λ k. gives-past (gives-last (less-test (numberBytes * maxRefutation) (length R))) (λ j. go (eqb (length R % numberBytes) 0) k (j .0)))
+  where
+    short : (numberBytes * maxRefutation < length R → ⊥) → maxRefutation < length (nat32s R) → ⊥
+    short f h = let k : length (nat32s R) ≡ length R / numberBytes = length-firstOf numberBytes le32 R _ in f (omega arith)
+
+    go : (t : Bool) → NoneApplies (bytesTable n b) → (numberBytes * maxRefutation < length R → ⊥) → Gives [] (cond t (refutationValidity n (int32s b) (nat32s R)) Valid)
+    go true k f =
+        gives-rest (LongRefutation when (maxRefutation < length (nat32s R)) ∷ []) []
+        (gives-rest (listTable n (int32s b)) _ (gives-or (list-gives n (int32s b)) (gives-last (less-test maxRefutation (length (nat32s R))))) (none-of-numbers n b k))
+        (short f, tt)
+    go false k f = none
 
 -- ---- the answers
 -- an answer is refused exactly as its validity is
@@ -217,10 +276,28 @@ refutation-refused n L R r = (fore (refutationValidity n L R) (accepted (run L s
     fore Valid false e = never (cc)
     fore (Refused q) t e = cc
 
+model-unless : (u v : Validity) (a : ModelAnswer) (r : Refusal) → (a ≡ model.Refused r) ↔ (v ≡ Refused r) → (model-check.unlessRefused u a ≡ model.Refused r) ↔ ((u orElse v) ≡ Refused r)
+model-unless Valid v a r h = h
+model-unless (Refused q) v a r h = ((λ e. cc), (λ e. cc))
+
+refutation-unless : (u v : Validity) (a : RefutationAnswer) (r : Refusal) → (a ≡ refutation.Refused r) ↔ (v ≡ Refused r) → (unlessRefused u a ≡ refutation.Refused r) ↔ ((u orElse v) ≡ Refused r)
+refutation-unless Valid v a r h = h
+refutation-unless (Refused q) v a r h = ((λ e. cc), (λ e. cc))
+
 answer-refused : (a : Asked) (r : Refusal) → IsRefused a r ↔ (computed a ≡ Refused r)
+unfolding modelOfBytes modelOfValues refutationOfBytes refutationOfNumbers
 answer-refused (deciding n L lent) r = decision-refused n L lent r
 answer-refused (checking-model n L m) r = refused-exactly n L m r
 answer-refused (checking-refutation n L R) r = refutation-refused n L R r
+answer-refused (checking-model-bytes n b m) r =
+    model-unless (bytesValidity n b) _ _ r (model-unless (refuseIf (not (eqb (length m) (valueBytes * n))) WrongModelLength) _ _ r (refused-exactly n (int32s b) (int64s m) r))
+answer-refused (checking-refutation-bytes n b R) r =
+    refutation-unless (bytesValidity n b) _ _ r
+    (refutation-unless (refuseIf (ltb (numberBytes * maxRefutation) (length R)) LongRefutation) _ _ r (go (eqb (length R % numberBytes) 0)))
+  where
+    go : (t : Bool) → (cond t (refutationAnswer n (int32s b) (nat32s R)) (refutation.No 0) ≡ refutation.Refused r) ↔ (cond t (refutationValidity n (int32s b) (nat32s R)) Valid ≡ Refused r)
+    go true = refutation-refused n (int32s b) (nat32s R) r
+    go false = ((λ e. never (cc)), (λ e. never (cc)))
 
 -- a refusal is given exactly if it is the first of the table that applies
 pub table-refuses : (a : Asked) (r : Refusal) → IsRefused a r ↔ FirstApplies (refusalTable a) r
