@@ -12,14 +12,14 @@ use mathlib.Core.Bool.{true}
 use mathlib.Core.List.{List, _++_}
 use Prim.Native.Nat.{ℕ, suc, _+_, _*_, _%_, _<_, _≤_}
 use native.Mathlib.Omega.{arith}
-use lib.IntN.{ℤ, pos, natAbs}
+use lib.IntN.{ℤ, pos, negℤ, natAbs}
 use lib.ListN.{length, drop, getD}
 use Rattle.integers.specs.Integer.{_⩽_}
 use Rattle.lines.specs.declared.Refusal.{Refusal}
 use Rattle.lines.specs.declared.Validity.the-variants.{Valid}
 use Rattle.lines.specs.Limits.{maxRefutation}
 use Rattle.lines.specs.Line.{Assignment, Solves, Solvable, lineAt, lineCount, linesOf, assignmentOf}
-use Rattle.lines.specs.Refusal.{validityOf}
+use Rattle.lines.specs.Refusal.{numberOf, placeOf, validityOf}
 use Rattle.lines.specs.Valid.{LineOk, valid-list}
 use Rattle.little_endian.specs.Bytes.{int32s, nat32s}
 use Rattle.model.specs.declared.ModelAnswer.the-variants as model
@@ -49,15 +49,15 @@ use Rattle.decide.specs.declared.Answer.the-variants as decide
 use Rattle.decide.specs.Decided.{Lent, cleared, answerFor, Decided}
 use Rattle.decide.specs.Parts.{modelIn, boundsIn, groupsIn, refutationIn, refutation-in}
 use Rattle.demands.specs.Calls.{Call, call-valid, call-yes, call-no, verdict-yes, verdict-no, on-yes, on-no, call-written, call-work, beyond-model, beyond-bounds, beyond-groups}
-use Rattle.demands.specs.Refusals.{Asked, deciding, checking-model, listTable, refusalTable, NoneApplies, FirstApplies, IsRefused}
-use Rattle.demands.specs.Refused.{table-refuses, table-valid, table-passes, list-valid}
+use Rattle.demands.specs.Refusals.{Asked, deciding, checking-model, listTable, refusalTable, NoneApplies, FirstApplies, IsRefused, returned}
+use Rattle.demands.specs.Refused.{table-refuses, table-valid, table-passes, list-valid, code-refused}
 use Rattle.list_file.specs.declared.Listed.{Listed}
 use Rattle.list_file.specs.declared.ReadAnswer.the-variants.{Read}
 use Rattle.list_file.specs.File.{fileOf, fileList}
 use Rattle.list_file.specs.Read.{readAnswer}
 use Rattle.list_file.specs.Bytes.{AreBytes}
 use Rattle.list_file.specs.Back.{OneFile, read-written, list-in-file, written-read, one-file, one-list}
-use Rattle.c_interface.specs.Codes.{decideCode}
+use Rattle.c_interface.specs.Codes.{refusalUnit, refusalCode, decideCode}
 use Rattle.c_interface.specs.Calls.{numberBytes, bytesValidity, modelOfBytes, refutationOfBytes, checkModel, checkRefutation}
 use Rattle.c_interface.specs.Laws.{model-bytes-below, refutation-bytes-below, decision-below}
 use Rattle.c_interface.specs.Apart.{models-apart, refutations-apart, decisions-apart, returned-yes}
@@ -72,7 +72,8 @@ Accepted n L R = refutationAnswer n L R ≡ Yes
 
 -- ---- demand 1: any list gets an answer or a numbered refusal, and a refusal changes no lent buffer
 
--- Document 01's table, for deciding and for both checks: a refusal is given exactly if its condition holds and none that goes before does.
+-- Document 01's table, for deciding and for both checks, on numbers and on bytes: a refusal is given exactly if its condition holds and none that goes
+-- before does.
 pub refusals-are-the-table : (a : Asked) (r : Refusal) → IsRefused a r ↔ FirstApplies (refusalTable a) r
 refusals-are-the-table a r = table-refuses a r
 
@@ -80,10 +81,11 @@ refusals-are-the-table a r = table-refuses a r
 pub nothing-refused : (a : Asked) → ((r : Refusal) → IsRefused a r → ⊥) ↔ NoneApplies (refusalTable a)
 nothing-refused a = table-passes a
 
+-- A list is valid exactly if no condition of the list itself holds.
 pub valid-exactly-if : (n : ℕ) (L : List ℤ) → ValidFor n L ↔ NoneApplies (listTable n L)
 valid-exactly-if n L = list-valid n L
 
--- So a call of `decide` answers by the first refusal that applies, and by yes or no exactly if none does. That it ends is part of every promise.
+-- Of a call of `decide`: it answers by the first refusal that applies, and by yes or no exactly if none does. That it ends is part of every promise.
 pub refused-exactly-if : (n : ℕ) (L : List ℤ) (answer : Answer) (before after : Lent) → Decided n L answer before after
     → (r : Refusal) → (answer ≡ decide.Refused r) ↔ FirstApplies (refusalTable (deciding n L before)) r
 refused-exactly-if n L answer before after d r =
@@ -272,6 +274,12 @@ returned-yes-is-accepted n b r = returned-yes n b r
 -- So a returned yes is never against a list that has a solution.
 pub returned-yes-not-against-a-solution : (n : ℕ) (b r : List ℕ) → checkRefutation n b r ≡ pos 0 → Solvable (linesOf (int32s b)) → ⊥
 returned-yes-not-against-a-solution n b r e = nothing-against-a-solution n (int32s b) (nat32s r) (returned-yes n b r .0 e .3)
+
+-- A refusal is returned as minus its number times 100,000, and its place: exactly where it is the first of the table that applies.
+pub refusals-returned : (a : Asked) (r : Refusal) → placeOf r < refusalUnit
+    → (returned a ≡ negℤ (pos (numberOf r * refusalUnit + placeOf r))) ↔ FirstApplies (refusalTable a) r
+unfolding refusalCode
+refusals-returned a r h = Iff·trans (code-refused a r h) (table-refuses a r)
 
 -- No two answers are returned as one number.
 pub model-answers-apart : (n k : ℕ) (b c m l : List ℕ) → checkModel n b m ≡ checkModel k c l → modelOfBytes n b m ≡ modelOfBytes k c l

@@ -1,4 +1,5 @@
 -- Document 01's table of refusals: when each applies, in the order in which they go, and what it is to be the first that applies.
+-- The number and the place of each are `numberOf` and `placeOf` (lines/specs/Refusal.antt).
 use mathlib.Core.Path.{_≡_}
 use mathlib.Core.Logic.{_⊎_}
 use mathlib.Core.List.{List, [], _∷_, _++_}

@@ -23,7 +23,7 @@ use Rattle.lines.specs.declared.Validity.{Validity}
 use Rattle.lines.specs.declared.Validity.the-variants.{Valid, Refused}
 use Rattle.lines.specs.Limits.{lineSize, maxVariables, maxLines, maxConstant, maxValue, maxRefutation}
 use Rattle.lines.specs.Line.{number, lineAt, lineCount, linesOf}
-use Rattle.lines.specs.Refusal.{_orElse_, refuseIf, coefficientsOk, variableOk, variablesOk, constantOk, lineValidity, linesValidity, validityOf}
+use Rattle.lines.specs.Refusal.{placeOf, _orElse_, refuseIf, coefficientsOk, variableOk, variablesOk, constantOk, lineValidity, linesValidity, validityOf}
 use Rattle.lines.specs.Laws.{validity-from, validity-past}
 use Rattle.buffers.specs.Room.{boundsRoom, refutationRoom, workRoom, outputsValidity, decideValidity}
 use Rattle.answers.specs.Verdict.{verdictOf}
@@ -34,15 +34,20 @@ use Rattle.model.specs.Model as model-check
 use Rattle.model.specs.Model.{valuesValidity, modelValidity}
 use Rattle.model.specs.Laws.{values-from, values-past}
 use Rattle.model.specs.Meaning.{refused-exactly}
+use Rattle.model.specs.Places as model-places
 use Rattle.refutation.specs.declared.RefutationAnswer.{RefutationAnswer}
 use Rattle.refutation.specs.declared.RefutationAnswer.the-variants as refutation
 use Rattle.refutation.specs.Progress.{start, run, accepted, brokenAt}
 use Rattle.refutation.specs.Answer.{unlessRefused, refutationValidity, verdict, refutationAnswer}
+use Rattle.refutation.specs.Places as refutation-places
 use Rattle.decide.specs.declared.Answer.the-variants as decide
 use Rattle.decide.specs.Decided as decision
 use Rattle.decide.specs.Decided.{Lent, decideAnswer, answerFor, validityFor}
 use Rattle.c_interface.specs.Calls.{numberBytes, valueBytes, bytesValidity, modelOfValues, refutationOfNumbers, modelOfBytes, refutationOfBytes}
-use Rattle.demands.specs.Refusals.{Asked, deciding, checking-model, checking-refutation, checking-model-bytes, checking-refutation-bytes, IsCoefficient, WrongVariable, Outside, Row, _when_, rowsFrom, lineTable, linesTable, listTable, bytesTable, valuesTable, refusalTable, NoneApplies, FirstApplies, IsRefused}
+use Rattle.c_interface.specs.Codes.{refusalUnit, refusalCode, modelCode, refutationCode, decideCode}
+use Rattle.c_interface.specs.Laws.{model-bytes-below, refutation-bytes-below, decision-below}
+use Rattle.c_interface.specs.Apart.{models-apart, refutations-apart, decisions-apart}
+use Rattle.demands.specs.Refusals.{Asked, deciding, checking-model, checking-refutation, checking-model-bytes, checking-refutation-bytes, IsCoefficient, WrongVariable, Outside, Row, _when_, rowsFrom, lineTable, linesTable, listTable, bytesTable, valuesTable, refusalTable, NoneApplies, FirstApplies, IsRefused, returned}
 
 -- ---- a validity, read along the rows
 data Gives : List Row → Validity → Type 1 where
@@ -125,7 +130,7 @@ gives-valid g = (fore g, back g)
 
 -- ---- what the tests tell
 not-test : {t : Bool} {C : Type 0} → Tells t C → Tells (not t) (C → ⊥)
-not-test {t = true} h = ((λ e c. never (cc)), (λ n. absurd (n (h .0 refl))))
+not-test {t = true} h = ((λ e c. false≢true e), (λ n. absurd (n (h .0 refl))))
 not-test {t = false} h = ((λ e c. false≢true (h .1 c)), (λ n. refl))
 
 -- one of two is wrong
@@ -196,7 +201,7 @@ values-give m = go (length m) 0 (omega arith)
     go zero k e = rw (values-past m k (omega arith)) none
     go (suc count) k e = rw (values-from m k (omega arith)) (gives-row (outside-test maxValue (number m k)) (go count (k + 1) (omega arith)))
 
--- ---- bytes: what applies to the numbers in them applied to the bytes
+-- ---- bytes: their numbers are refused by nothing that the bytes are not
 module _ (n : ℕ) (b : List ℕ) where
   whole-numbers : length b % (numberBytes * lineSize) ≡ 0 → length (int32s b) % lineSize ≡ 0
   whole-numbers e = let k : length (int32s b) ≡ length b / numberBytes = length-firstOf numberBytes int32 b _ in omega arith
@@ -320,3 +325,11 @@ table-passes a = Iff·trans (fore, (λ e r h. never (cc (answer-refused a r .0 h
 -- a list is valid exactly if no refusal of the list itself applies
 pub list-valid : (n : ℕ) (L : List ℤ) → (validityOf n L ≡ Valid) ↔ NoneApplies (listTable n L)
 list-valid n L = gives-valid (list-gives n L)
+
+-- the number returned is a refusal's exactly if that refusal is given
+pub code-refused : (a : Asked) (r : Refusal) → placeOf r < refusalUnit → (returned a ≡ refusalCode r) ↔ IsRefused a r
+code-refused (deciding n L lent) r h = (decisions-apart _ (decide.Refused r) (decision-below n L lent) h, ap decideCode)
+code-refused (checking-model n L m) r h = (models-apart _ (model.Refused r) (model-places.answer-below refusalUnit (omega arith) (omega arith) n L m) h, ap modelCode)
+code-refused (checking-refutation n L R) r h = (refutations-apart _ (refutation.Refused r) (refutation-places.answer-below refusalUnit (omega arith) (omega arith) n L R) h, ap refutationCode)
+code-refused (checking-model-bytes n b m) r h = (models-apart _ (model.Refused r) (model-bytes-below n b m) h, ap modelCode)
+code-refused (checking-refutation-bytes n b R) r h = (refutations-apart _ (refutation.Refused r) (refutation-bytes-below n b R) h, ap refutationCode)
