@@ -1,13 +1,11 @@
 -- A call of deciding, as the demands speak of it: what it answered, and what it wrote into the lent buffers.
 use mathlib.Core.Path.{_≡_, refl, sym, ap, subst, _∙_}
-use mathlib.Core.Logic.{_↔_}
 use mathlib.Core.Bool.{Bool, true, false, cond}
 use mathlib.Core.List.{List}
 use Prim.Native.Nat.{ℕ}
 use lib.IntN.{ℤ}
 use lib.ListN.{drop}
 use lib.Seq.{drop-at}
-use Rattle.integers.specs.Laws.{never}
 use Rattle.integers.specs.Sequence.{length-tabulate}
 use Rattle.lines.specs.declared.Refusal.{Refusal}
 use Rattle.lines.specs.declared.Validity.{Validity}
@@ -33,23 +31,6 @@ pub record Call (n : ℕ) (L : List ℤ) : Type 0 where
   pub after : Lent
   pub decided : Decided n L answer before after
   pub not-refused : (r : Refusal) → answer ≡ Refused r → ⊥
-
--- ---- a refusal is answered exactly if it is the first that applies
-pub refused-when : {n : ℕ} {L : List ℤ} {answer : Answer} {b a : Lent} → Decided n L answer b a
-    → (r : Refusal) → (answer ≡ Refused r) ↔ (validityFor n L b ≡ validity.Refused r)
-unfolding decideAnswer
-refused-when {n} {L} {answer} {b} {a} d r = (
-  (λ e. go (validityFor n L b) (verdictOf n (linesOf L)) (sym (d .is) ∙ e)),
-  (λ e. d .is ∙ ap (λ (v : Validity). unlessRefused v (cond (verdictOf n (linesOf L)) Yes No)) e),
-)
-  where
-    go : (v : Validity) (t : Bool) → unlessRefused v (cond t Yes No) ≡ Refused r → v ≡ validity.Refused r
-    go Valid true e = never (cc)
-    go Valid false e = never (cc)
-    go (validity.Refused s) t e = ap validity.Refused (same e)
-      where
-        same : Refused s ≡ Refused r → s ≡ r
-        same e = cc
 
 -- ---- what follows from the call alone
 module _ {n : ℕ} {L : List ℤ} (c : Call n L) where

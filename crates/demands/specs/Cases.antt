@@ -37,14 +37,14 @@ use Rattle.decide.specs.Decided.{Lent, OnYes, OnNo}
 use Rattle.demands.specs.Calls.{Call, verdict-yes, verdict-no, on-yes as call-on-yes, on-no as call-on-no}
 
 -- what is written on a yes: model, bounds, groups; on a no: a refutation, here the one that document 01 names, and the sums of its walks
-pub data Row : Type 0 where
-  on-yes : (model bounds : List ℤ) (groups : List ℕ) → Row
-  on-no : (refutation : List ℕ) (sums : List ℤ) → Row
+pub data Expected : Type 0 where
+  on-yes : (model bounds : List ℤ) (groups : List ℕ) → Expected
+  on-no : (refutation : List ℕ) (sums : List ℤ) → Expected
 
 pub record Case : Type 0 where
   pub n : ℕ
   pub list : List ℤ
-  pub row : Row
+  pub expected : Expected
 
 -- ---- the statement
 -- the steps with these numbers, and their sum
@@ -57,9 +57,9 @@ WalkSums L R [] = kindOf R ≡ 3
 WalkSums L R (S ∷ []) = SumsTo L (drop headSize R) S
 WalkSums L R (S ∷ T ∷ zs) = SumsTo L (take (getD R 1 0) (drop headSize R)) S × SumsTo L (drop (getD R 1 0) (drop headSize R)) T
 
--- what a call answers and leaves: on a yes all lent buffers are told, the work area's zeros among them; on a no what the promise asks, and the row's
--- refutation is one that it allows
-abbrev pub Gives : (n : ℕ) (L : List ℤ) → Call n L → Row → Type 0
+-- what a call answers and leaves: on a yes all lent buffers are told, the work area's zeros among them; on a no what the promise asks, and the
+-- refutation named is one that it allows
+abbrev pub Gives : (n : ℕ) (L : List ℤ) → Call n L → Expected → Type 0
 Gives n L c (on-yes m b g) =
     (c .answer ≡ Yes)
     × (c .after
@@ -72,9 +72,9 @@ Gives n L c (on-yes m b g) =
     })
 Gives n L c (on-no R sums) = (c .answer ≡ No) × OnNo n L (c .before) (c .after) × Due n L R × WalkSums L R sums
 
--- the list is valid for its n, and every call gives the row
+-- the list is valid for its n, and every call gives what is expected
 abbrev pub Holds : Case → Type 0
-Holds c = (validityOf (c .n) (c .list) ≡ Valid) × ((k : Call (c .n) (c .list)) → Gives (c .n) (c .list) k (c .row))
+Holds c = (validityOf (c .n) (c .list) ≡ Valid) × ((k : Call (c .n) (c .list)) → Gives (c .n) (c .list) k (c .expected))
 
 abbrev pub AllHold : List Case → Type 0
 AllHold [] = Unit {0}
@@ -108,14 +108,14 @@ list-9 = minus 1 ∷ pos 0 ∷ minus 1 ∷ pos 0 ∷ minus 7 ∷ []
 unfoldable pub cases : List Case
 cases =
     -- 1
-    record { n = 0; list = []; row = on-yes [] [] [] }
+    record { n = 0; list = []; expected = on-yes [] [] [] }
     -- 2
-    ∷ record { n = 1; list = []; row = on-yes (pos 0 ∷ []) (absentLeast ∷ absentGreatest ∷ []) (0 ∷ []) }
+    ∷ record { n = 1; list = []; expected = on-yes (pos 0 ∷ []) (absentLeast ∷ absentGreatest ∷ []) (0 ∷ []) }
     -- 3, and with d = 0
-    ∷ record { n = 0; list = pos 0 ∷ pos 0 ∷ pos 0 ∷ pos 0 ∷ minus 1 ∷ []; row = on-no (3 ∷ 1 ∷ 0 ∷ 0 ∷ []) [] }
-    ∷ record { n = 0; list = pos 0 ∷ pos 0 ∷ pos 0 ∷ pos 0 ∷ pos 0 ∷ []; row = on-yes [] [] [] }
+    ∷ record { n = 0; list = pos 0 ∷ pos 0 ∷ pos 0 ∷ pos 0 ∷ minus 1 ∷ []; expected = on-no (3 ∷ 1 ∷ 0 ∷ 0 ∷ []) [] }
+    ∷ record { n = 0; list = pos 0 ∷ pos 0 ∷ pos 0 ∷ pos 0 ∷ pos 0 ∷ []; expected = on-yes [] [] [] }
     -- 4
-    ∷ record { n = 3; list = list-4; row = on-no (2 ∷ 2 ∷ 2 ∷ 0 ∷ 3 ∷ 4 ∷ 7 ∷ []) (pos 1 ∷ minus 1 ∷ []) }
+    ∷ record { n = 3; list = list-4; expected = on-no (2 ∷ 2 ∷ 2 ∷ 0 ∷ 3 ∷ 4 ∷ 7 ∷ []) (pos 1 ∷ minus 1 ∷ []) }
     -- 5
     ∷ record {
       n = 3;
@@ -124,7 +124,7 @@ cases =
           ∷ pos 1 ∷ pos 0 ∷ pos 1 ∷ pos 1 ∷ minus 1
           ∷ minus 1 ∷ pos 0 ∷ minus 1 ∷ pos 2 ∷ minus 4
           ∷ [];
-      row = on-yes (pos 0 ∷ minus 1 ∷ pos 4 ∷ []) (absentLeast ∷ pos 0 ∷ absentLeast ∷ absentGreatest ∷ pos 4 ∷ absentGreatest ∷ []) (0 ∷ 1 ∷ 2 ∷ []);
+      expected = on-yes (pos 0 ∷ minus 1 ∷ pos 4 ∷ []) (absentLeast ∷ pos 0 ∷ absentLeast ∷ absentGreatest ∷ pos 4 ∷ absentGreatest ∷ []) (0 ∷ 1 ∷ 2 ∷ []);
     }
     -- 6
     ∷ record {
@@ -135,23 +135,23 @@ cases =
           ∷ pos 1 ∷ pos 1 ∷ pos 1 ∷ pos 1 ∷ pos 1
           ∷ minus 1 ∷ pos 1 ∷ minus 1 ∷ pos 1 ∷ pos 1
           ∷ [];
-      row = on-yes (pos 0 ∷ pos 0 ∷ []) (pos 0 ∷ pos 0 ∷ pos 0 ∷ pos 0 ∷ []) (0 ∷ 0 ∷ []);
+      expected = on-yes (pos 0 ∷ pos 0 ∷ []) (pos 0 ∷ pos 0 ∷ pos 0 ∷ pos 0 ∷ []) (0 ∷ 0 ∷ []);
     }
     -- 7, and with d = 0
-    ∷ record { n = 1; list = list-7; row = on-no (1 ∷ 1 ∷ 0 ∷ 0 ∷ []) (minus 1 ∷ []) }
-    ∷ record { n = 1; list = pos 1 ∷ pos 0 ∷ minus 1 ∷ pos 0 ∷ pos 0 ∷ []; row = on-yes (pos 0 ∷ []) (absentLeast ∷ absentGreatest ∷ []) (0 ∷ []) }
+    ∷ record { n = 1; list = list-7; expected = on-no (1 ∷ 1 ∷ 0 ∷ 0 ∷ []) (minus 1 ∷ []) }
+    ∷ record { n = 1; list = pos 1 ∷ pos 0 ∷ minus 1 ∷ pos 0 ∷ pos 0 ∷ []; expected = on-yes (pos 0 ∷ []) (absentLeast ∷ absentGreatest ∷ []) (0 ∷ []) }
     -- 8, and with the second d -3
-    ∷ record { n = 1; list = list-8; row = on-no (1 ∷ 2 ∷ 0 ∷ 0 ∷ 2 ∷ []) (minus 2 ∷ []) }
+    ∷ record { n = 1; list = list-8; expected = on-no (1 ∷ 2 ∷ 0 ∷ 0 ∷ 2 ∷ []) (minus 2 ∷ []) }
     ∷ record {
       n = 1;
       list =
           pos 1 ∷ pos 0 ∷ pos 0 ∷ pos 0 ∷ pos 3
           ∷ minus 1 ∷ pos 0 ∷ pos 0 ∷ pos 0 ∷ minus 3
           ∷ [];
-      row = on-yes (pos 3 ∷ []) (pos 3 ∷ pos 3 ∷ []) (0 ∷ []);
+      expected = on-yes (pos 3 ∷ []) (pos 3 ∷ pos 3 ∷ []) (0 ∷ []);
     }
     -- 9
-    ∷ record { n = 1; list = list-9; row = on-yes (pos 4 ∷ []) (pos 4 ∷ absentGreatest ∷ []) (0 ∷ []) }
+    ∷ record { n = 1; list = list-9; expected = on-yes (pos 4 ∷ []) (pos 4 ∷ absentGreatest ∷ []) (0 ∷ []) }
     -- 10
     ∷ record {
       n = 2;
@@ -159,7 +159,7 @@ cases =
           pos 1 ∷ pos 0 ∷ minus 1 ∷ pos 1 ∷ pos 0
           ∷ minus 1 ∷ pos 0 ∷ pos 1 ∷ pos 1 ∷ pos 0
           ∷ [];
-      row = on-yes (pos 0 ∷ pos 0 ∷ []) (absentLeast ∷ absentGreatest ∷ absentLeast ∷ absentGreatest ∷ []) (0 ∷ 0 ∷ []);
+      expected = on-yes (pos 0 ∷ pos 0 ∷ []) (absentLeast ∷ absentGreatest ∷ absentLeast ∷ absentGreatest ∷ []) (0 ∷ 0 ∷ []);
     }
     ∷ []
 
@@ -188,15 +188,15 @@ gives-yes : (n : ℕ) (L m bs : List ℤ) (g : List ℕ) → verdictOf n (linesO
     → (c : Call n L) → Gives n L c (on-yes m bs g)
 gives-yes n L m bs g v e f h c = let y = verdict-yes c v in (y, leaves-yes (call-on-yes c y) m bs g e f h)
 
--- on a no: the row's refutation is accepted, of the due kind, and short
-due-row : (n : ℕ) (L : List ℤ) (R : List ℕ) → refutationAnswer n L R ≡ accepted-yes → kindOf R ≡ dueKind n (linesOf L)
+-- on a no: the refutation is accepted, of the due kind, and short
+due-here : (n : ℕ) (L : List ℤ) (R : List ℕ) → refutationAnswer n L R ≡ accepted-yes → kindOf R ≡ dueKind n (linesOf L)
     → (dueKind n (linesOf L) ≡ 3 → R ≡ 3 ∷ 1 ∷ 0 ∷ 2 * firstFalse 0 (linesOf L) ∷ []) → ((dueKind n (linesOf L) ≡ 3 → ⊥) → stepsIn R ≤ 4 * n) → length R ≤ 4 + 4 * n → Due n L R
-due-row n L R e k l f s = record { refutes = accepted-when n L R .0 e .2; kind = k; lowest = l; few = f; size = s }
+due-here n L R e k l f s = record { refutes = accepted-when n L R .0 e .2; kind = k; lowest = l; few = f; size = s }
 
 gives-no : (n : ℕ) (L : List ℤ) (R : List ℕ) (sums : List ℤ) → verdictOf n (linesOf L) ≡ false → Due n L R → WalkSums L R sums → (c : Call n L) → Gives n L c (on-no R sums)
 gives-no n L R sums v d w c = let y = verdict-no c v in (y, call-on-no c y, d, w)
 
--- the steps of the walks that the rows of a no name
+-- the steps of the walks that the cases of a no name
 sums-4 : WalkSums list-4 (2 ∷ 2 ∷ 2 ∷ 0 ∷ 3 ∷ 4 ∷ 7 ∷ []) (pos 1 ∷ minus 1 ∷ [])
 unfolding stepNumbered stepOf lineAt entry digit
 sums-4 = (
@@ -227,14 +227,14 @@ unfolding cases coefficientsOk variableOk variablesOk constantOk linesValidity v
 all-cases =
     (refl, gives-yes _ _ _ _ _ refl refl refl refl)
     then (refl, gives-yes _ _ _ _ _ refl refl refl refl)
-    then (refl, gives-no _ _ _ [] refl (due-row _ _ _ refl refl (λ _. refl) (λ z. absurd (z refl)) (omega arith)) refl)
+    then (refl, gives-no _ _ _ [] refl (due-here _ _ _ refl refl (λ _. refl) (λ z. absurd (z refl)) (omega arith)) refl)
     then (refl, gives-yes _ _ _ _ _ refl refl refl refl)
-    then (refl, gives-no _ _ _ (pos 1 ∷ minus 1 ∷ []) refl (due-row _ _ _ refl refl (λ z. absurd (omega arith)) (λ _. omega arith) (omega arith)) sums-4)
+    then (refl, gives-no _ _ _ (pos 1 ∷ minus 1 ∷ []) refl (due-here _ _ _ refl refl (λ z. absurd (omega arith)) (λ _. omega arith) (omega arith)) sums-4)
     then (refl, gives-yes _ _ _ _ _ refl refl refl refl)
     then (refl, gives-yes _ _ _ _ _ refl refl refl refl)
-    then (refl, gives-no _ _ _ (minus 1 ∷ []) refl (due-row _ _ _ refl refl (λ z. absurd (omega arith)) (λ _. omega arith) (omega arith)) sum-7)
+    then (refl, gives-no _ _ _ (minus 1 ∷ []) refl (due-here _ _ _ refl refl (λ z. absurd (omega arith)) (λ _. omega arith) (omega arith)) sum-7)
     then (refl, gives-yes _ _ _ _ _ refl refl refl refl)
-    then (refl, gives-no _ _ _ (minus 2 ∷ []) refl (due-row _ _ _ refl refl (λ z. absurd (omega arith)) (λ _. omega arith) (omega arith)) sum-8)
+    then (refl, gives-no _ _ _ (minus 2 ∷ []) refl (due-here _ _ _ refl refl (λ z. absurd (omega arith)) (λ _. omega arith) (omega arith)) sum-8)
     then (refl, gives-yes _ _ _ _ _ refl refl refl refl)
     then (refl, gives-yes _ _ _ _ _ refl refl refl refl)
     then (refl, gives-yes _ _ _ _ _ refl refl refl refl)

@@ -1,18 +1,21 @@
--- Versions of deciding that answer idly or by guessing, each a definition, and at a named input what breaks the promise.
+-- Versions of deciding that answer idly, by guessing or with a refusal out of its order, each a definition, and at a named input what breaks the promise.
 use mathlib.Core.Path.{_≡_, refl, sym, ap, subst, _∙_}
-use mathlib.Core.Bool.{Bool, true, false, cond}
+use mathlib.Core.Bool.{Bool, true, false, cond, not}
 use mathlib.Core.List.{List, [], _∷_, _++_}
-use Prim.Native.Nat.{ℕ, zero, suc, _<_}
+use Prim.Native.Nat.{ℕ, zero, suc, _+_, _%_, _<_}
 use native.Mathlib.Omega.{arith}
-use lib.Dec.{eqb}
+use lib.Dec.{eqb, ltb}
 use lib.IntN.{ℤ, pos, negℤ}
 use lib.ListN.{length, getD, take, drop, replicate}
 use Rattle.integers.specs.Laws.{never}
 use Rattle.integers.specs.Sequence.{tabulate}
-use Rattle.lines.specs.declared.Refusal.the-variants.{TooManyVariables}
+use Rattle.lines.specs.declared.Line.{Line}
+use Rattle.lines.specs.declared.Refusal.the-variants.{TooManyVariables, BrokenLength, TooManyLines, BadCoefficient, BadVariable, BadConstant, ShortOutput, ShortWorkArea}
+use Rattle.lines.specs.declared.Validity.{Validity}
 use Rattle.lines.specs.declared.Validity.the-variants as validity
-use Rattle.lines.specs.Line.{lineAt, linesOf, isFalse}
-use Rattle.lines.specs.Refusal.{coefficientsOk, variableOk, variablesOk, constantOk, linesValidity, validityOf}
+use Rattle.lines.specs.Limits.{lineSize, maxVariables, maxLines, maxConstant}
+use Rattle.lines.specs.Line.{lineAt, lineCount, linesOf, isFalse}
+use Rattle.lines.specs.Refusal.{_orElse_, refuseIf, Rule, firstBroken, coefficientsOk, variableOk, variablesOk, constantOk, linesValidity, validityOf}
 use Rattle.steps.specs.declared.Step.{Step}
 use Rattle.steps.specs.declared.NamedStep.the-variants.{Found, Nothing}
 use Rattle.steps.specs.Point.{opposite}
@@ -181,6 +184,59 @@ refusesEvery n L b = record { answer = Refused TooManyVariables; after = b }
 pub refuses-every-breaks : Keeps refusesEvery → ⊥
 unfolding refusesEvery
 refuses-every-breaks k = let e : Refused TooManyVariables ≡ Yes = k 0 [] (room 0) .is ∙ no-lines-yes in never (cc)
+
+-- it refuses by v, and else answers and writes right
+abbrev refusingBy : (ℕ → List ℤ → Lent → Validity) → Version
+refusingBy v n L b = outcome (unlessRefused (v n L b) (cond (verdictOf n (linesOf L)) Yes No)) b (rightYes n L b) (rightNo n L b)
+
+-- of the output buffers that are too short it names the last
+abbrev lastShortFirst : ℕ → List ℤ → Lent → Validity
+lastShortFirst n L b =
+    validityOf n L
+    orElse refuseIf (ltb (length (b .refutation)) (refutationRoom n)) (ShortOutput 4)
+    orElse refuseIf (ltb (length (b .groups)) n) (ShortOutput 3)
+    orElse refuseIf (ltb (length (b .bounds)) (boundsRoom n)) (ShortOutput 2)
+    orElse refuseIf (ltb (length (b .model)) n) (ShortOutput 1)
+    orElse refuseIf (ltb (length (b .work)) (workRoom n)) ShortWorkArea
+
+pub namesLastShort : Version
+namesLastShort = refusingBy lastShortFirst
+
+pub names-last-short-breaks : Keeps namesLastShort → ⊥
+unfolding namesLastShort decideAnswer decideValidity outputsValidity validityOf linesValidity
+names-last-short-breaks k =
+    let e : Refused (ShortOutput 4) ≡ Refused (ShortOutput 1) = k 1 [] (room 0) .is in
+    let p : _≡_ {A = ℕ} 4 1 = cc in absurd (omega arith)
+
+-- within a line it refuses 6 before 5
+abbrev constantRules : List Rule
+constantRules =
+    record { ok = λ n l. coefficientsOk l; refusal = BadCoefficient }
+    ∷ record { ok = λ n l. constantOk l; refusal = BadConstant }
+    ∷ record { ok = variablesOk; refusal = BadVariable }
+    ∷ []
+
+abbrev constantsFirst : ℕ → ℕ → List Line → Validity
+constantsFirst n k [] = validity.Valid
+constantsFirst n k (l ∷ ls) = firstBroken constantRules n k l orElse constantsFirst n (k + 1) ls
+
+pub refusesConstantsFirst : Version
+refusesConstantsFirst =
+    refusingBy
+    (λ n L b.
+    refuseIf (ltb maxVariables n) TooManyVariables
+    orElse refuseIf (not (eqb (length L % lineSize) 0)) BrokenLength
+    orElse refuseIf (ltb maxLines (lineCount L)) TooManyLines
+    orElse constantsFirst n 0 (linesOf L)
+    orElse validityFor n L b)
+
+-- variable 0 where there is none, and d beyond its limit
+abbrev twiceWrong : List ℤ
+twiceWrong = pos 1 ∷ pos 0 ∷ pos 0 ∷ pos 0 ∷ pos (maxConstant + 1) ∷ []
+
+pub refuses-constants-first-breaks : Keeps refusesConstantsFirst → ⊥
+unfolding refusesConstantsFirst decideAnswer decideValidity outputsValidity validityOf linesValidity coefficientsOk variableOk variablesOk constantOk lineAt
+refuses-constants-first-breaks k = let e : Refused (BadConstant 0) ≡ Refused (BadVariable 0) = k 0 twiceWrong (room 0) .is in never (cc)
 
 -- it says yes to every list, with a model of zeros
 pub yesWithZeros : Version

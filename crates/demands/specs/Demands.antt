@@ -1,31 +1,30 @@
 -- What was demanded, in document 01's words, each statement proved by citing the rest: of deciding, of the answers and of the checkers.
 --
--- A reader has to believe the meaning of the words (`Solves`, `Written` in answers/specs/Semantics.antt, `Refutes` in soundness/specs/Refutes.antt)
--- and what a call is (`Call` in Calls.antt), and nothing of how the answers are computed.
+-- A reader has to believe the meaning of the words (`Solves`, `Written` in answers/specs/Semantics.antt, `Refutes` in soundness/specs/Refutes.antt),
+-- the table of refusals (`refusalTable` in Refusals.antt) and what a call is (`Call` in Calls.antt), and nothing of how the answers are computed.
 --
 -- The promises of the code are equations, for every input: `decide` promises `Decided` (decide/specs/Decided.antt), `check_model` answers
 -- `modelAnswer`, `check_refutation` answers `refutationAnswer`, and the exported functions return `DecideReturns`, `checkModel` and
 -- `checkRefutation`. src/lib.rt calls both checkers on buffers that could be written, and proves that every buffer is left as it was.
 use mathlib.Core.Path.{_≡_, refl, sym, ap, subst, _∙_}
-use mathlib.Core.Logic.{_↔_}
+use mathlib.Core.Logic.{_↔_, Iff·rfl, Iff·trans, Iff·and}
 use mathlib.Core.Bool.{Bool, true, false}
 use mathlib.Core.List.{List, [], _∷_, _++_}
 use Prim.Native.Nat.{ℕ, suc, _+_, _*_, _%_, _<_, _≤_}
 use native.Mathlib.Omega.{arith}
-use lib.IntN.{ℤ, pos, natAbs}
+use lib.IntN.{ℤ, pos, negℤ, natAbs}
 use lib.ListN.{length, drop, getD}
 use Rattle.integers.specs.Integer.{_⩽_}
 use Rattle.lines.specs.declared.Refusal.{Refusal}
 use Rattle.lines.specs.declared.Validity.the-variants.{Valid}
-use Rattle.lines.specs.declared.Validity.the-variants as validity
 use Rattle.lines.specs.Limits.{lineSize, maxRefutation}
 use Rattle.lines.specs.Line.{Assignment, Solves, Solvable, SameSolutions, lineAt, lineCount, linesOf, assignmentOf, isFalse}
-use Rattle.lines.specs.Refusal.{validityOf}
+use Rattle.lines.specs.Refusal.{validityOf, numberOf, placeOf}
 use Rattle.lines.specs.Valid.{LineOk, valid-list, shorter-valid}
 use Rattle.little_endian.specs.Bytes.{int32s, nat32s}
 use Rattle.model.specs.declared.ModelAnswer.the-variants as model
-use Rattle.model.specs.Model.{modelValidity, modelAnswer}
-use Rattle.model.specs.Meaning.{FirstFails, yes-exactly, no-exactly, refused-exactly}
+use Rattle.model.specs.Model.{modelAnswer}
+use Rattle.model.specs.Meaning.{FirstFails, yes-exactly, no-exactly}
 use Rattle.refutation.specs.declared.RefutationAnswer.the-variants.{Yes, No}
 use Rattle.refutation.specs.Progress.{headSize, start}
 use Rattle.refutation.specs.Answer.{refutationAnswer}
@@ -48,19 +47,21 @@ use Rattle.answers.specs.Same.{same-verdict, same-written}
 use Rattle.buffers.specs.Room.{boundsRoom}
 use Rattle.decide.specs.declared.Answer.{Answer}
 use Rattle.decide.specs.declared.Answer.the-variants as decide
-use Rattle.decide.specs.Decided.{Lent, cleared, answerFor, Decided, validityFor, DecideOk}
+use Rattle.decide.specs.Decided.{Lent, cleared, answerFor, Decided, DecideOk}
 use Rattle.decide.specs.Parts.{modelIn, boundsIn, groupsIn, refutationIn, model-in, bounds-in, groups-in, refutation-in}
 use Rattle.demands.specs.Cases.{AllHold, cases, all-cases}
 use Rattle.demands.specs.Exists.{a-call}
 use Rattle.demands.specs.Shown.{model-accepted}
-use Rattle.demands.specs.Calls.{Call, refused-when, call-valid, call-yes, call-no, verdict-yes, verdict-no, on-yes, on-no, call-written, call-work, beyond-model, beyond-bounds, beyond-groups}
+use Rattle.demands.specs.Calls.{Call, call-valid, call-yes, call-no, verdict-yes, verdict-no, on-yes, on-no, call-written, call-work, beyond-model, beyond-bounds, beyond-groups}
+use Rattle.demands.specs.Refusals.{Asked, deciding, checking-model, listTable, refusalTable, NoneApplies, FirstApplies, IsRefused, returned}
+use Rattle.demands.specs.Refused.{table-refuses, table-valid, table-passes, list-valid, code-refused}
 use Rattle.list_file.specs.declared.Listed.{Listed}
 use Rattle.list_file.specs.declared.ReadAnswer.the-variants.{Read}
 use Rattle.list_file.specs.File.{fileOf, fileList}
 use Rattle.list_file.specs.Read.{readAnswer}
 use Rattle.list_file.specs.Bytes.{AreBytes}
 use Rattle.list_file.specs.Back.{OneFile, read-written, list-in-file, written-read, one-file, one-list}
-use Rattle.c_interface.specs.Codes.{decideCode}
+use Rattle.c_interface.specs.Codes.{refusalUnit, refusalCode, decideCode}
 use Rattle.c_interface.specs.Calls.{numberBytes, bytesValidity, modelOfBytes, refutationOfBytes, checkModel, checkRefutation}
 use Rattle.c_interface.specs.Laws.{model-bytes-below, refutation-bytes-below, decision-below}
 use Rattle.c_interface.specs.Apart.{models-apart, refutations-apart, decisions-apart, returned-yes}
@@ -75,10 +76,24 @@ Accepted n L R = refutationAnswer n L R ≡ Yes
 
 -- ---- demand 1: any list gets an answer or a numbered refusal, and a refusal changes no lent buffer
 
--- A call answers by the first refusal that applies, and by yes or no exactly if none does. That it ends is part of every promise.
+-- Document 01's table, for deciding and for both checks, on numbers and on bytes: a refusal is given exactly if its condition holds and none that goes
+-- before does.
+pub refusals-are-the-table : (a : Asked) (r : Refusal) → IsRefused a r ↔ FirstApplies (refusalTable a) r
+refusals-are-the-table a r = table-refuses a r
+
+-- Nothing is refused exactly if no condition of the table holds.
+pub nothing-refused : (a : Asked) → ((r : Refusal) → IsRefused a r → ⊥) ↔ NoneApplies (refusalTable a)
+nothing-refused a = table-passes a
+
+-- A list is valid exactly if no condition of the list itself holds.
+pub valid-exactly-if : (n : ℕ) (L : List ℤ) → ValidFor n L ↔ NoneApplies (listTable n L)
+valid-exactly-if n L = list-valid n L
+
+-- Of a call of `decide`: it answers by the first refusal that applies, and by yes or no exactly if none does. That it ends is part of every promise.
 pub refused-exactly-if : (n : ℕ) (L : List ℤ) (answer : Answer) (before after : Lent) → Decided n L answer before after
-    → (r : Refusal) → (answer ≡ decide.Refused r) ↔ (validityFor n L before ≡ validity.Refused r)
-refused-exactly-if n L answer before after d r = refused-when d r
+    → (r : Refusal) → (answer ≡ decide.Refused r) ↔ FirstApplies (refusalTable (deciding n L before)) r
+refused-exactly-if n L answer before after d r =
+    let t = table-refuses (deciding n L before) r in ((λ e. t .0 (sym (d .is) ∙ e)), (λ f. d .is ∙ t .1 f))
 
 -- A refusal leaves every lent buffer as it was.
 pub refusal-changes-nothing : (n : ℕ) (L : List ℤ) (r : Refusal) (before after : Lent) → Decided n L (decide.Refused r) before after → after ≡ before
@@ -322,16 +337,12 @@ resumed-after-each-piece n L pieces = in-pieces n L pieces
 -- ---- the model checker
 
 -- Yes: nothing is refused, and the values meet every line.
-pub model-yes : (n : ℕ) (L m : List ℤ) → (modelAnswer n L m ≡ model.Yes) ↔ ((modelValidity n L m ≡ Valid) × Solves (linesOf L) (assignmentOf m))
-model-yes n L m = yes-exactly n L m
+pub model-yes : (n : ℕ) (L m : List ℤ) → (modelAnswer n L m ≡ model.Yes) ↔ (NoneApplies (refusalTable (checking-model n L m)) × Solves (linesOf L) (assignmentOf m))
+model-yes n L m = Iff·trans (yes-exactly n L m) (Iff·and (table-valid (checking-model n L m)) Iff·rfl)
 
 -- No: with the first line that fails, in list order.
-pub model-no : (n : ℕ) (L m : List ℤ) (k : ℕ) → (modelAnswer n L m ≡ model.No k) ↔ ((modelValidity n L m ≡ Valid) × FirstFails L (assignmentOf m) k)
-model-no n L m k = no-exactly n L m k
-
--- Refused: by the first refusal that applies.
-pub model-refused : (n : ℕ) (L m : List ℤ) (r : Refusal) → (modelAnswer n L m ≡ model.Refused r) ↔ (modelValidity n L m ≡ validity.Refused r)
-model-refused n L m r = refused-exactly n L m r
+pub model-no : (n : ℕ) (L m : List ℤ) (k : ℕ) → (modelAnswer n L m ≡ model.No k) ↔ (NoneApplies (refusalTable (checking-model n L m)) × FirstFails L (assignmentOf m) k)
+model-no n L m k = Iff·trans (no-exactly n L m k) (Iff·and (table-valid (checking-model n L m)) Iff·rfl)
 
 -- ---- the exported functions
 
@@ -343,6 +354,12 @@ returned-yes-is-accepted n b r = returned-yes n b r
 -- So a returned yes is never against a list that has a solution.
 pub returned-yes-not-against-a-solution : (n : ℕ) (b r : List ℕ) → checkRefutation n b r ≡ pos 0 → Solvable (linesOf (int32s b)) → ⊥
 returned-yes-not-against-a-solution n b r e = nothing-against-a-solution n (int32s b) (nat32s r) (returned-yes n b r .0 e .3)
+
+-- A refusal is returned as minus its number times 100,000, and its place: exactly where it is the first of the table that applies.
+pub refusals-returned : (a : Asked) (r : Refusal) → placeOf r < refusalUnit
+    → (returned a ≡ negℤ (pos (numberOf r * refusalUnit + placeOf r))) ↔ FirstApplies (refusalTable a) r
+unfolding refusalCode
+refusals-returned a r h = Iff·trans (code-refused a r h) (table-refuses a r)
 
 -- No two answers are returned as one number.
 pub model-answers-apart : (n k : ℕ) (b c m l : List ℕ) → checkModel n b m ≡ checkModel k c l → modelOfBytes n b m ≡ modelOfBytes k c l

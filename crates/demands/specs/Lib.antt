@@ -1,5 +1,7 @@
 pub mod Calls
 pub mod Cases
+pub mod Refusals
+pub mod Refused
 pub mod Versions
 pub mod DecideVersions
 pub mod Exists

@@ -1,0 +1,127 @@
+-- Document 01's table of refusals: when each applies, in the order in which they go, and what it is to be the first that applies.
+-- The number and the place of each are `numberOf` and `placeOf` (lines/specs/Refusal.antt).
+use mathlib.Core.Path.{_≡_}
+use mathlib.Core.Logic.{_⊎_}
+use mathlib.Core.List.{List, [], _∷_, _++_}
+use Prim.Native.Nat.{ℕ, zero, suc, _+_, _*_, _%_, _<_}
+use lib.IntN.{ℤ, pos, negℤ}
+use lib.ListN.{length}
+use Rattle.integers.specs.Integer.{_⩽_, _⋖_}
+use Rattle.lines.specs.declared.Line.{Line}
+use Rattle.lines.specs.declared.Refusal.{Refusal}
+use Rattle.lines.specs.declared.Refusal.the-variants.{TooManyVariables, BrokenLength, TooManyLines, BadCoefficient, BadVariable, BadConstant, ShortOutput, ShortWorkArea, WrongModelLength, BadValue, LongRefutation}
+use Rattle.lines.specs.Limits.{lineSize, maxVariables, maxLines, maxConstant, maxValue, maxRefutation}
+use Rattle.lines.specs.Line.{number, lineAt, lineCount}
+use Rattle.little_endian.specs.Bytes.{int32s, int64s}
+use Rattle.buffers.specs.Room.{boundsRoom, refutationRoom, workRoom}
+use Rattle.model.specs.declared.ModelAnswer.the-variants as model
+use Rattle.model.specs.Model.{modelAnswer}
+use Rattle.refutation.specs.declared.RefutationAnswer.the-variants as refutation
+use Rattle.refutation.specs.Answer.{refutationAnswer}
+use Rattle.decide.specs.declared.Answer.the-variants as decide
+use Rattle.decide.specs.Decided.{Lent, answerFor}
+use Rattle.c_interface.specs.Codes.{modelCode, refutationCode, decideCode}
+use Rattle.c_interface.specs.Calls.{numberBytes, valueBytes, modelOfBytes, refutationOfBytes, checkModel, checkRefutation}
+
+-- What is asked, for n variables: to decide a list, with these lent buffers; to check a model of a list, or a refutation; and from C both checks on bytes.
+pub data Asked : Type 0 where
+  deciding : (n : ℕ) (list : List ℤ) (lent : Lent) → Asked
+  checking-model : (n : ℕ) (list values : List ℤ) → Asked
+  checking-refutation : (n : ℕ) (list : List ℤ) (numbers : List ℕ) → Asked
+  checking-model-bytes : (n : ℕ) (list values : List ℕ) → Asked
+  checking-refutation-bytes : (n : ℕ) (list numbers : List ℕ) → Asked
+
+-- ---- when a number of a line, or a value, is wrong
+abbrev pub IsCoefficient : ℤ → Type 0
+IsCoefficient c = (c ≡ negℤ (pos 1)) ⊎ (c ≡ pos 0) ⊎ (c ≡ pos 1)
+
+-- coefficient not 0 and variable number below 0 or at least n; or coefficient 0 and number not 0
+abbrev pub WrongVariable : ℕ → ℤ → ℤ → Type 0
+WrongVariable n a x = ((a ≡ pos 0 → ⊥) × ((x ⋖ pos 0) ⊎ (pos n ⩽ x))) ⊎ ((a ≡ pos 0) × (x ≡ pos 0 → ⊥))
+
+-- below -m or above m
+abbrev pub Outside : ℕ → ℤ → Type 0
+Outside m z = (z ⋖ negℤ (pos m)) ⊎ (pos m ⋖ z)
+
+-- ---- the table
+pub record Row : Type 1 where
+  pub refusal : Refusal
+  pub condition : Type 0
+
+infix 68 _when_
+abbrev pub _when_ : Refusal → Type 0 → Row
+r when c = record { refusal = r; condition = c }
+
+-- the rows for k, for k + 1, and so on: count times
+abbrev pub rowsFrom : ℕ → ℕ → (ℕ → List Row) → List Row
+rowsFrom k zero rows = []
+rowsFrom k (suc count) rows = rows k ++ rowsFrom (k + 1) count rows
+
+-- within a line 4, 5, 6
+abbrev pub lineTable : ℕ → ℕ → Line → List Row
+lineTable n k l =
+    BadCoefficient k when ((IsCoefficient (l .a) → ⊥) ⊎ (IsCoefficient (l .b) → ⊥))
+    ∷ BadVariable k when (WrongVariable n (l .a) (l .x) ⊎ WrongVariable n (l .b) (l .y))
+    ∷ BadConstant k when Outside maxConstant (l .d)
+    ∷ []
+
+-- 3; then lines from the first
+abbrev pub linesTable : ℕ → List ℤ → List Row
+linesTable n L = TooManyLines when (maxLines < lineCount L) ∷ rowsFrom 0 (lineCount L) (λ k. lineTable n k (lineAt L k))
+
+-- 1, 2, 3; then lines from the first
+abbrev pub listTable : ℕ → List ℤ → List Row
+listTable n L = TooManyVariables when (maxVariables < n) ∷ BrokenLength when (length L % lineSize ≡ 0 → ⊥) ∷ linesTable n L
+
+-- list bytes that are no multiple of a line's give 2
+abbrev pub bytesTable : ℕ → List ℕ → List Row
+bytesTable n b = TooManyVariables when (maxVariables < n) ∷ BrokenLength when (length b % (numberBytes * lineSize) ≡ 0 → ⊥) ∷ linesTable n (int32s b)
+
+-- 10: values from the first
+abbrev pub valuesTable : List ℤ → List Row
+valuesTable m = rowsFrom 0 (length m) (λ k. BadValue k when Outside maxValue (number m k) ∷ [])
+
+-- then 7, 8 for deciding, 9, 10 for a model, 11 for a refutation
+abbrev pub refusalTable : Asked → List Row
+refusalTable (deciding n L lent) =
+    listTable n L
+    ++ (ShortOutput 1 when (length (lent .model) < n)
+    ∷ ShortOutput 2 when (length (lent .bounds) < boundsRoom n)
+    ∷ ShortOutput 3 when (length (lent .groups) < n)
+    ∷ ShortOutput 4 when (length (lent .refutation) < refutationRoom n)
+    ∷ ShortWorkArea when (length (lent .work) < workRoom n)
+    ∷ [])
+refusalTable (checking-model n L m) = listTable n L ++ WrongModelLength when (length m ≡ n → ⊥) ∷ valuesTable m
+refusalTable (checking-refutation n L R) = listTable n L ++ LongRefutation when (maxRefutation < length R) ∷ []
+refusalTable (checking-model-bytes n b m) = bytesTable n b ++ WrongModelLength when (length m ≡ valueBytes * n → ⊥) ∷ valuesTable (int64s m)
+refusalTable (checking-refutation-bytes n b R) = bytesTable n b ++ LongRefutation when (numberBytes * maxRefutation < length R) ∷ []
+
+-- ---- the first that applies
+abbrev pub NoneApplies : List Row → Type 0
+NoneApplies [] = Unit {0}
+NoneApplies (row ∷ rows) = (row .condition → ⊥) × NoneApplies rows
+
+-- the condition of r holds, and none that goes before does
+pub record FirstApplies (rows : List Row) (r : Refusal) : Type 1 where
+  pub before : List Row
+  pub condition : Type 0
+  pub after : List Row
+  pub stands : rows ≡ before ++ r when condition ∷ after
+  pub applies : condition
+  pub none-before : NoneApplies before
+
+-- ---- what is answered
+abbrev pub IsRefused : Asked → Refusal → Type 0
+IsRefused (deciding n L lent) r = answerFor n L lent ≡ decide.Refused r
+IsRefused (checking-model n L m) r = modelAnswer n L m ≡ model.Refused r
+IsRefused (checking-refutation n L R) r = refutationAnswer n L R ≡ refutation.Refused r
+IsRefused (checking-model-bytes n b m) r = modelOfBytes n b m ≡ model.Refused r
+IsRefused (checking-refutation-bytes n b R) r = refutationOfBytes n b R ≡ refutation.Refused r
+
+-- the number that stands for the answer in C
+abbrev pub returned : Asked → ℤ
+returned (deciding n L lent) = decideCode (answerFor n L lent)
+returned (checking-model n L m) = modelCode (modelAnswer n L m)
+returned (checking-refutation n L R) = refutationCode (refutationAnswer n L R)
+returned (checking-model-bytes n b m) = checkModel n b m
+returned (checking-refutation-bytes n b R) = checkRefutation n b R
