@@ -1,4 +1,5 @@
 pub mod Calls
+pub mod Shown
 pub mod Demands
 pub mod Versions
 pub mod DecideVersions

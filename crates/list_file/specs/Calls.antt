@@ -25,7 +25,7 @@ use Rattle.list_file.specs.declared.WriteAnswer.{WriteAnswer}
 use Rattle.list_file.specs.declared.WriteAnswer.the-variants.{Written, Refused}
 use Rattle.list_file.specs.File.{fileOf, fileList, fileSize}
 use Rattle.list_file.specs.Read as reading
-use Rattle.list_file.specs.Read.{readAnswer, ReadDone}
+use Rattle.list_file.specs.Read.{ReadDone}
 use Rattle.list_file.specs.Write as writing
 use Rattle.list_file.specs.Write.{writeAnswer, WriteDone}
 use Rattle.list_file.specs.Bytes.{length-file}

@@ -10,7 +10,7 @@ use lib.Seq.{getD-drop, drop-at}
 use mir.Syntax.{w32, w64}
 use mir.Val.{SFits, toZ, ofZ}
 use mir.Facts.{toZ-ofZ, fits-ofZ}
-use Rattle.integers.specs.Sequence.{tabulate, tabulate-cong}
+use Rattle.integers.specs.Sequence.{tabulate-cong}
 use Rattle.little_endian.specs.Bytes.{AreBytes, le32, le64, int32, int64, firstOf, numbersOf, int32s, nat32s, int64s}
 use Rattle.little_endian.specs.Writing.{bytes16, bytes32, bytes64, signedBytes, signedBytes64, bytesOf, int32Bytes, nat32Bytes, int64Bytes}
 
@@ -21,7 +21,7 @@ le32-bytes v r h = four v (v / 256) (v / 65536) (v / 16777216) refl (sym (div-di
     four : (v x y z : ℕ) → x ≡ v / 256 → y ≡ x / 256 → z ≡ y / 256 → z < 256 → v % 256 + x % 256 * 256 + y % 256 * 65536 + z % 256 * 16777216 ≡ v
     four v x y z e f g h = omega arith
 
-pub le64-bytes : (v : ℕ) (r : List ℕ) → v < 2 ^ 64 → le64 (bytes64 v ++ r) 0 ≡ v
+le64-bytes : (v : ℕ) (r : List ℕ) → v < 2 ^ 64 → le64 (bytes64 v ++ r) 0 ≡ v
 le64-bytes v r h =
     let low : le32 (bytes64 v ++ r) 0 ≡ v % 4294967296 = le32-bytes (v % 4294967296) [] (omega arith) in
     let high : le32 (bytes64 v ++ r) 4 ≡ v / 4294967296 = le32-bytes (v / 4294967296) [] (omega arith) in
@@ -50,17 +50,19 @@ length-bytesOf size write sized (x ∷ xs) = omega (arith, length-append (write 
 -- One law for every width: numbers that take `size` bytes each, where one at the front is read back and a place is read by what stands there.
 module _ {A : Type 0} (size : ℕ) (read : List ℕ → ℕ → A) (write : A → List ℕ) (Fits : A → Type 0) (some : 0 < size) (sized : (x : A) → length (write x) ≡ size)
     (back : (x : A) (r : List ℕ) → Fits x → read (write x ++ r) 0 ≡ x) (at : (b c : List ℕ) (p : ℕ) → drop p b ≡ c → (i : ℕ) → read b (p + i) ≡ read c i) where
+  -- number k behind the first is number k of the rest
+  behind : (x : A) (xs : List A) (k : ℕ) → read (bytesOf write (x ∷ xs)) (size * suc k) ≡ read (bytesOf write xs) (size * k)
+  unfolding bytesOf
+  behind x xs k =
+      let next : size * suc k ≡ size + size * k = omega arith in
+      ap (read (write x ++ bytesOf write xs)) next ∙ at _ _ size (drop-at (write x) (bytesOf write xs) size (sized x)) (size * k)
+
   first-back : (d : A) (xs : List A) → ((i : ℕ) → Fits (getD xs i d)) → firstOf size read (bytesOf write xs) (length xs) ≡ xs
   unfolding firstOf bytesOf
   first-back d [] f = refl
   first-back d (x ∷ xs) f =
-      let r = bytesOf write xs in
-      let first : read (write x ++ r) (size * 0) ≡ x = ap (read (write x ++ r)) (mul-zero size) ∙ back x r (f 0) in
-      let next : (k : ℕ) → size * suc k ≡ size + size * k = λ k. omega arith in
-      let rest : tabulate (length xs) (λ k. read (write x ++ r) (size * suc k)) ≡ xs =
-          tabulate-cong (length xs) _ _ (λ k _. ap (read (write x ++ r)) (next k) ∙ at _ r size (drop-at (write x) r size (sized x)) (size * k))
-          ∙ first-back d xs (λ i. f (suc i)) in
-      rw (first, rest)
+      let first : read (write x ++ bytesOf write xs) (size * 0) ≡ x = ap (read (write x ++ bytesOf write xs)) (mul-zero size) ∙ back x _ (f 0) in
+      rw (first, tabulate-cong (length xs) _ _ (λ k _. behind x xs k) ∙ first-back d xs (λ i. f (suc i)))
 
   numbers-back : (d : A) (xs : List A) → ((i : ℕ) → Fits (getD xs i d)) → numbersOf size read (bytesOf write xs) ≡ xs
   numbers-back d xs f =
