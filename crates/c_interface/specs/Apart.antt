@@ -7,7 +7,7 @@ use Prim.Native.Nat.{ℕ, _+_, _*_, _%_, _<_, _≤_}
 use native.Mathlib.Omega.{arith}
 use borrow.Author.Tests.{ltb-false, le-ltb, eqb-true, eq-eqb}
 use lib.Dec.{eqb, ltb}
-use lib.IntN.{ℤ, pos, negℤ}
+use lib.IntN.{pos, negℤ}
 use lib.ListN.{length}
 use Rattle.integers.specs.Linear.{ints}
 use Rattle.integers.specs.Laws.{never}
@@ -60,7 +60,7 @@ refusal-back WrongModelLength = refl
 refusal-back (BadValue k) = refl
 refusal-back LongRefutation = refl
 
-number-some : (r : Refusal) → 0 < numberOf r
+pub number-some : (r : Refusal) → 0 < numberOf r
 number-some TooManyVariables = omega arith
 number-some BrokenLength = omega arith
 number-some TooManyLines = omega arith
@@ -88,7 +88,7 @@ refusals-apart r s h k e =
     let p : placeOf r ≡ placeOf s = omega arith in
     sym (refusal-back r) ∙ ap₂ refusalOf n p ∙ refusal-back s
 
-no-refusal : (n : ℕ) (r : Refusal) → pos n ≡ refusalCode r → ⊥
+pub no-refusal : (n : ℕ) (r : Refusal) → pos n ≡ refusalCode r → ⊥
 unfolding refusalCode
 no-refusal n r = not-negative (numberOf r * refusalUnit + placeOf r) n (omega (arith, number-some r))
 

@@ -1,26 +1,23 @@
 -- What the code uses of the calls: the numbers that were decoded, that the places in an answer are small, and what deciding returns.
 use mathlib.Core.Path.{_≡_, refl, sym, ap, subst, _∙_}
 use mathlib.Core.Bool.{Bool, true, false, not, cond}
-use mathlib.Core.List.{List, [], _∷_}
-use Prim.Native.Nat.{ℕ, _+_, _*_, _/_, _%_, _<_, _≤_}
+use mathlib.Core.List.{List}
+use Prim.Native.Nat.{ℕ, _*_, _/_, _%_, _<_, _≤_}
 use native.Mathlib.Omega.{arith}
 use borrow.Author.Tests.{lt-ltb, le-ltb, eq-eqb}
 use lib.Dec.{eqb, ltb}
 use lib.IntN.{ℤ}
 use lib.ListN.{length, take}
-use Rattle.lines.specs.declared.Refusal.{Refusal}
 use Rattle.lines.specs.declared.Refusal.the-variants.{TooManyVariables, BrokenLength, TooManyLines, WrongModelLength, LongRefutation}
 use Rattle.lines.specs.declared.Validity.{Validity}
 use Rattle.lines.specs.declared.Validity.the-variants.{Valid, Refused}
 use Rattle.lines.specs.Limits.{lineSize, maxVariables, maxLines, maxRefutation}
-use Rattle.lines.specs.Refusal.{_orElse_, refuseIf, validityOf}
+use Rattle.lines.specs.Refusal.{refuseIf, validityOf}
 use Rattle.little_endian.specs.Bytes.{int32, int32s, nat32s, int64s, length-firstOf}
 use Rattle.lines.specs.Places.{Placed, placed-or, placed-if, placed-list}
-use Rattle.lines.specs.Valid.{ListOk, valid-list, or-valid}
-use Rattle.model.specs.Model.{modelAnswer}
+use Rattle.lines.specs.Valid.{valid-list, or-valid}
 use Rattle.model.specs.Places as model
 use Rattle.refutation.specs.declared.Progress.{Progress}
-use Rattle.refutation.specs.declared.RefutationAnswer.{RefutationAnswer}
 use Rattle.refutation.specs.declared.RefutationAnswer.the-variants.{No}
 use Rattle.refutation.specs.Answer.{verdict, refutationAnswer}
 use Rattle.refutation.specs.Places as refutation

@@ -3,3 +3,4 @@ pub mod Calls
 pub mod Files
 pub mod Laws
 pub mod Apart
+pub mod Bytes

@@ -1,11 +1,15 @@
--- A call of deciding, as the demands speak of it: what it answered, and what it wrote into the lent buffers.
+-- A call of deciding, as the demands speak of it: what it answered, what it wrote into the lent buffers, and which number the exported function returns.
 use mathlib.Core.Path.{_≡_, refl, sym, ap, subst, _∙_}
+use mathlib.Core.Logic.{_↔_, _⊎_, inl, inr}
 use mathlib.Core.Bool.{Bool, true, false, cond}
 use mathlib.Core.List.{List}
 use Prim.Native.Nat.{ℕ}
-use lib.IntN.{ℤ}
+use native.Mathlib.Omega.{arith}
+use lib.IntN.{ℤ, pos, negsuc}
 use lib.ListN.{drop}
 use lib.Seq.{drop-at}
+use Rattle.integers.specs.Integer.{_⩽_, _⋖_}
+use Rattle.integers.specs.Linear.{ints}
 use Rattle.integers.specs.Sequence.{length-tabulate}
 use Rattle.lines.specs.declared.Refusal.{Refusal}
 use Rattle.lines.specs.declared.Validity.{Validity}
@@ -13,16 +17,24 @@ use Rattle.lines.specs.declared.Validity.the-variants.{Valid}
 use Rattle.lines.specs.declared.Validity.the-variants as validity
 use Rattle.lines.specs.Line.{linesOf}
 use Rattle.lines.specs.Refusal.{validityOf}
+use Rattle.refutation.specs.declared.RefutationAnswer.the-variants as refutation
+use Rattle.refutation.specs.Answer.{refutationAnswer}
 use Rattle.answers.specs.Semantics.{Written}
 use Rattle.answers.specs.Meaning.{computed-written}
-use Rattle.answers.specs.Decided.{lines-ok}
+use Rattle.answers.specs.Decided.{lines-ok, due-accepted}
 use Rattle.answers.specs.Verdict.{verdictOf}
 use Rattle.answers.specs.Answers.{modelOf, boundsOf, groupsOf}
+use Rattle.answers.specs.Refuted.{Due}
 use Rattle.buffers.specs.Room.{boundsRoom}
 use Rattle.decide.specs.declared.Answer.{Answer}
 use Rattle.decide.specs.declared.Answer.the-variants.{Yes, No, Refused}
-use Rattle.decide.specs.Parts.{yes-verdict, no-verdict, modelIn, boundsIn, groupsIn, model-in, bounds-in, groups-in}
-use Rattle.decide.specs.Decided.{Lent, unlessRefused, decideAnswer, cleared, OnYes, OnNo, Leaves, Decided, validityFor, decide-ok}
+use Rattle.decide.specs.Parts.{yes-verdict, no-verdict, modelIn, boundsIn, groupsIn, refutationIn, model-in, bounds-in, groups-in, refutation-in}
+use Rattle.decide.specs.Decided.{Lent, unlessRefused, decideAnswer, cleared, OnYes, OnNo, Leaves, answerFor, Decided, validityFor, decide-ok}
+use Rattle.decide.specs.Places.{Below}
+use Rattle.c_interface.specs.Codes.{noCode, refusalUnit, refusalCode, decideCode}
+use Rattle.c_interface.specs.Calls.{DecideReturns}
+use Rattle.c_interface.specs.Laws.{decision-below}
+use Rattle.c_interface.specs.Apart.{no-refusal, decisions-apart}
 
 -- A call of `decide` that was not refused, whatever stood in the lent buffers before.
 pub record Call (n : ℕ) (L : List ℤ) : Type 0 where
@@ -67,6 +79,12 @@ module _ {n : ℕ} {L : List ℤ} (c : Call n L) where
   pub on-no : c .answer ≡ No → OnNo n L (c .before) (c .after)
   on-no e = subst (λ (x : Answer). Leaves n L x (c .before) (c .after)) e (c .decided .leaves)
 
+  pub call-due : c .answer ≡ No → Due n L (refutationIn (c .after))
+  call-due e = let w = on-no e in subst (Due n L) (sym (refutation-in w)) (w .due)
+
+  pub call-accepted : c .answer ≡ No → refutationAnswer n L (refutationIn (c .after)) ≡ refutation.Yes
+  call-accepted e = due-accepted n L call-valid (refutationIn (c .after)) (call-due e)
+
   pub call-written : c .answer ≡ Yes → Written n (linesOf L) (modelIn n (c .after)) (boundsIn n (c .after)) (groupsIn n (c .after))
   call-written e =
       let w = on-yes e in
@@ -94,3 +112,56 @@ module _ {n : ℕ} {L : List ℤ} (c : Call n L) where
   pub beyond-groups : drop n (c .after .groups) ≡ drop n (c .before .groups)
   unfolding groupsOf
   beyond-groups = either (λ e. ap (drop n) (on-yes e .groups) ∙ drop-at (groupsOf n (linesOf L)) _ n (length-tabulate n _)) (λ e. ap (drop n) (on-no e .groups))
+
+-- ---- the exported function: what it returned, as a call
+-- The call that a returned number tells of: 0 is its yes, 1,000,000 its no, and no other number is returned for it.
+pub record Returned (n : ℕ) (L : List ℤ) (r : ℤ) (b a : Lent) : Type 0 where
+  pub call : Call n L
+  pub before : call .before ≡ b
+  pub after : call .after ≡ a
+  pub yes : (call .answer ≡ Yes) ↔ (r ≡ pos 0)
+  pub no : (call .answer ≡ No) ↔ (r ≡ pos noCode)
+  pub yes-or-no : (r ≡ pos 0) ⊎ (r ≡ pos noCode)
+
+module _ {n : ℕ} {L : List ℤ} {r : ℤ} {b a : Lent} (d : DecideReturns n L r b a) where
+  as-decided : Decided n L (answerFor n L b) b a
+  as-decided = record { is = refl; leaves = d .leaves }
+
+  -- the number tells the answer, since no two answers have one
+  returned-exactly : (x : Answer) → Below refusalUnit x → (answerFor n L b ≡ x) ↔ (r ≡ decideCode x)
+  returned-exactly x h = ((λ e. d .is ∙ ap decideCode e), (λ q. decisions-apart _ _ (decision-below n L b) h (sym (d .is) ∙ q)))
+
+  pub returned-call : pos 0 ⩽ r → Returned n L r b a
+  returned-call h =
+      record {
+        call = record { answer = answerFor n L b; before = b; after = a; decided = as-decided; not-refused = λ s e. go s r h (d .is ∙ ap decideCode e) };
+        before = refl;
+        after = refl;
+        yes = returned-exactly Yes tt;
+        no = returned-exactly No tt;
+        yes-or-no = either (answerFor n L b) (d .is);
+      }
+    where
+      below : (k : ℕ) → pos 0 ⩽ negsuc k → ⊥
+      below k = simp ints (omega arith)
+
+      go : (s : Refusal) (z : ℤ) → pos 0 ⩽ z → z ≡ refusalCode s → ⊥
+      go s (pos k) h e = no-refusal k s e
+      go s (negsuc k) h e = below k h
+
+      either : (x : Answer) → r ≡ decideCode x → (r ≡ pos 0) ⊎ (r ≡ pos noCode)
+      either Yes e = inl e
+      either No e = inr e
+      either (Refused s) e = absurd (go s r h e)
+
+  -- a returned refusal leaves every buffer as it was
+  pub returned-unchanged : r ⋖ pos 0 → a ≡ b
+  returned-unchanged h = go (answerFor n L b) (d .is) (d .leaves)
+    where
+      above : (z : ℤ) (k : ℕ) → z ⋖ pos 0 → z ≡ pos k → ⊥
+      above z k = simp ints (omega arith)
+
+      go : (x : Answer) → r ≡ decideCode x → Leaves n L x b a → a ≡ b
+      go Yes e l = absurd (above r 0 h e)
+      go No e l = absurd (above r noCode h e)
+      go (Refused s) e l = l

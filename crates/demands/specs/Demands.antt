@@ -13,15 +13,20 @@ use mathlib.Core.List.{List, [], _∷_, _++_}
 use Prim.Native.Nat.{ℕ, suc, _+_, _*_, _%_, _<_, _≤_}
 use native.Mathlib.Omega.{arith}
 use lib.IntN.{ℤ, pos, negℤ, natAbs}
-use lib.ListN.{length, drop, getD}
-use Rattle.integers.specs.Integer.{_⩽_}
+use lib.ListN.{length, drop, getD, take}
+use Rattle.integers.specs.Integer.{_⩽_, _⋖_}
 use Rattle.lines.specs.declared.Refusal.{Refusal}
 use Rattle.lines.specs.declared.Validity.the-variants.{Valid}
-use Rattle.lines.specs.Limits.{lineSize, maxRefutation}
-use Rattle.lines.specs.Line.{Assignment, Solves, Solvable, SameSolutions, lineAt, lineCount, linesOf, assignmentOf, isFalse}
+use Rattle.lines.specs.Limits.{lineSize, maxRefutation, maxVariables}
+use Rattle.lines.specs.Line.{Assignment, Solves, Solvable, SameSolutions, lineAt, lineCount, linesOf, assignmentOf, isFalse, number}
 use Rattle.lines.specs.Refusal.{validityOf, numberOf, placeOf}
 use Rattle.lines.specs.Valid.{LineOk, valid-list, shorter-valid}
-use Rattle.little_endian.specs.Bytes.{int32s, nat32s}
+use Rattle.little_endian.specs.Bytes.{int32s, nat32s, AreBytes}
+use mir.Syntax.{w32, w64}
+use mir.Val.{SFits}
+use Rattle.lines.specs.Fits.{numbers-fit}
+use Rattle.little_endian.specs.Writing.{int32Bytes, nat32Bytes, int64Bytes}
+use Rattle.little_endian.specs.Back.{int32s-back, int32Bytes-small, nat32Bytes-small, int64Bytes-small}
 use Rattle.model.specs.declared.ModelAnswer.the-variants as model
 use Rattle.model.specs.Model.{modelAnswer}
 use Rattle.model.specs.Meaning.{FirstFails, yes-exactly, no-exactly}
@@ -52,17 +57,26 @@ use Rattle.decide.specs.Parts.{modelIn, boundsIn, groupsIn, refutationIn, model
 use Rattle.demands.specs.Cases.{AllHold, cases, all-cases}
 use Rattle.demands.specs.Exists.{a-call}
 use Rattle.demands.specs.Shown.{model-accepted}
-use Rattle.demands.specs.Calls.{Call, call-valid, call-yes, call-no, verdict-yes, verdict-no, on-yes, on-no, call-written, call-work, beyond-model, beyond-bounds, beyond-groups}
+use Rattle.demands.specs.Calls.{Call, call-valid, call-yes, call-no, verdict-yes, verdict-no, on-yes, on-no, call-written, call-work, beyond-model, beyond-bounds, beyond-groups, Returned, returned-call, returned-unchanged, call-due, call-accepted}
 use Rattle.demands.specs.Refusals.{Asked, deciding, checking-model, listTable, refusalTable, NoneApplies, FirstApplies, IsRefused, returned}
 use Rattle.demands.specs.Refused.{table-refuses, table-valid, table-passes, list-valid, code-refused}
 use Rattle.list_file.specs.declared.Listed.{Listed}
+use Rattle.list_file.specs.declared.ReadAnswer.{ReadAnswer}
 use Rattle.list_file.specs.declared.ReadAnswer.the-variants.{Read}
-use Rattle.list_file.specs.File.{fileOf, fileList}
-use Rattle.list_file.specs.Read.{readAnswer}
-use Rattle.list_file.specs.Bytes.{AreBytes}
+use Rattle.list_file.specs.declared.WriteAnswer.{WriteAnswer}
+use Rattle.list_file.specs.declared.WriteAnswer.the-variants as write
+use Rattle.list_file.specs.File.{fileOf, fileList, lineRecords, lineBody}
+use Rattle.list_file.specs.Read.{readAnswer, ReadDone}
+use Rattle.list_file.specs.Write.{WriteDone}
+use Rattle.list_file.specs.Bytes.{file-bytes}
 use Rattle.list_file.specs.Back.{OneFile, read-written, list-in-file, written-read, one-file, one-list}
-use Rattle.c_interface.specs.Codes.{refusalUnit, refusalCode, decideCode}
-use Rattle.c_interface.specs.Calls.{numberBytes, bytesValidity, modelOfBytes, refutationOfBytes, checkModel, checkRefutation}
+use Rattle.c_interface.specs.Codes.{refusalUnit, refusalCode, decideCode, noCode, refutationCode}
+use Rattle.c_interface.specs.Calls.{numberBytes, bytesValidity, modelOfBytes, refutationOfBytes, checkModel, checkRefutation, DecideReturns}
+use Rattle.list_file.specs.Calls.{write-then-read, read-then-write}
+use Rattle.c_interface.specs.declared.FileRead.{FileRead}
+use Rattle.c_interface.specs.declared.FileWritten.{FileWritten}
+use Rattle.c_interface.specs.Files.{ReadReturns, WriteReturns, returned-read-back, returned-written-again}
+use Rattle.c_interface.specs.Bytes.{list-in-bytes, refutation-in-bytes, model-in-bytes, accepted-words, accepted-refutation, accepted-model}
 use Rattle.c_interface.specs.Laws.{model-bytes-below, refutation-bytes-below, decision-below}
 use Rattle.c_interface.specs.Apart.{models-apart, refutations-apart, decisions-apart, returned-yes}
 
@@ -215,7 +229,7 @@ nothing-unlearned n L M c d =
     }
   where
     shown : c .answer ≡ decide.No → ShowsNo n L (refutationIn (c .after))
-    shown e = let w = on-no c e in shows-no n L (refutationIn (c .after)) (call-valid c) (subst (Due n L) (sym (refutation-in w)) (w .due))
+    shown e = shows-no n L (refutationIn (c .after)) (call-valid c) (call-due c e)
 
 -- Answers depend on the solutions alone: two lists with the same solutions have the same verdict, model, bounds and groups, whatever stood in the buffers.
 pub record SameAnswers (n : ℕ) (L M : List ℤ) (c : Call n L) (d : Call n M) : Type 0 where
@@ -346,6 +360,62 @@ model-no n L m k = Iff·trans (no-exactly n L m k) (Iff·and (table-valid (check
 
 -- ---- the exported functions
 
+-- A returned 0 or 1,000,000 is a call that was not refused, so that demands 1 to 3 hold of it: 0 is its yes and 1,000,000 its no, and what the buffers
+-- held before and after is what the call found and left.
+pub returned-is-a-call : (n : ℕ) (L : List ℤ) (r : ℤ) (b a : Lent) → DecideReturns n L r b a → pos 0 ⩽ r → Returned n L r b a
+returned-is-a-call n L r b a d = returned-call d
+
+-- A returned refusal leaves every lent buffer as it was.
+pub returned-refusal-changes-nothing : (n : ℕ) (L : List ℤ) (r : ℤ) (b a : Lent) → DecideReturns n L r b a → r ⋖ pos 0 → a ≡ b
+returned-refusal-changes-nothing n L r b a d = returned-unchanged d
+
+-- After a no, the refutation that was left is accepted.
+pub left-refutation-is-accepted : (n : ℕ) (L : List ℤ) (b a : Lent) → DecideReturns n L (pos noCode) b a → Accepted n L (refutationIn a)
+left-refutation-is-accepted n L b a d =
+    let c = returned-call d (omega arith) in
+    subst (λ (x : Lent). Accepted n L (refutationIn x)) (c .after) (call-accepted (c .call) (c .no .1 refl))
+
+-- So the exported check of the list and of that refutation, each as its bytes, returns 0.
+pub returned-no-is-shown : (n : ℕ) (L : List ℤ) (b a : Lent) → DecideReturns n L (pos noCode) b a → checkRefutation n (int32Bytes L) (nat32Bytes (refutationIn a)) ≡ pos 0
+returned-no-is-shown n L b a d = accepted-refutation n L (refutationIn a) (left-refutation-is-accepted n L b a d)
+
+-- So does the exported check that takes its numbers in pieces, however they are cut.
+pub returned-no-is-shown-in-pieces : (n : ℕ) (L : List ℤ) (b a : Lent) → DecideReturns n L (pos noCode) b a
+    → (pieces : List (List ℕ)) → joined pieces ≡ refutationIn a → refutationCode (endAnswer n L (takePieces L start pieces)) ≡ pos 0
+returned-no-is-shown-in-pieces n L b a d pieces e =
+    let s = subst (Accepted n L) (sym e) (left-refutation-is-accepted n L b a d) in
+    ap refutationCode (in-pieces n L pieces (accepted-words n L (joined pieces) s) ∙ s)
+
+-- After a yes, the model checker says yes to the model that was left.
+pub left-model-is-accepted : (n : ℕ) (L : List ℤ) (b a : Lent) → DecideReturns n L (pos 0) b a → modelAnswer n L (modelIn n a) ≡ model.Yes
+left-model-is-accepted n L b a d =
+    let c = returned-call d (omega arith) in
+    subst (λ (x : Lent). modelAnswer n L (modelIn n x) ≡ model.Yes) (c .after) (right-answer n L (c .call) .yes-is-shown (c .yes .1 refl))
+
+-- So the exported check of the list and of that model, each as its bytes, returns 0.
+pub returned-yes-is-shown : (n : ℕ) (L : List ℤ) (b a : Lent) → DecideReturns n L (pos 0) b a → checkModel n (int32Bytes L) (int64Bytes (modelIn n a)) ≡ pos 0
+returned-yes-is-shown n L b a d = accepted-model n L (modelIn n a) (left-model-is-accepted n L b a d)
+
+-- Bytes change no answer: on the bytes of numbers of 32 bits, of a model's values 64, the exported checks answer as the checkers do on the numbers.
+pub list-bytes-as-numbers : (n : ℕ) (L : List ℤ) → ((i : ℕ) → SFits w32 (number L i)) → bytesValidity n (int32Bytes L) ≡ validityOf n L
+list-bytes-as-numbers n L f = list-in-bytes n L f
+
+pub refutation-bytes-as-numbers : (n : ℕ) (L : List ℤ) (R : List ℕ) → ((i : ℕ) → SFits w32 (number L i)) → Words R
+    → refutationOfBytes n (int32Bytes L) (nat32Bytes R) ≡ refutationAnswer n L R
+refutation-bytes-as-numbers n L R f = refutation-in-bytes n L f R
+
+pub model-bytes-as-numbers : (n : ℕ) (L m : List ℤ) → ((i : ℕ) → SFits w32 (number L i)) → ((i : ℕ) → SFits w64 (assignmentOf m i))
+    → modelOfBytes n (int32Bytes L) (int64Bytes m) ≡ modelAnswer n L m
+model-bytes-as-numbers n L m f = model-in-bytes n L f m
+
+-- A valid list has such numbers: its bytes are those of a valid list, and it is read from them.
+pub valid-list-in-bytes : (n : ℕ) (L : List ℤ) → ValidFor n L → (bytesValidity n (int32Bytes L) ≡ Valid) × (int32s (int32Bytes L) ≡ L)
+valid-list-in-bytes n L v = let f = numbers-fit n L v in (list-in-bytes n L f ∙ v, int32s-back L f)
+
+-- The bytes of numbers are bytes: each is below 256.
+pub bytes-are-bytes : (L m : List ℤ) (R : List ℕ) → AreBytes (int32Bytes L) × AreBytes (nat32Bytes R) × AreBytes (int64Bytes m)
+bytes-are-bytes L m R = (int32Bytes-small L, nat32Bytes-small R, int64Bytes-small m)
+
 -- The number returned is 0 exactly if the bytes are those of a valid list and of a refutation that is accepted against it.
 pub returned-yes-is-accepted : (n : ℕ) (b r : List ℕ) → (checkRefutation n b r ≡ pos 0)
     ↔ ((bytesValidity n b ≡ Valid) × (length r ≤ numberBytes * maxRefutation) × (length r % numberBytes ≡ 0) × Accepted n (int32s b) (nat32s r))
@@ -389,3 +459,38 @@ refused-or-one-file most b room h = one-file most b room h
 
 pub one-list-of-a-file : (n m : ℕ) (L M : List ℤ) → ValidFor n L → ValidFor m M → fileOf n L ≡ fileOf m M → (n ≡ m) × (L ≡ M)
 one-list-of-a-file n m L M v w e = one-list n m L M v w e
+
+-- What a call of the writer wrote, a call of the reader reads back into any buffer with room: n and the list, and what lies beyond it is untouched.
+pub written-then-read : (n : ℕ) (L : List ℤ) (k : ℕ) (b a : List ℕ) (answer : ReadAnswer) (before after : List ℤ)
+    → WriteDone n L (write.Written k) b a → ReadDone maxVariables (take k a) answer before after → length L ≤ length before
+    → (answer ≡ Read (record { n = n; lines = lineCount L })) × (after ≡ L ++ drop (length L) before)
+written-then-read = write-then-read
+
+-- What a call of the reader read, a call of the writer writes again as the same bytes.
+pub read-then-written : (most : ℕ) (bytes : List ℕ) (z : Listed) (before after : List ℤ) (answer : WriteAnswer) (b a : List ℕ)
+    → AreBytes bytes → ReadDone most bytes (Read z) before after → WriteDone (z .n) (take (lineSize * z .lines) after) answer b a → length bytes ≤ length b
+    → (answer ≡ write.Written (length bytes)) × (a ≡ bytes ++ drop (length bytes) b)
+read-then-written = read-then-write
+
+-- The same of what the exported functions return, where the refusal that they return is 0.
+pub returned-file-is-read-back : (n : ℕ) (L : List ℤ) (w : FileWritten) (b a : List ℕ) (r : FileRead) (before after : List ℤ)
+    → WriteReturns n L w b a → w .refusal ≡ 0 → ReadReturns (take (w .bytes) a) r before after → length L ≤ length before
+    → (r ≡ record { refusal = 0; place = 0; n = n; lines = lineCount L }) × (after ≡ L ++ drop (length L) before)
+returned-file-is-read-back = returned-read-back
+
+pub returned-list-is-written-again : (bytes : List ℕ) (r : FileRead) (before after : List ℤ) (w : FileWritten) (b a : List ℕ)
+    → AreBytes bytes → ReadReturns bytes r before after → r .refusal ≡ 0 → WriteReturns (r .n) (take (lineSize * r .lines) after) w b a → length bytes ≤ length b
+    → (w ≡ record { refusal = 0; place = 0; bytes = length bytes }) × (a ≡ bytes ++ drop (length bytes) b)
+returned-list-is-written-again = returned-written-again
+
+-- A file is bytes: each is below 256.
+pub a-file-is-bytes : (n : ℕ) (L : List ℤ) → AreBytes (fileOf n L)
+a-file-is-bytes n L = file-bytes n L
+
+-- One variable with x ≤ 5 is, whole, these 36 bytes.
+pub the-file-of-x-at-most-5 : fileOf 1 (pos 1 ∷ pos 0 ∷ pos 0 ∷ pos 0 ∷ pos 5 ∷ [])
+    ≡ 4 ∷ 0 ∷ 1 ∷ 0 ∷ 1 ∷ 0 ∷ 0 ∷ 0
+    ∷ 20 ∷ 0 ∷ 2 ∷ 0 ∷ 1 ∷ 0 ∷ 0 ∷ 0 ∷ 0 ∷ 0 ∷ 0 ∷ 0 ∷ 0 ∷ 0 ∷ 0 ∷ 0 ∷ 0 ∷ 0 ∷ 0 ∷ 0 ∷ 5 ∷ 0 ∷ 0 ∷ 0
+    ∷ 0 ∷ 0 ∷ 3 ∷ 0 ∷ []
+unfolding fileOf lineRecords lineBody lineAt
+the-file-of-x-at-most-5 = refl

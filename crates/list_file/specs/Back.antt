@@ -13,7 +13,8 @@ use Rattle.lines.specs.Limits.{lineSize}
 use Rattle.lines.specs.Line.{lineCount}
 use Rattle.lines.specs.Refusal.{validityOf}
 use Rattle.lines.specs.Valid.{ListOk, valid-list, or-valid, not-refused}
-use Rattle.little_endian.specs.Bytes.{le32}
+use Rattle.lines.specs.Fits.{numbers-fit}
+use Rattle.little_endian.specs.Bytes.{AreBytes, le32}
 use Rattle.records.specs.declared.FileRefusal.{FileRefusal}
 use Rattle.records.specs.declared.Next.{Next}
 use Rattle.records.specs.declared.Next.the-variants as next
@@ -24,10 +25,9 @@ use Rattle.list_file.specs.declared.ReadAnswer.{ReadAnswer}
 use Rattle.list_file.specs.declared.ReadAnswer.the-variants.{Read, Refused}
 use Rattle.list_file.specs.File.{fileOf, fileList}
 use Rattle.list_file.specs.Read.{listValidity, unlessRefused, afterScan, readAnswer}
-use Rattle.list_file.specs.Bytes.{AreBytes, length-file, n-in-file}
+use Rattle.list_file.specs.Bytes.{length-file, n-in-file}
 use Rattle.list_file.specs.Layout.{Laid, file-laid, laid-file, list-of-file, length-fileList, lineCount-fileList}
 use Rattle.list_file.specs.Scanned.{scan-laid, laid-scan}
-use Rattle.list_file.specs.Fits.{numbers-fit}
 
 -- ---- read, then written
 -- what an answer with a list grants

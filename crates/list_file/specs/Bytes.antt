@@ -10,33 +10,17 @@ use lib.ListN.{length, getD, drop, length-append}
 use lib.Seq.{getD-drop, drop-cons, drop-append-add}
 use mir.Syntax.{w32}
 use mir.Val.{SFits, toZ, ofZ}
-use mir.Facts.{toZ-ofZ, ofZ-toZ, fits-ofZ, sfits-toZ}
+use mir.Facts.{ofZ-toZ}
 use Rattle.integers.specs.Sequence.{length-tabulate}
 use Rattle.lines.specs.declared.Line.{Line}
 use Rattle.lines.specs.Limits.{lineSize}
 use Rattle.lines.specs.Line.{number, lineAt, lineCount, linesOf}
 use Rattle.lines.specs.Laws.{lines-from, lines-past}
-use Rattle.little_endian.specs.Bytes.{le32, int32}
-use Rattle.records.specs.Table.{headerSize, variablesKind, lineKind, endKind, le16}
+use Rattle.little_endian.specs.Bytes.{AreBytes, le32, int32}
 use Rattle.little_endian.specs.Writing.{bytes16, bytes32, signedBytes}
+use Rattle.little_endian.specs.Back.{le32-bytes, int32-bytes, le32-at, Small, small-none, small-append, small16, small32}
+use Rattle.records.specs.Table.{headerSize, variablesKind, lineKind, endKind, le16}
 use Rattle.list_file.specs.File.{recordOf, lineBody, lineRecords, fileOf, lineRecord, recordPlace, fileSize, numberPlace}
-
--- each is a byte
-abbrev pub AreBytes : List ℕ → Type 0
-AreBytes b = (i : ℕ) → getD b i 0 < 256
-
--- ---- written, then read: at the front
-pub le16-bytes : (v : ℕ) (r : List ℕ) → v < 65536 → le16 (bytes16 v ++ r) 0 ≡ v
-le16-bytes v r h = omega arith
-
-pub le32-bytes : (v : ℕ) (r : List ℕ) → v < 2 ^ 32 → le32 (bytes32 v ++ r) 0 ≡ v
-le32-bytes v r h = four v (v / 256) (v / 65536) (v / 16777216) refl (sym (div-div-eq-div-mul v 256 256)) (sym (div-div-eq-div-mul v 65536 256)) (omega arith)
-  where
-    four : (v x y z : ℕ) → x ≡ v / 256 → y ≡ x / 256 → z ≡ y / 256 → z < 256 → v % 256 + x % 256 * 256 + y % 256 * 65536 + z % 256 * 16777216 ≡ v
-    four v x y z e f g h = omega arith
-
-pub int32-bytes : (z : ℤ) (r : List ℕ) → SFits w32 z → int32 (signedBytes z ++ r) 0 ≡ z
-int32-bytes z r h = ap (toZ w32) (le32-bytes (ofZ w32 z) r (fits-ofZ {w = w32} h .fits)) ∙ toZ-ofZ h
 
 -- ---- at a place, by what stands there
 module _ (b c : List ℕ) (p : ℕ) (e : drop p b ≡ c) where
@@ -45,9 +29,6 @@ module _ (b c : List ℕ) (p : ℕ) (e : drop p b ≡ c) where
 
   pub le16-at : (i : ℕ) → le16 b (p + i) ≡ le16 c i
   le16-at i = rw (← e) (simp (getD-drop, add-assoc))
-
-  pub le32-at : (i : ℕ) → le32 b (p + i) ≡ le32 c i
-  le32-at i = rw (← e) (simp (getD-drop, add-assoc))
 
 -- ---- read, then written
 drop2 : (b : List ℕ) (p : ℕ) → p + 2 ≤ length b → drop p b ≡ getD b p 0 ∷ getD b (p + 1) 0 ∷ drop (p + 2) b
@@ -80,51 +61,13 @@ module _ (b : List ℕ) (bytes : AreBytes b) where
   pub drop-bytes32 : (p : ℕ) → p + 4 ≤ length b → drop p b ≡ bytes32 (le32 b p) ++ drop (p + 4) b
   drop-bytes32 p h = drop4 b p h ∙ ap (λ (l : List ℕ). l ++ drop (p + 4) b) (sym (bytes32-le _ _ _ _ (bytes p) (bytes (p + 1)) (bytes (p + 2)) (bytes (p + 3))))
 
-  pub le32-small : (p : ℕ) → le32 b p < 2 ^ 32
+  le32-small : (p : ℕ) → le32 b p < 2 ^ 32
   le32-small p = omega (arith, bytes p, bytes (p + 1), bytes (p + 2), bytes (p + 3))
 
   pub drop-signed : (p : ℕ) → p + 4 ≤ length b → drop p b ≡ signedBytes (int32 b p) ++ drop (p + 4) b
   drop-signed p h = drop-bytes32 p h ∙ ap (λ (v : ℕ). bytes32 v ++ drop (p + 4) b) (sym (ofZ-toZ {w = w32} (record { fits = le32-small p })))
 
-  pub int32-fits : (p : ℕ) → SFits w32 (int32 b p)
-  int32-fits p = sfits-toZ {w = w32} (record { fits = le32-small p })
-
 -- ---- what is written is bytes
-mod-small : (v : ℕ) → v % 256 < 256
-mod-small v = omega arith
-
-record Small (b : List ℕ) : Type 0 where
-  small : AreBytes b
-
-small-append : {b c : List ℕ} → Small b → Small c → Small (b ++ c)
-small-append {b} {c} h k = record { small = go b (h .small) }
-  where
-    go : (b : List ℕ) → AreBytes b → AreBytes (b ++ c)
-    go [] h i = k .small i
-    go (x ∷ b) h zero = h 0
-    go (x ∷ b) h (suc i) = go b (λ j. h (suc j)) i
-
-small-none : Small []
-small-none = record { small = λ i. omega arith }
-
-small16 : (v : ℕ) → Small (bytes16 v)
-small16 v = record { small = go }
-  where
-    go : AreBytes (bytes16 v)
-    go zero = mod-small v
-    go (suc zero) = mod-small (v / 256)
-    go (suc (suc i)) = omega arith
-
-small32 : (v : ℕ) → Small (bytes32 v)
-small32 v = record { small = go }
-  where
-    go : AreBytes (bytes32 v)
-    go zero = mod-small v
-    go (suc zero) = mod-small (v / 256)
-    go (suc (suc zero)) = mod-small (v / 65536)
-    go (suc (suc (suc zero))) = mod-small (v / 16777216)
-    go (suc (suc (suc (suc i)))) = omega arith
-
 small-record : (kind : ℕ) {body : List ℕ} → Small body → Small (recordOf kind body)
 small-record kind {body} h = small-append (small16 (length body)) (small-append (small16 kind) h)
 

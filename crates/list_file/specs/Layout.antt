@@ -13,12 +13,12 @@ use Rattle.integers.specs.Sequence.{tabulate, length-tabulate, getD-tabulate}
 use Rattle.lines.specs.declared.Line.{Line}
 use Rattle.lines.specs.Limits.{lineSize}
 use Rattle.lines.specs.Line.{number, lineAt, lineCount, linesOf}
-use Rattle.little_endian.specs.Bytes.{le32, int32}
+use Rattle.little_endian.specs.Bytes.{AreBytes, le32, int32}
 use Rattle.records.specs.Table.{headerSize, variablesKind, lineKind, endKind, le16}
 use Rattle.little_endian.specs.Writing.{bytes16, bytes32, signedBytes}
 use Rattle.list_file.specs.File.{recordOf, lineBody, lineRecords, fileOf, recordPlace, fileSize, fileList, numberPlace}
 use Rattle.list_file.specs.Bytes as written
-use Rattle.list_file.specs.Bytes.{AreBytes, drop-bytes16, drop-bytes32, drop-signed}
+use Rattle.list_file.specs.Bytes.{drop-bytes16, drop-bytes32, drop-signed}
 
 -- n, then k lines, then the end, each with its header, then nothing
 pub record Laid (b : List ℕ) (n k : ℕ) : Type 0 where

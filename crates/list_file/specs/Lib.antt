@@ -6,5 +6,5 @@ pub mod Written
 pub mod Bytes
 pub mod Layout
 pub mod Scanned
-pub mod Fits
 pub mod Back
+pub mod Calls

@@ -14,7 +14,6 @@ use Rattle.records.specs.declared.FileRefusal.the-variants.{Cut, List as OfList
 use Rattle.records.specs.declared.Next.{Next}
 use Rattle.records.specs.declared.Next.the-variants as next
 use Rattle.records.specs.Scan.{scan}
-use Rattle.list_file.specs.declared.Listed.{Listed}
 use Rattle.list_file.specs.declared.ReadAnswer.{ReadAnswer}
 use Rattle.list_file.specs.declared.ReadAnswer.the-variants.{Read, Refused}
 use Rattle.list_file.specs.File.{fileList}

@@ -9,6 +9,10 @@ use mir.Syntax.{w32, w64}
 use mir.Val.{toZ}
 use Rattle.integers.specs.Sequence.{tabulate, length-tabulate, tabulate-add, grow}
 
+-- each is a byte
+abbrev pub AreBytes : List ℕ → Type 0
+AreBytes b = (i : ℕ) → getD b i 0 < 256
+
 -- the four bytes from `at`, the first the lowest
 abbrev pub le32 : List ℕ → ℕ → ℕ
 le32 b at = getD b at 0 + getD b (at + 1) 0 * 256 + getD b (at + 2) 0 * 65536 + getD b (at + 3) 0 * 16777216

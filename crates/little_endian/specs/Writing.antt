@@ -1,4 +1,4 @@
--- The bytes of a number, and bytes put into a buffer one behind the other.
+-- The bytes of a number and of numbers, and bytes put into a buffer one behind the other.
 use mathlib.Core.Path.{_≡_, refl, sym, ap, _∙_}
 use mathlib.Core.Bool.{true, false}
 use mathlib.Core.List.{List, [], _∷_, _++_}
@@ -10,7 +10,7 @@ use lib.IntN.{ℤ, pos, negsuc, natAbs, _-ℤ_}
 use lib.ListN.{length, set, take, drop}
 use lib.Seq.{sets, length-sets, sets-eq}
 use lib.Signed.{leZ, nonNeg}
-use mir.Syntax.{w32}
+use mir.Syntax.{w32, w64}
 use mir.Val.{Fits, SFits, ofZ}
 use Rattle.integers.specs.Linear.{ints}
 use Rattle.integers.specs.Laws.{never}
@@ -22,8 +22,31 @@ bytes16 v = v % 256 ∷ v / 256 % 256 ∷ []
 abbrev pub bytes32 : ℕ → List ℕ
 bytes32 v = v % 256 ∷ v / 256 % 256 ∷ v / 65536 % 256 ∷ v / 16777216 % 256 ∷ []
 
+-- the low half first
+abbrev pub bytes64 : ℕ → List ℕ
+bytes64 v = bytes32 (v % 4294967296) ++ bytes32 (v / 4294967296)
+
+-- the same, signed
 abbrev pub signedBytes : ℤ → List ℕ
 signedBytes z = bytes32 (ofZ w32 z)
+
+abbrev pub signedBytes64 : ℤ → List ℕ
+signedBytes64 z = bytes64 (ofZ w64 z)
+
+-- the bytes of numbers, one behind the other, each written in the same way
+unfoldable pub bytesOf : {A : Type 0} → (A → List ℕ) → List A → List ℕ
+bytesOf write [] = []
+bytesOf write (x ∷ xs) = write x ++ bytesOf write xs
+
+-- the three kinds of numbers
+abbrev pub int32Bytes : List ℤ → List ℕ
+int32Bytes = bytesOf signedBytes
+
+abbrev pub nat32Bytes : List ℕ → List ℕ
+nat32Bytes = bytesOf bytes32
+
+abbrev pub int64Bytes : List ℤ → List ℕ
+int64Bytes = bytesOf signedBytes64
 
 -- ---- stores
 module _ {A : Type 0} where

@@ -2,7 +2,7 @@
 use mathlib.Core.Path.{_≡_, refl, sym, ap, _∙_}
 use mathlib.Core.Bool.{Bool, true, false, not, cond}
 use mathlib.Core.List.{List}
-use Prim.Native.Nat.{ℕ, zero, suc, _+_, _*_, _^_, _<_, _≤_}
+use Prim.Native.Nat.{ℕ, zero, suc, _+_, _*_, _<_, _≤_}
 use native.Mathlib.Nat.{add-zero}
 use native.Mathlib.Omega.{arith}
 use borrow.Author.Tests.{ltb-false, eqb-true}
@@ -117,21 +117,16 @@ abbrev pub Placed : Bool → ℕ → ℕ → Type 0
 Placed false at lines = (at ≡ 0) × (lines ≡ 0)
 Placed true at lines = at ≡ headerSize + 4 + (headerSize + 4 * lineSize) * lines
 
-abbrev pub Bytes : List ℕ → Type 0
-Bytes b = (i : ℕ) → getD b i 0 < 256
-
 pub record Reached (b : List ℕ) (room : ℕ) (c : Cursor) : Type 0 where
   pub within : c .at ≤ length b
   pub placed : Placed (c .begun) (c .at) (c .lines)
   pub fits : c .lines * lineSize ≤ room
-  pub small : Bytes b → c .n < 2 ^ 32
 
 -- the record of the end was read too
 pub record Ended (b : List ℕ) (room : ℕ) (c : Cursor) : Type 0 where
   pub within : c .at ≤ length b
   pub size : headerSize + 4 + (headerSize + 4 * lineSize) * c .lines + headerSize ≡ c .at
   pub fits : c .lines * lineSize ≤ room
-  pub small : Bytes b → c .n < 2 ^ 32
 
 pub reached-in : (b : List ℕ) (room : ℕ) (c : Cursor) → Reached b room c → InFile b c
 reached-in b room c h = record { at = h .within; lines = go (c .begun) (h .placed) }
@@ -147,26 +142,23 @@ module _ (b : List ℕ) (room : ℕ) where
   Left c (End d) = Ended b room d
   Left c (Refused r) = Unit {0}
 
-  le32-small : Bytes b → (i : ℕ) → le32 b i < 2 ^ 32
-  le32-small h i = omega (arith, h i, h (i + 1), h (i + 2), h (i + 3))
-
   left : (c : Cursor) (m : Next) → Outcome b room c m → Reached b room c → Left c m
   left c _ (variables w e) h =
       let p = rw e at (h .placed) in
-      (record { within = w .whole; placed = omega arith; fits = h .fits; small = λ k. le32-small k _ }, omega arith)
+      (record { within = w .whole; placed = omega arith; fits = h .fits }, omega arith)
   left c _ (line w e r) h =
       let p = rw e at (h .placed) in
-      (record { within = w .whole; placed = rw e (omega arith); fits = omega arith; small = h .small }, omega arith)
+      (record { within = w .whole; placed = rw e (omega arith); fits = omega arith }, omega arith)
   left c _ (end w e) h =
       let p = rw e at (h .placed) in
-      record { within = w .whole; size = omega arith; fits = h .fits; small = h .small }
+      record { within = w .whole; size = omega arith; fits = h .fits }
   left c _ (refused r) h = tt
 
   pub next-left : (c : Cursor) → Reached b room c → Left c (nextRecord b room c)
   next-left c h = left c (nextRecord b room c) (outcome b room c) h
 
   pub start-reached : Reached b room start
-  start-reached = record { within = omega arith; placed = (refl, refl); fits = omega arith; small = λ _. omega arith }
+  start-reached = record { within = omega arith; placed = (refl, refl); fits = omega arith }
 
   -- ---- the whole file
   abbrev Scanned : Next → Type 0
@@ -205,14 +197,13 @@ pub record Found (b : List ℕ) (room : ℕ) (c : Cursor) : Type 0 where
   pub at : c .at ≡ length b
   pub fits : c .lines * lineSize ≤ room
   pub size : headerSize + 4 + (headerSize + 4 * lineSize) * c .lines + headerSize ≡ length b
-  pub small : Bytes b → c .n < 2 ^ 32
 
 pub scan-found : (b : List ℕ) (room : ℕ) (c : Cursor) → scan b room ≡ End c → Found b room c
 unfolding scan
 scan-found b room c = go (scanFrom (suc (length b)) b room start) (scanned b room)
   where
     found : (d : Cursor) → Ended b room d → length b ≤ d .at → Found b room d
-    found d h l = record { at = omega arith; fits = h .fits; size = omega arith; small = h .small }
+    found d h l = record { at = omega arith; fits = h .fits; size = omega arith }
 
     at-end : (d : Cursor) → Ended b room d → (t : Bool) → ltb (d .at) (length b) ≡ t → cond t (Refused (Trailing (d .at))) (End d) ≡ End c → Found b room c
     at-end d h true p e = never (cc)
