@@ -4,8 +4,9 @@
 -- and what a call is (`Call` in Calls.antt), and nothing of how the answers are computed.
 --
 -- The promises of the code are equations, for every input: `decide` promises `Decided` (decide/specs/Decided.antt), `check_model` answers
--- `modelAnswer`, `check_refutation` answers `refutationAnswer`, and the exported functions return `DecideReturns`, `checkModel` and
--- `checkRefutation`. src/lib.rt calls both checkers on buffers that could be written, and proves that every buffer is left as it was.
+-- `modelAnswer`, `check_refutation` answers `refutationAnswer`, the exported functions return `DecideReturns`, `checkModel` and
+-- `checkRefutation`, and `report_input`, which the program calls, promises `InputReported` (file_report/specs/Input.antt). src/lib.rt calls both
+-- checkers on buffers that could be written, and proves that every buffer is left as it was.
 use mathlib.Core.Path.{_≡_, sym, ap, subst, _∙_}
 use mathlib.Core.Logic.{_↔_}
 use mathlib.Core.Bool.{true, false}
@@ -13,7 +14,7 @@ use mathlib.Core.List.{List, _++_}
 use Prim.Native.Nat.{ℕ, suc, _+_, _*_, _%_, _<_, _≤_}
 use native.Mathlib.Omega.{arith}
 use lib.IntN.{ℤ, pos, natAbs}
-use lib.ListN.{length, drop, getD}
+use lib.ListN.{length, take, drop, getD}
 use Rattle.integers.specs.Integer.{_⩽_}
 use Rattle.lines.specs.declared.Refusal.{Refusal}
 use Rattle.lines.specs.declared.Validity.the-variants.{Valid}
@@ -56,6 +57,8 @@ use Rattle.list_file.specs.File.{fileOf, fileList}
 use Rattle.list_file.specs.Read.{readAnswer}
 use Rattle.list_file.specs.Bytes.{AreBytes}
 use Rattle.list_file.specs.Back.{OneFile, read-written, list-in-file, written-read, one-file, one-list}
+use Rattle.file_report.specs.Report.{Reported}
+use Rattle.file_report.specs.Input.{inputSize, front-enough}
 use Rattle.c_interface.specs.Codes.{decideCode}
 use Rattle.c_interface.specs.Calls.{numberBytes, bytesValidity, modelOfBytes, refutationOfBytes, checkModel, checkRefutation}
 use Rattle.c_interface.specs.Laws.{model-bytes-below, refutation-bytes-below, decision-below}
@@ -292,3 +295,9 @@ refused-or-one-file most b room h = one-file most b room h
 
 pub one-list-of-a-file : (n m : ℕ) (L M : List ℤ) → ValidFor n L → ValidFor m M → fileOf n L ≡ fileOf m M → (n ≡ m) × (L ≡ M)
 one-list-of-a-file n m L M v w e = one-list n m L M v w e
+
+-- ---- the program
+
+-- It judges every input as if it had read it whole: what it prints depends on no more than the first `inputSize` bytes.
+pub reads-enough : (k : ℕ) → inputSize ≤ k → (b T : List ℕ) → Reported (take k b) T ↔ Reported b T
+reads-enough k h b T = front-enough k h b T

@@ -8,3 +8,4 @@ pub mod Layout
 pub mod Scanned
 pub mod Fits
 pub mod Back
+pub mod Front
