@@ -2,4 +2,5 @@ pub mod Codes
 pub mod Calls
 pub mod Files
 pub mod Laws
+pub mod Pieces
 pub mod Apart

@@ -4,9 +4,10 @@
 -- and what a call is (`Call` in Calls.antt), and nothing of how the answers are computed.
 --
 -- The promises of the code are equations, for every input: `decide` promises `Decided` (decide/specs/Decided.antt), `check_model` answers
--- `modelAnswer`, `check_refutation` answers `refutationAnswer`, the exported functions return `DecideReturns`, `checkModel` and
--- `checkRefutation`, and `report_input`, which the program calls, promises `InputReported` (file_report/specs/Input.antt). src/lib.rt calls both
--- checkers on buffers that could be written, and proves that every buffer is left as it was.
+-- `modelAnswer`, `check_refutation` answers `refutationAnswer`, the exported functions return `DecideReturns`, `checkModel`,
+-- `checkRefutation`, `refutationBegin`, `refutationTake` and `refutationEnd`, and `report_input`, which the program calls, promises
+-- `InputReported` (file_report/specs/Input.antt). src/lib.rt calls both checkers on buffers that could be written, and proves that every buffer
+-- is left as it was.
 use mathlib.Core.Path.{_≡_, sym, ap, subst, _∙_}
 use mathlib.Core.Logic.{_↔_}
 use mathlib.Core.Bool.{true, false}
@@ -59,8 +60,9 @@ use Rattle.list_file.specs.Bytes.{AreBytes}
 use Rattle.list_file.specs.Back.{OneFile, read-written, list-in-file, written-read, one-file, one-list}
 use Rattle.file_report.specs.Report.{Reported}
 use Rattle.file_report.specs.Input.{inputSize, front-enough}
-use Rattle.c_interface.specs.Codes.{decideCode}
+use Rattle.c_interface.specs.Codes.{refutationCode, decideCode}
 use Rattle.c_interface.specs.Calls.{numberBytes, bytesValidity, modelOfBytes, refutationOfBytes, checkModel, checkRefutation}
+use Rattle.c_interface.specs.Pieces.{refutationBegin, refutationEnd, takeEach, each-answered, each-checked}
 use Rattle.c_interface.specs.Laws.{model-bytes-below, refutation-bytes-below, decision-below}
 use Rattle.c_interface.specs.Apart.{models-apart, refutations-apart, decisions-apart, returned-yes}
 
@@ -266,6 +268,15 @@ returned-yes-is-accepted n b r = returned-yes n b r
 -- So a returned yes is never against a list that has a solution.
 pub returned-yes-not-against-a-solution : (n : ℕ) (b r : List ℕ) → checkRefutation n b r ≡ pos 0 → Solvable (linesOf (int32s b)) → ⊥
 returned-yes-not-against-a-solution n b r e = nothing-against-a-solution n (int32s b) (nat32s r) (returned-yes n b r .0 e .3)
+
+-- A refutation may be handed over number by number, with what C keeps between two calls: the end returns the answer on the whole of it.
+pub pieces-return-the-answer : (n : ℕ) (L : List ℤ) (R : List ℕ) → Words R → refutationEnd n L (takeEach L refutationBegin R) ≡ refutationCode (refutationAnswer n L R)
+pieces-return-the-answer n L R w = each-answered n L R w
+
+-- That is the number which the check of its bytes returns, where these and the list's are whole numbers.
+pub pieces-return-the-check : (n : ℕ) (b r : List ℕ) → AreBytes r → length b % numberBytes ≡ 0 → length r % numberBytes ≡ 0
+    → refutationEnd n (int32s b) (takeEach (int32s b) refutationBegin (nat32s r)) ≡ checkRefutation n b r
+pieces-return-the-check n b r h v w = each-checked n b r v w h
 
 -- No two answers are returned as one number.
 pub model-answers-apart : (n k : ℕ) (b c m l : List ℕ) → checkModel n b m ≡ checkModel k c l → modelOfBytes n b m ≡ modelOfBytes k c l
