@@ -55,7 +55,6 @@
 #ifndef UTVPI_H
 #define UTVPI_H
 
-#include <stdbool.h>
 #include <stddef.h>
 #include <stdint.h>
 
@@ -212,15 +211,20 @@ int64_t utvpi_check_refutation(uint64_t n, const uint8_t *list, size_t list_len,
  * are in numbers.
  *
  * What is kept between two numbers is this struct, and nothing else: it may be
- * stored and used again later, and a copy of it goes on from the same place. Its
- * parts are the checker's own, and are best left alone. With a struct that no
- * call returned the result says nothing, but the calls return. Give every call
- * the same list. The refusals of the list are given at the end; too many numbers
- * are refused there too. */
+ * stored and used again later, and a copy of it goes on from the same place. It is
+ * ten numbers with nothing between them, which are the checker's own and best left
+ * alone. Whatever bytes it holds, the calls return, and what they return is fixed
+ * by them: good is 1 as long as nothing was wrong, and any other number there
+ * counts as 0; a struct with larger numbers than those taken can have left makes
+ * the refutation wrong, at the end with k = 0. Of a struct that no call returned
+ * the result says nothing else.
+ *
+ * Give every call the same list. The refusals of the list are given at the end;
+ * too many numbers are refused there too. */
 typedef struct utvpi_progress {
     size_t read, kind, p, q, u, here;
     int64_t first, second;
-    bool good;
+    uint64_t good;
     size_t wrong;
 } utvpi_progress;
 

@@ -2,6 +2,8 @@
 //! stopped and resumed between two pieces, the end answers as the check of the
 //! whole does; and any state at all gets an answer.
 
+use std::mem::size_of;
+
 use utvpi_tests::bytes::{self, Line};
 use utvpi_tests::chance::Chance;
 use utvpi_tests::damage::{self, Input};
@@ -19,9 +21,9 @@ const TOO_MANY: usize = MOST_REFUTATION + MOST_REFUTATION / 16;
 /// The largest sum of so many steps: a line of one variable counts twice.
 const LARGEST_SUM: i64 = MOST_REFUTATION as i64 * 2 * LARGEST_BOUND;
 
-/// A state as it is stored while no checker runs: its numbers, eight bytes each,
-/// and one byte more.
-type Stored = [u8; 73];
+/// A state as it is stored while no checker runs: its numbers, eight bytes each, as
+/// they stand in the struct.
+type Stored = [u8; size_of::<Progress>()];
 
 fn store(kept: Progress) -> Stored {
     let Progress {
@@ -36,16 +38,17 @@ fn store(kept: Progress) -> Stored {
         good,
         wrong,
     } = kept;
-    let counts = [read, kind, p, q, u, here, wrong].map(|number| (number as u64).to_le_bytes());
+    let counts = [read, kind, p, q, u, here].map(|number| (number as u64).to_le_bytes());
     let sums = [first, second].map(i64::to_le_bytes);
-    let bytes = [counts.concat(), sums.concat(), vec![u8::from(good)]].concat();
+    let end = [good, wrong as u64].map(u64::to_le_bytes);
+    let bytes = [counts.concat(), sums.concat(), end.concat()].concat();
     bytes.try_into().unwrap()
 }
 
 fn restore(stored: &Stored) -> Progress {
-    let eight = |at: usize| stored[8 * at..8 * at + 8].try_into().unwrap();
-    let count = |at| u64::from_le_bytes(eight(at)) as usize;
-    let sum = |at| i64::from_le_bytes(eight(at));
+    let number = |at: usize| u64::from_le_bytes(stored[8 * at..8 * at + 8].try_into().unwrap());
+    let count = |at| number(at) as usize;
+    let sum = |at| number(at) as i64;
     Progress {
         read: count(0),
         kind: count(1),
@@ -53,10 +56,10 @@ fn restore(stored: &Stored) -> Progress {
         q: count(3),
         u: count(4),
         here: count(5),
-        wrong: count(6),
-        first: sum(7),
-        second: sum(8),
-        good: stored[72] == 1,
+        first: sum(6),
+        second: sum(7),
+        good: number(8),
+        wrong: count(9),
     }
 }
 
@@ -439,6 +442,20 @@ fn wild_sum(chance: &mut Chance) -> i64 {
     }
 }
 
+/// Numbers beside 0 and 1, which every call takes for 0.
+const NEITHER: [u64; 10] = [
+    2,
+    3,
+    128,
+    255,
+    256,
+    257,
+    u32::MAX as u64,
+    (1 << 32) + 1,
+    1 << 63,
+    u64::MAX,
+];
+
 /// The state with few of its numbers changed, or many, or all. At times the
 /// counts fit again, the walk is closed and nothing was wrong.
 fn made_wild(chance: &mut Chance, mut kept: Progress) -> Progress {
@@ -462,6 +479,13 @@ fn made_wild(chance: &mut Chance, mut kept: Progress) -> Progress {
             *sum = wild_sum(chance);
         }
     }
+    if chance.one_in(often) {
+        kept.good = match chance.below(4) {
+            0 => chance.next(),
+            1 => chance.pick(&NEITHER),
+            _ => chance.below(2) as u64,
+        };
+    }
     if chance.one_in(3) {
         kept.kind = chance.pick(&[1, 2, 3]);
         if chance.one_in(2) {
@@ -469,26 +493,44 @@ fn made_wild(chance: &mut Chance, mut kept: Progress) -> Progress {
         }
         kept.read = kept.p.wrapping_add(kept.q).wrapping_add(3);
         kept.here = kept.u;
-        kept.good = true;
+        kept.good = 1;
         kept.wrong = chance.pick(&[0, kept.wrong, kept.read]);
     }
     kept
 }
 
+/// Whether nothing was wrong in this state.
+fn is_good(kept: &Progress) -> bool {
+    kept.good == 1
+}
+
+/// The same state, with 0 for a number in `good` that is neither 0 nor 1.
+fn read_as(kept: Progress) -> Progress {
+    Progress {
+        good: u64::from(is_good(&kept)),
+        ..kept
+    }
+}
+
 /// Takes the numbers. In any state one number more is counted, up to one more
 /// than are let in. What was wrong stays wrong, and the place of it stays too: it
-/// changes only as something turns wrong, and then to the number just taken.
+/// changes only as something turns wrong, and then to the number just taken. What
+/// is neither 0 nor 1 in `good` is as good as 0, and none such is returned.
 fn take_all(mut kept: Progress, list: &[i32], numbers: &[u32]) -> Progress {
     for &number in numbers {
         let next = library::refutation_take(kept, list, number);
+        let plain = library::refutation_take(read_as(kept), list, number);
+        assert_eq!(next, plain, "{kept:?}, {number}");
+        assert!(next.good <= 1, "{kept:?}, {number}, {next:?}");
         let due = kept.read.min(MOST_REFUTATION) + 1;
         assert_eq!(next.read, due, "{kept:?}, {number}");
-        assert!(kept.good || !next.good, "{kept:?}, {number}");
-        let turned = kept.good && !next.good && next.wrong == kept.read;
+        let (was_good, good) = (is_good(&kept), is_good(&next));
+        assert!(was_good || !good, "{kept:?}, {number}");
+        let turned = was_good && !good && next.wrong == kept.read;
         let same = next.wrong == kept.wrong;
         assert!(same || turned, "{kept:?}, {number}, {next:?}");
         // After the head nothing turns wrong without its place.
-        let placed = turned || kept.good == next.good || kept.read < 3;
+        let placed = turned || was_good == good || kept.read < 3;
         assert!(placed, "{kept:?}, {number}, {next:?}");
         kept = next;
     }
@@ -502,6 +544,8 @@ fn take_all(mut kept: Progress, list: &[i32], numbers: &[u32]) -> Progress {
 /// that is kept, or the last number's where nothing was wrong before the end.
 fn answer_to(kept: Progress, n: u64, list: &[i32]) -> Answer {
     let result = library::refutation_end(kept, n, list);
+    let plain = library::refutation_end(read_as(kept), n, list);
+    assert_eq!(result, plain, "{kept:?}, n {n}, {list:?}");
     let answer = match second::check_refutation(n, &bytes::numbers(list), &[]) {
         Refused(number, place) => Refused(number, place),
         _ if kept.read > MOST_REFUTATION => Refused(11, 0),
@@ -513,11 +557,11 @@ fn answer_to(kept: Progress, n: u64, list: &[i32]) -> Answer {
     let steps = kept.p.checked_add(kept.q);
     let whole = steps.and_then(|steps| steps.checked_add(3)) == Some(kept.read);
     match answer {
-        Yes => assert!(whole && kept.good, "{}", shown()),
+        Yes => assert!(whole && is_good(&kept), "{}", shown()),
         No(0..=2) => assert!(kept.read <= MOST_REFUTATION, "{}", shown()),
         No(place) => {
             let last = kept.read.wrapping_sub(1);
-            let due = if kept.good { last } else { kept.wrong };
+            let due = if is_good(&kept) { last } else { kept.wrong };
             assert!(whole && place == due && place <= kept.read, "{}", shown());
         }
         Refused(..) => {}
@@ -565,12 +609,12 @@ fn any_state() {
         let end = take_all(wild, &list, &more);
         let answer = answer_to(end, n, &list);
         seen.count(answer);
-        at_last_number += usize::from(end.good && matches!(answer, No(3..)));
+        at_last_number += usize::from(is_good(&end) && matches!(answer, No(3..)));
         changed_yes += usize::from(wild != state && answer == Yes);
 
         // The same after something was wrong.
         let wrong = Progress {
-            good: false,
+            good: chance.pick(&[0, 0, 2, 255, u64::MAX]),
             ..wild
         };
         let after = answer_to(take_all(wrong, &list, &more), n, &list);
@@ -580,7 +624,7 @@ fn any_state() {
         // The same with nothing wrong, and one place or another.
         let [one, other] = [0, chance.below(wild.read.min(MOST_REFUTATION) + 1)].map(|wrong| {
             let right = Progress {
-                good: true,
+                good: 1,
                 wrong,
                 ..wild
             };
@@ -593,4 +637,72 @@ fn any_state() {
     assert!(at_kept_place >= 1_000 && at_last_number >= 1_000);
     seen.must_include(&[1, 2, 3, 4, 5, 6, 11], 200_000);
     assert!(changed >= 100_000 && changed_yes >= 1_000);
+}
+
+/// Case 4's refutation, with another number in `good` after any of its numbers: it
+/// turns from accepted to a no, at the place kept, as it does with 0.
+#[test]
+fn any_number_for_good() {
+    assert_eq!(size_of::<Progress>(), 80, "ten numbers of eight bytes");
+    let list = CASE_4.concat();
+    let numbers = [2, 2, 2, 0, 3, 4, 7];
+    for cut in 0..=numbers.len() {
+        let (read, left) = numbers.split_at(cut);
+        let kept = take_all(library::refutation_begin(), &list, read);
+        assert_eq!(kept.good, 1);
+        let ends = |good: u64| {
+            let end = take_all(Progress { good, ..kept }, &list, left);
+            answer_to(end, 3, &list)
+        };
+        assert_eq!(ends(1), Yes);
+        assert_eq!(ends(0), No(0));
+        for good in NEITHER {
+            assert_eq!(ends(good), No(0), "{good} after {cut}");
+        }
+    }
+}
+
+/// Any eighty bytes at all for the state: each call returns, and a state with
+/// larger numbers than it can have left breaks at once. What is returned is taken
+/// on again, and goes on as the same state does with 0 in `good`.
+#[test]
+fn any_bytes() {
+    let mut chance = Chance::new(82);
+    let list = CASE_4.concat();
+    let (mut broken, mut too_long) = (0, 0);
+    for round in 0..200_000 {
+        let mut bytes: Stored = std::array::from_fn(|_| chance.next() as u8);
+        // At times few bytes beside zeros, or as many numbers read as may be.
+        if round % 2 == 0 {
+            let keep = chance.below(12);
+            for byte in bytes.iter_mut().filter(|_| chance.below(12) >= keep) {
+                *byte = 0;
+            }
+        }
+        if round % 4 < 2 {
+            let most = MOST_REFUTATION as u64;
+            bytes[..8].copy_from_slice(&(chance.next() % (most + 2)).to_le_bytes());
+        }
+        let kept = restore(&bytes);
+        assert_eq!(store(kept), bytes);
+        let most = 2 * LARGEST_BOUND as u128 * kept.read as u128;
+        let is_sum = |sum: i64| u128::from(sum.unsigned_abs()) <= most;
+        let counts = [kept.p, kept.q];
+        let small = is_sum(kept.first)
+            && is_sum(kept.second)
+            && counts.iter().all(|&count| count <= u32::MAX as usize)
+            && kept.wrong <= kept.read;
+        match answer_to(kept, 3, &list) {
+            Refused(11, 0) => too_long += 1,
+            answer if !small => {
+                assert_eq!(answer, No(0), "{kept:?}");
+                broken += 1;
+            }
+            _ => {}
+        }
+        let more: [u32; 4] = std::array::from_fn(|_| chance.below(9) as u32);
+        answer_to(take_all(kept, &list, &more), 3, &list);
+    }
+    println!("{broken} broke at once, {too_long} were too long");
+    assert!(broken >= 20_000 && too_long >= 20_000);
 }

@@ -1,6 +1,7 @@
 //! The library under test: its eight C functions, and safe functions over them.
 
-/// What the check of a refutation keeps between two numbers.
+/// What the check of a refutation keeps between two numbers. `good` is 1 as long as
+/// nothing was wrong.
 #[repr(C)]
 #[derive(Clone, Copy, PartialEq, Debug)]
 pub struct Progress {
@@ -12,7 +13,7 @@ pub struct Progress {
     pub here: usize,
     pub first: i64,
     pub second: i64,
-    pub good: bool,
+    pub good: u64,
     pub wrong: usize,
 }
 

@@ -36,12 +36,13 @@ ghost use Rattle.model.specs.Places as model;
 ghost use Rattle.little_endian.specs.Bytes.{nat32s};
 ghost use Rattle.refutation.specs.Progress.{start};
 ghost use Rattle.refutation.specs.Places as refutation;
-ghost use Rattle.pieces.specs.Taken.{takeOn, takeAll, endAnswer};
+ghost use Rattle.pieces.specs.Taken.{takeAll};
 ghost use Rattle.pieces.specs.Cut.{Words};
 ghost use Rattle.decide.specs.Places as deciding;
 ghost use Rattle.c_interface.specs.Codes.{refusalUnit, refusalCode, modelCode, refutationCode, decideCode};
 ghost use Rattle.c_interface.specs.Calls.{modelOfValues, refutationOfNumbers, checkModel, checkRefutation, DecideReturns};
 ghost use Rattle.c_interface.specs.Files.{fileRead, fileWritten, ReadReturns, WriteReturns};
+ghost use Rattle.c_interface.specs.Pieces.{goodNumber, progressOf, keptOf, refutationBegin, refutationTake, refutationEnd};
 ghost use Rattle.c_interface.specs.Laws.{Decoded};
 
 // The answer no is this and, of a model, the number of the line that fails, of a refutation the place where it breaks.
@@ -209,28 +210,87 @@ pub extern "C" fn utvpi_decide(
     decide_code(decide(n as usize, list, model, bounds, groups, refutation, work))
 }
 
+// What C keeps between two numbers of a refutation that arrives in pieces: the checker's own numbers. Every value of each
+// is defined: good is 1 as long as nothing was wrong, and any other number says that something was.
+#[repr(C)]
+pub struct Kept {
+    pub read: usize,
+    pub kind: usize,
+    pub p: usize,
+    pub q: usize,
+    pub u: usize,
+    pub here: usize,
+    pub first: i64,
+    pub second: i64,
+    pub good: u64,
+    pub wrong: usize,
+}
+
+// The checker's state out of what C kept.
+fn progress_of(kept: Kept) -> Progress
+    ensures { λ r. ⌜ r ≡ progressOf kept ⌝ }
+{
+    Progress {
+        read: kept.read,
+        kind: kept.kind,
+        p: kept.p,
+        q: kept.q,
+        u: kept.u,
+        here: kept.here,
+        first: kept.first,
+        second: kept.second,
+        good: kept.good == 1,
+        wrong: kept.wrong,
+    }
+}
+
+// The number by which C is told whether nothing was wrong.
+fn good_number(good: bool) -> u64
+    ensures { λ r. ⌜ r ≡ goodNumber good ⌝ }
+{
+    if good { 1 } else { 0 }
+}
+
+// What C keeps of the checker's state.
+fn kept_of(progress: Progress) -> Kept
+    ensures { λ r. ⌜ r ≡ keptOf progress ⌝ }
+{
+    Kept {
+        read: progress.read,
+        kind: progress.kind,
+        p: progress.p,
+        q: progress.q,
+        u: progress.u,
+        here: progress.here,
+        first: progress.first,
+        second: progress.second,
+        good: good_number(progress.good),
+        wrong: progress.wrong,
+    }
+}
+
 // Begins the check of a refutation that arrives in pieces.
 #[no_mangle]
-pub extern "C" fn utvpi_refutation_begin() -> Progress
-    ensures { λ r. ⌜ r ≡ start ⌝ }
+pub extern "C" fn utvpi_refutation_begin() -> Kept
+    ensures { λ r. ⌜ r ≡ refutationBegin ⌝ }
 {
-    begin()
+    kept_of(begin())
 }
 
 // Takes one number more. It is lent the list and that number alone.
 #[no_mangle]
-pub extern "C" fn utvpi_refutation_take(kept: Progress, list: &[i32], number: u32) -> Progress
-    ensures { λ r. ⌜ r ≡ takeOn (now (list .entry)) kept number ⌝ }
+pub extern "C" fn utvpi_refutation_take(kept: Kept, list: &[i32], number: u32) -> Kept
+    ensures { λ r. ⌜ r ≡ refutationTake (now (list .entry)) kept number ⌝ }
 {
-    take_on(kept, list, number)
+    kept_of(take_on(progress_of(kept), list, number))
 }
 
 // Do the numbers taken show that no whole numbers meet this list of n variables?
 #[no_mangle]
-pub extern "C" fn utvpi_refutation_end(kept: Progress, n: u64, list: &[i32]) -> i64
-    ensures { λ r. ⌜ r ≡ refutationCode (endAnswer n (now (list .entry)) kept) ⌝ }
+pub extern "C" fn utvpi_refutation_end(kept: Kept, n: u64, list: &[i32]) -> i64
+    ensures { λ r. ⌜ r ≡ refutationEnd n (now (list .entry)) kept ⌝ }
 {
-    refutation_code(end(kept, n as usize, list))
+    refutation_code(end(progress_of(kept), n as usize, list))
 }
 
 // What reading a file returns: a refusal's number and place, or 0, 0, n and the number of lines.

@@ -4,8 +4,10 @@
 -- the table of refusals (`refusalTable` in Refusals.antt) and what a call is (`Call` in Calls.antt), and nothing of how the answers are computed.
 --
 -- The promises of the code are equations, for every input: `decide` promises `Decided` (decide/specs/Decided.antt), `check_model` answers
--- `modelAnswer`, `check_refutation` answers `refutationAnswer`, and the exported functions return `DecideReturns`, `checkModel` and
--- `checkRefutation`. src/lib.rt calls both checkers on buffers that could be written, and proves that every buffer is left as it was.
+-- `modelAnswer`, `check_refutation` answers `refutationAnswer`, the exported functions return `DecideReturns`, `checkModel`,
+-- `checkRefutation`, `refutationBegin`, `refutationTake` and `refutationEnd`, and `report_input`, which the program calls, promises
+-- `InputReported` (file_report/specs/Input.antt). src/lib.rt calls both checkers on buffers that could be written, and proves that every buffer
+-- is left as it was.
 use mathlib.Core.Path.{_≡_, refl, sym, ap, subst, _∙_}
 use mathlib.Core.Logic.{_↔_, Iff·rfl, Iff·trans, Iff·and}
 use mathlib.Core.Bool.{Bool, true, false}
@@ -77,6 +79,9 @@ use Rattle.c_interface.specs.declared.FileRead.{FileRead}
 use Rattle.c_interface.specs.declared.FileWritten.{FileWritten}
 use Rattle.c_interface.specs.Files.{ReadReturns, WriteReturns, returned-read-back, returned-written-again}
 use Rattle.c_interface.specs.Bytes.{list-in-bytes, refutation-in-bytes, model-in-bytes, accepted-words, accepted-refutation, accepted-model}
+use Rattle.file_report.specs.Report.{Reported}
+use Rattle.file_report.specs.Input.{inputSize, front-enough}
+use Rattle.c_interface.specs.Pieces.{refutationBegin, refutationEnd, takeEach, each-answered, each-checked}
 use Rattle.c_interface.specs.Laws.{model-bytes-below, refutation-bytes-below, decision-below}
 use Rattle.c_interface.specs.Apart.{models-apart, refutations-apart, decisions-apart, returned-yes}
 
@@ -379,12 +384,11 @@ left-refutation-is-accepted n L b a d =
 pub returned-no-is-shown : (n : ℕ) (L : List ℤ) (b a : Lent) → DecideReturns n L (pos noCode) b a → checkRefutation n (int32Bytes L) (nat32Bytes (refutationIn a)) ≡ pos 0
 returned-no-is-shown n L b a d = accepted-refutation n L (refutationIn a) (left-refutation-is-accepted n L b a d)
 
--- So does the exported check that takes its numbers in pieces, however they are cut.
-pub returned-no-is-shown-in-pieces : (n : ℕ) (L : List ℤ) (b a : Lent) → DecideReturns n L (pos noCode) b a
-    → (pieces : List (List ℕ)) → joined pieces ≡ refutationIn a → refutationCode (endAnswer n L (takePieces L start pieces)) ≡ pos 0
-returned-no-is-shown-in-pieces n L b a d pieces e =
-    let s = subst (Accepted n L) (sym e) (left-refutation-is-accepted n L b a d) in
-    ap refutationCode (in-pieces n L pieces (accepted-words n L (joined pieces) s) ∙ s)
+-- So do the exported calls that take its numbers one by one.
+pub returned-no-is-shown-in-pieces : (n : ℕ) (L : List ℤ) (b a : Lent) → DecideReturns n L (pos noCode) b a → refutationEnd n L (takeEach L refutationBegin (refutationIn a)) ≡ pos 0
+returned-no-is-shown-in-pieces n L b a d =
+    let s = left-refutation-is-accepted n L b a d in
+    each-answered n L (refutationIn a) (accepted-words n L (refutationIn a) s) ∙ ap refutationCode s
 
 -- After a yes, the model checker says yes to the model that was left.
 pub left-model-is-accepted : (n : ℕ) (L : List ℤ) (b a : Lent) → DecideReturns n L (pos 0) b a → modelAnswer n L (modelIn n a) ≡ model.Yes
@@ -430,6 +434,15 @@ pub refusals-returned : (a : Asked) (r : Refusal) → placeOf r < refusalUnit
     → (returned a ≡ negℤ (pos (numberOf r * refusalUnit + placeOf r))) ↔ FirstApplies (refusalTable a) r
 unfolding refusalCode
 refusals-returned a r h = Iff·trans (code-refused a r h) (table-refuses a r)
+
+-- A refutation may be handed over number by number, with what C keeps between two calls: the end returns the answer on the whole of it.
+pub pieces-return-the-answer : (n : ℕ) (L : List ℤ) (R : List ℕ) → Words R → refutationEnd n L (takeEach L refutationBegin R) ≡ refutationCode (refutationAnswer n L R)
+pieces-return-the-answer n L R w = each-answered n L R w
+
+-- That is the number which the check of its bytes returns, where these and the list's are whole numbers.
+pub pieces-return-the-check : (n : ℕ) (b r : List ℕ) → AreBytes r → length b % numberBytes ≡ 0 → length r % numberBytes ≡ 0
+    → refutationEnd n (int32s b) (takeEach (int32s b) refutationBegin (nat32s r)) ≡ checkRefutation n b r
+pieces-return-the-check n b r h v w = each-checked n b r v w h
 
 -- No two answers are returned as one number.
 pub model-answers-apart : (n k : ℕ) (b c m l : List ℕ) → checkModel n b m ≡ checkModel k c l → modelOfBytes n b m ≡ modelOfBytes k c l
@@ -494,3 +507,9 @@ pub the-file-of-x-at-most-5 : fileOf 1 (pos 1 ∷ pos 0 ∷ pos 0 ∷ pos 0 ∷ 
     ∷ 0 ∷ 0 ∷ 3 ∷ 0 ∷ []
 unfolding fileOf lineRecords lineBody lineAt
 the-file-of-x-at-most-5 = refl
+
+-- ---- the program
+
+-- It judges every input as if it had read it whole: what it prints depends on no more than the first `inputSize` bytes.
+pub reads-enough : (k : ℕ) → inputSize ≤ k → (b T : List ℕ) → Reported (take k b) T ↔ Reported b T
+reads-enough k h b T = front-enough k h b T

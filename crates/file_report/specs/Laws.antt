@@ -1,11 +1,10 @@
 -- From what deciding promised and the text that was written to what is reported.
-use mathlib.Core.Path.{_≡_, refl, sym, ap, ap₂, subst, _∙_}
+use mathlib.Core.Path.{_≡_, sym, ap, ap₂, subst, _∙_}
 use mathlib.Core.Bool.{Bool, true, false, cond}
 use mathlib.Core.List.{List, _++_}
 use Prim.Native.Nat.{ℕ, _+_, _*_, _-_, _≤_}
 use native.Mathlib.Omega.{arith}
 use borrow.Author.Tests.{le-ltb}
-use lib.Dec.{ltb}
 use lib.IntN.{ℤ}
 use lib.ListN.{length, take, drop, length-append}
 use lib.Seq.{take-at, drop-at}
@@ -19,7 +18,7 @@ use Rattle.lines.specs.Refusal.{validityOf}
 use Rattle.refutation.specs.Progress.{headSize}
 use Rattle.answers.specs.Verdict.{verdictOf}
 use Rattle.answers.specs.Answers.{modelOf, boundsOf, groupsOf}
-use Rattle.answers.specs.Refuted.{Due, stepsIn}
+use Rattle.answers.specs.Refuted.{stepsIn}
 use Rattle.buffers.specs.Room.{boundsRoom, refutationRoom, workRoom, outputsValidity, decideValidity}
 use Rattle.decide.specs.declared.Answer.{Answer}
 use Rattle.decide.specs.declared.Answer.the-variants as answer

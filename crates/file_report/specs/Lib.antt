@@ -1,3 +1,4 @@
 pub mod Report
+pub mod Input
 pub mod Ready
 pub mod Laws

@@ -2,7 +2,9 @@
 use decide::Answer;
 use decide::decide;
 use lines::limits::LINE_SIZE;
+use list_file::LINE_RECORD;
 use list_file::ReadAnswer;
+use list_file::VARIABLES_RECORD;
 use list_file::read_within;
 use records::file_number;
 use records::file_place;
@@ -14,6 +16,7 @@ ghost use lib.ListN.{take};
 ghost use Rattle.report.specs.Text.{noText};
 ghost use Rattle.report.specs.Put.{Wrote};
 ghost use Rattle.file_report.specs.Report.{Behind, Decided, Reported};
+ghost use Rattle.file_report.specs.Input.{InputReported};
 ghost use Rattle.decide.specs.Parts.{stated};
 ghost use Rattle.file_report.specs.Ready.{RefutationReady, ListReady};
 
@@ -25,6 +28,8 @@ const MOST_LINES: usize = 256;
 const MOST_NUMBERS: usize = LINE_SIZE * MOST_LINES;
 
 const WORK_SIZE: usize = 16 * MOST_VARIABLES * MOST_VARIABLES + 64 * MOST_VARIABLES + 64;
+// Nothing beyond the bytes of so many lines, and of one line more, is looked at.
+pub const INPUT_SIZE: usize = VARIABLES_RECORD + LINE_RECORD * (MOST_LINES + 1);
 // The text of so many variables takes less.
 pub const TEXT_SIZE: usize = 2_048;
 
@@ -73,4 +78,15 @@ pub fn report_file(bytes: &[u8], text: &mut [u8; TEXT_SIZE]) -> usize
         ReadAnswer::Read(z) => report_list(z.n, &numbers[0..LINE_SIZE * z.lines], text),
         ReadAnswer::Refused(r) => write_refused(file_number(r), file_place(r), text),
     }
+}
+
+// What the program prints for an input of any length: the buffer holds as much of it as it takes, `count` bytes.
+pub fn report_input(input: &[u8; INPUT_SIZE], count: usize, text: &mut [u8; TEXT_SIZE]) -> usize
+    ensures { λ r. ⌜ InputReported (now (input .entry)) count (take r (now (text .exit))) × Behind (now (text .entry)) (now (text .exit)) r ⌝ }
+{
+    let bytes: &[u8] = input;
+    if INPUT_SIZE <= count {
+        return report_file(bytes, text);
+    }
+    report_file(&bytes[0..count], text)
 }

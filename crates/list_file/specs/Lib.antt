@@ -8,3 +8,4 @@ pub mod Layout
 pub mod Scanned
 pub mod Back
 pub mod Calls
+pub mod Front

@@ -37,9 +37,9 @@ const NUMBER_BYTES: usize = 4;
 
 const LINE_BODY: usize = NUMBER_BYTES * LINE_SIZE;
 
-const VARIABLES_RECORD: usize = HEADER_SIZE + NUMBER_BYTES;
+pub const VARIABLES_RECORD: usize = HEADER_SIZE + NUMBER_BYTES;
 
-const LINE_RECORD: usize = HEADER_SIZE + LINE_BODY;
+pub const LINE_RECORD: usize = HEADER_SIZE + LINE_BODY;
 // The numbers of the longest list.
 const MOST_NUMBERS: usize = LINE_SIZE * MAX_LINES;
 

@@ -161,7 +161,7 @@ module _ (b : List ℕ) (room : ℕ) where
   start-reached = record { within = omega arith; placed = (refl, refl); fits = omega arith }
 
   -- ---- the whole file
-  abbrev Scanned : Next → Type 0
+  abbrev pub Scanned : Next → Type 0
   Scanned (More c) = ⊥
   Scanned (End c) = Ended b room c
   Scanned (Refused r) = Unit {0}
@@ -176,7 +176,7 @@ module _ (b : List ℕ) (room : ℕ) where
       go (End d) l f = l
       go (Refused r) l f = tt
 
-  scanned : Scanned (scanFrom (suc (length b)) b room start)
+  pub scanned : Scanned (scanFrom (suc (length b)) b room start)
   scanned = scanned-from (suc (length b)) start start-reached
 
   pub scan-not-more : (c : Cursor) → scan b room ≡ More c → ⊥

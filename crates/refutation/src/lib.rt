@@ -31,7 +31,6 @@ pub const HEAD_SIZE: usize = 3;
 // sums of the first and of the second walk; whether nothing was wrong so far, and the index of the first wrong step
 // number. In kind 2 the second walk goes on
 // where the first ended, so that both are one walk that turns round after p steps.
-#[repr(C)]
 pub struct Progress {
     pub read: usize,
     pub kind: usize,
