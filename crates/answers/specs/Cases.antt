@@ -15,6 +15,7 @@ use Rattle.steps.specs.Walk.{total, Names}
 use Rattle.refutation.specs.declared.RefutationAnswer.the-variants.{Yes}
 use Rattle.refutation.specs.Progress.{countsOk, isFalseStep, headOn, joins, turns, along, advance, run, closes, accepted}
 use Rattle.refutation.specs.Answer.{verdict, refutationValidity, refutationAnswer}
+use Rattle.soundness.specs.Head.{kindOf}
 use Rattle.walks.specs.Row.{relaxRow, startRow, rounds, rowAt, best}
 use Rattle.walks.specs.Negative.{noNegative}
 use Rattle.bounds.specs.Points.{assign}
@@ -26,7 +27,6 @@ use Rattle.bounds.specs.Table.{tableModel}
 use Rattle.answers.specs.Semantics.{absentLeast, absentGreatest}
 use Rattle.answers.specs.Verdict.{hasFalse, consistentHalves, verdictOf, dueKind}
 use Rattle.answers.specs.Answers.{modelOf, boundsOf, groupsOf}
-use Rattle.answers.specs.Refuted.{kindOf}
 
 -- what is written on a yes: model, bounds, groups; on a no: a refutation, here the one that document 01 names
 pub data Answer : Type 0 where

@@ -74,7 +74,7 @@ module _ (n : ℕ) (L : List ℤ) (valid : validityOf n L ≡ Valid) where
     where
       go : (b : Bool) → hasFalse (linesOf L) ≡ b → {R : List ℕ} → Falsehood L R → b ≡ true
       go true e f = refl
-      go false e f = absurd (no-false (linesOf L) e (f .line) _ (line-at L (f .line) (f .within)) (f .false-line))
+      go false e f = let w = f .false-step in absurd (no-false (linesOf L) e (w .line) _ (line-at L (w .line) (w .within)) (w .false-line))
 
   has-closed : (noNegative (stepsOf (linesOf L)) (2 * n) ≡ false) ↔ Some (Closed L)
   has-closed = ((λ e. closed-walk n L e), (λ c. found (c .1)))

@@ -19,6 +19,7 @@ use Rattle.steps.specs.Table.{entry, digit}
 use Rattle.steps.specs.Step.{stepOf, stepNumbered, stepsOf}
 use Rattle.steps.specs.Walk.{Names}
 use Rattle.refutation.specs.Progress.{headSize}
+use Rattle.soundness.specs.Head.{kindOf}
 use Rattle.soundness.specs.Refutes.{Refutes, kind-1, kind-2, kind-3}
 use Rattle.walks.specs.Row.{relaxRow, startRow, rounds, rowAt, best}
 use Rattle.walks.specs.Negative.{noNegative}
@@ -26,7 +27,7 @@ use Rattle.bounds.specs.Tight.{halves, tight}
 use Rattle.answers.specs.Semantics.{absentLeast, absentGreatest}
 use Rattle.answers.specs.Verdict.{hasFalse, consistentHalves, verdictOf, dueKind}
 use Rattle.answers.specs.Answers.{modelOf, boundsOf, groupsOf}
-use Rattle.answers.specs.Refuted.{Due, kindOf, due-refutation}
+use Rattle.answers.specs.Refuted.{Due, due-refutation}
 use Rattle.answers.specs.Cases.{list-8}
 use Rattle.buffers.specs.Room.{boundsRoom, refutationRoom, workRoom, outputsValidity, decideValidity}
 use Rattle.decide.specs.declared.Answer.{Answer}

@@ -17,9 +17,10 @@ use Rattle.lines.specs.Limits.{lineSize}
 use Rattle.lines.specs.Line.{linesOf}
 use Rattle.lines.specs.Refusal.{validityOf}
 use Rattle.refutation.specs.Progress.{headSize}
+use Rattle.soundness.specs.Head.{stepsIn}
 use Rattle.answers.specs.Verdict.{verdictOf}
 use Rattle.answers.specs.Answers.{modelOf, boundsOf, groupsOf}
-use Rattle.answers.specs.Refuted.{Due, stepsIn}
+use Rattle.answers.specs.Refuted.{Due}
 use Rattle.buffers.specs.Room.{boundsRoom, refutationRoom, workRoom, outputsValidity, decideValidity}
 use Rattle.decide.specs.declared.Answer.{Answer}
 use Rattle.decide.specs.declared.Answer.the-variants as answer

@@ -1,3 +1,4 @@
+pub mod Head
 pub mod Refutes
 pub mod Run
 pub mod Good
