@@ -56,10 +56,10 @@ use Rattle.list_file.specs.File.{fileOf, fileList}
 use Rattle.list_file.specs.Read.{readAnswer}
 use Rattle.list_file.specs.Bytes.{AreBytes}
 use Rattle.list_file.specs.Back.{OneFile, read-written, list-in-file, written-read, one-file, one-list}
-use Rattle.c_interface.specs.Codes.{decideCode}
+use Rattle.c_interface.specs.Codes.{noCode, decideCode}
 use Rattle.c_interface.specs.Calls.{numberBytes, bytesValidity, modelOfBytes, refutationOfBytes, checkModel, checkRefutation}
 use Rattle.c_interface.specs.Laws.{model-bytes-below, refutation-bytes-below, decision-below}
-use Rattle.c_interface.specs.Apart.{models-apart, refutations-apart, decisions-apart, returned-yes}
+use Rattle.c_interface.specs.Apart.{BytesBreakAt, models-apart, refutations-apart, decisions-apart, returned-yes, returned-no}
 
 -- A list is valid for its n if no refusal of the list itself applies.
 abbrev pub ValidFor : ℕ → List ℤ → Type 0
@@ -258,6 +258,12 @@ returned-yes-is-accepted n b r = returned-yes n b r
 -- So a returned yes is never against a list that has a solution.
 pub returned-yes-not-against-a-solution : (n : ℕ) (b r : List ℕ) → checkRefutation n b r ≡ pos 0 → Solvable (linesOf (int32s b)) → ⊥
 returned-yes-not-against-a-solution n b r e = nothing-against-a-solution n (int32s b) (nat32s r) (returned-yes n b r .0 e .3)
+
+-- The number is noCode + k exactly if the list's bytes are those of a valid list, there are no more bytes than the longest refutation has, and they break at k: they
+-- are no multiple of four and k is 0, or they are one and their numbers break at k.
+pub returned-no-says-where : (n : ℕ) (b r : List ℕ) (k : ℕ) → (checkRefutation n b r ≡ pos (noCode + k))
+    ↔ ((bytesValidity n b ≡ Valid) × (length r ≤ numberBytes * maxRefutation) × BytesBreakAt b r k)
+returned-no-says-where n b r k = returned-no n b r k
 
 -- No two answers are returned as one number.
 pub model-answers-apart : (n k : ℕ) (b c m l : List ℕ) → checkModel n b m ≡ checkModel k c l → modelOfBytes n b m ≡ modelOfBytes k c l
