@@ -79,7 +79,7 @@ module _ (n : ℕ) (L : List ℤ) (valid : validityOf n L ≡ Valid) where
     where
       go : (b : Bool) → hasFalse (linesOf L) ≡ b → {R : List ℕ} → Falsehood L R → b ≡ true
       go true e f = refl
-      go false e f = absurd (no-false (linesOf L) e (f .line) _ (line-at L (f .line) (f .within)) (f .false-line))
+      go false e f = let w = f .false-step in absurd (no-false (linesOf L) e (w .line) _ (line-at L (w .line) (w .within)) (w .false-line))
 
   -- where some line is false, a due refutation names the lowest
   pub names-the-lowest : (R : List ℕ) → Due n L R → (j : ℕ) → j < lineCount L → isFalse (lineAt L j) ≡ true → (k : ℕ) × LowestFalseLine L k × (R ≡ 3 ∷ 1 ∷ 0 ∷ 2 * k ∷ [])

@@ -5,7 +5,7 @@ use mathlib.Core.List.{List, [], _∷_, _++_}
 use Prim.Native.Nat.{ℕ, _+_, _*_, _<_, _≤_}
 use native.Mathlib.Omega.{arith}
 use lib.IntN.{ℤ}
-use lib.ListN.{length, getD, length-append}
+use lib.ListN.{length, length-append}
 use Rattle.integers.specs.Laws.{never}
 use Rattle.lines.specs.declared.Line.{Line}
 use Rattle.lines.specs.Line.{linesOf, isFalse}
@@ -16,16 +16,10 @@ use Rattle.steps.specs.Walk.{Path}
 use Rattle.walks.specs.Distance.{some}
 use Rattle.walks.specs.Least.{best-attained}
 use Rattle.walks.specs.Negative.{noNegative, negative-point, negative-walk}
+use Rattle.soundness.specs.Head.{kindOf, stepsIn}
 use Rattle.soundness.specs.Refutes.{Closed, Falsehood, Refutes, kind-1, kind-2, kind-3}
 use Rattle.answers.specs.Graph.{at-line, numbered}
 use Rattle.answers.specs.Verdict.{hasFalse, firstFalse, lowest-false, consistentHalves, bad-halves, verdictOf, dueKind}
-
--- the kind, and the steps in all, that a refutation states
-abbrev pub kindOf : List ℕ → ℕ
-kindOf R = getD R 0 0
-
-abbrev pub stepsIn : List ℕ → ℕ
-stepsIn R = getD R 1 0 + getD R 2 0
 
 -- a refutation of the due kind: that of the lowest false line, or one with at most 4n steps
 pub record Due (n : ℕ) (L : List ℤ) (R : List ℕ) : Type 0 where
@@ -56,7 +50,11 @@ module _ (n : ℕ) (L : List ℤ) where
   falsehood e =
       let f = lowest-false ls e in
       let a = at-line L (firstFalse 0 ls) (f .line) (f .at) in
-      record { line = firstFalse 0 ls; is = refl; within = a .0; false-line = ap isFalse (a .1) ∙ f .false-line }
+      record {
+        number = 2 * firstFalse 0 ls;
+        is = refl;
+        false-step = record { line = firstFalse 0 ls; is = refl; within = a .0; false-line = ap isFalse (a .1) ∙ f .false-line };
+      }
 
   pub due-false : (e : hasFalse ls ≡ true) → Due n L (3 ∷ 1 ∷ 0 ∷ 2 * firstFalse 0 ls ∷ [])
   due-false e =

@@ -146,7 +146,7 @@ accepted-words n L R e = let a = accepted-when n L R .0 e in go (valid-list n L 
         let s = length-append (c .numbers) (c .more) in
         subst Words (sym (c .is))
         (omega arith, (omega arith, (omega arith, words-append (c .numbers) (c .more) (names-words L (c .numbers) (c .there .steps) h (c .there .named)) (names-words L (c .more) (c .back .steps) h (c .back .named)))))
-    go h l (kind-3 c) = subst Words (sym (c .is)) (omega arith, (omega arith, (omega arith, (omega (arith, c .within), tt))))
+    go h l (kind-3 c) = let f = c .false-step in subst Words (sym (c .is)) (omega arith, (omega arith, (omega arith, (omega (arith, f .is, f .within), tt))))
 
 -- ---- so on the bytes of what is accepted, 0 is returned
 pub accepted-refutation : (n : ℕ) (L : List ℤ) (R : List ℕ) → refutationAnswer n L R ≡ refutation.Yes → checkRefutation n (int32Bytes L) (nat32Bytes R) ≡ pos 0

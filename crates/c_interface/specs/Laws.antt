@@ -47,9 +47,10 @@ module _ (n : ℕ) (b : List ℕ) (few : n ≤ maxVariables) (whole : length b %
       let many : maxLines < length (int32s b) / lineSize = omega arith in
       sym (bytes-as-numbers ∙ rw (le-ltb maxVariables n few, eq-eqb _ _ even, lt-ltb _ _ many))
 
--- a valid list in bytes has few variables, and its numbers find room
+-- a valid list in bytes has few variables, and its numbers are valid and find room
 pub record BytesOk (n : ℕ) (b : List ℕ) : Type 0 where
   pub variables : n ≤ maxVariables
+  pub numbers : validityOf n (int32s b) ≡ Valid
   pub room : length b / numberBytes ≤ lineSize * maxLines
 
 pub valid-bytes : (n : ℕ) (b : List ℕ) → bytesValidity n b ≡ Valid → BytesOk n b
@@ -59,7 +60,7 @@ valid-bytes n b e =
     let q = or-valid (refuseIf (not (eqb (length b % (numberBytes * lineSize)) 0)) BrokenLength) _ (p .1) in
     let ok = valid-list n (int32s b) (q .1) in
     let size : length (int32s b) ≡ length b / numberBytes = length-firstOf numberBytes int32 b _ in
-    record { variables = ok .variables; room = omega (arith, ok .whole, ok .count) }
+    record { variables = ok .variables; numbers = q .1; room = omega (arith, ok .whole, ok .count) }
 
 -- ---- the places in an answer are below a refusal's unit
 pub bytes-placed : (n : ℕ) (b : List ℕ) → Placed refusalUnit (bytesValidity n b)

@@ -14,10 +14,10 @@ use Rattle.lines.specs.declared.Validity.the-variants.{Valid}
 use Rattle.lines.specs.declared.Validity.the-variants as validity
 use Rattle.lines.specs.Line.{linesOf}
 use Rattle.refutation.specs.Progress.{headSize}
+use Rattle.soundness.specs.Head.{stepsIn}
 use Rattle.soundness.specs.Refutes.{Refutes, kind-1, kind-2, kind-3}
 use Rattle.answers.specs.Verdict.{verdictOf}
 use Rattle.answers.specs.Answers.{modelOf, boundsOf, groupsOf}
-use Rattle.answers.specs.Refuted.{stepsIn}
 use Rattle.buffers.specs.Room.{boundsRoom}
 use Rattle.decide.specs.declared.Answer.the-variants.{Yes, No}
 use Rattle.decide.specs.Decided.{Lent, unlessRefused, decideAnswer, answerFor, validityFor, OnYes, OnNo}

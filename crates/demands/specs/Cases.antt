@@ -6,7 +6,7 @@ use mathlib.Core.List.{List, [], _∷_, _++_}
 use Prim.Native.Nat.{ℕ, _+_, _*_, _≤_}
 use native.Mathlib.Omega.{arith}
 use lib.IntN.{ℤ, pos, negℤ}
-use lib.ListN.{length, getD, take, drop, replicate}
+use lib.ListN.{length, take, drop, replicate}
 use Rattle.lines.specs.declared.Validity.the-variants.{Valid}
 use Rattle.lines.specs.Line.{lineAt, linesOf, isFalse}
 use Rattle.lines.specs.Refusal.{coefficientsOk, variableOk, variablesOk, constantOk, linesValidity, validityOf}
@@ -18,6 +18,7 @@ use Rattle.steps.specs.Walk.{total, Names}
 use Rattle.refutation.specs.declared.RefutationAnswer.the-variants.{Yes as accepted-yes}
 use Rattle.refutation.specs.Progress.{headSize, countsOk, isFalseStep, headOn, joins, turns, along, advance, run, closes, accepted}
 use Rattle.refutation.specs.Answer.{verdict, refutationValidity, refutationAnswer}
+use Rattle.soundness.specs.Head.{kindOf, firstCount, stepsIn}
 use Rattle.soundness.specs.Answered.{accepted-when}
 use Rattle.walks.specs.Row.{relaxRow, startRow, rounds, rowAt, best}
 use Rattle.walks.specs.Negative.{noNegative}
@@ -30,7 +31,7 @@ use Rattle.bounds.specs.Table.{tableModel}
 use Rattle.answers.specs.Semantics.{absentLeast, absentGreatest}
 use Rattle.answers.specs.Verdict.{hasFalse, firstFalse, consistentHalves, verdictOf, dueKind}
 use Rattle.answers.specs.Answers.{modelOf, boundsOf, groupsOf}
-use Rattle.answers.specs.Refuted.{Due, kindOf, stepsIn}
+use Rattle.answers.specs.Refuted.{Due}
 use Rattle.buffers.specs.Room.{boundsRoom, workRoom}
 use Rattle.decide.specs.declared.Answer.the-variants.{Yes, No}
 use Rattle.decide.specs.Decided.{Lent, OnYes, OnNo}
@@ -55,7 +56,7 @@ SumsTo L ks z = (ts : List Step) × Names L ks ts × (total ts ≡ z)
 abbrev pub WalkSums : List ℤ → List ℕ → List ℤ → Type 0
 WalkSums L R [] = kindOf R ≡ 3
 WalkSums L R (S ∷ []) = SumsTo L (drop headSize R) S
-WalkSums L R (S ∷ T ∷ zs) = SumsTo L (take (getD R 1 0) (drop headSize R)) S × SumsTo L (drop (getD R 1 0) (drop headSize R)) T
+WalkSums L R (S ∷ T ∷ zs) = SumsTo L (take (firstCount R) (drop headSize R)) S × SumsTo L (drop (firstCount R) (drop headSize R)) T
 
 -- what a call answers and leaves: on a yes all lent buffers are told, the work area's zeros among them; on a no what the promise asks, and the
 -- refutation named is one that it allows

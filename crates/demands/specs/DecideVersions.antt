@@ -25,6 +25,7 @@ use Rattle.steps.specs.Walk.{Names}
 use Rattle.refutation.specs.declared.RefutationAnswer.the-variants as answer
 use Rattle.refutation.specs.Progress.{headSize, countsOk, headOn, wrongAfter, joins, turns, along, advance, run, closes, accepted, brokenAt}
 use Rattle.refutation.specs.Answer.{verdict, refutationValidity, refutationAnswer}
+use Rattle.soundness.specs.Head.{kindOf}
 use Rattle.soundness.specs.Refutes.{Refutes, kind-1, kind-2, kind-3}
 use Rattle.walks.specs.Row.{relaxRow, startRow, rounds, rowAt, best}
 use Rattle.walks.specs.Negative.{noNegative}
@@ -37,7 +38,7 @@ use Rattle.bounds.specs.Table.{tableModel}
 use Rattle.answers.specs.Semantics.{absentLeast, absentGreatest}
 use Rattle.answers.specs.Verdict.{hasFalse, consistentHalves, verdictOf, dueKind}
 use Rattle.answers.specs.Answers.{modelOf, boundsOf, groupsOf}
-use Rattle.answers.specs.Refuted.{Due, kindOf, due-refutation}
+use Rattle.answers.specs.Refuted.{Due, due-refutation}
 use Rattle.answers.specs.Decided.{due-accepted}
 use Rattle.buffers.specs.Room.{boundsRoom, refutationRoom, workRoom, outputsValidity, decideValidity}
 use Rattle.decide.specs.declared.Answer.{Answer}

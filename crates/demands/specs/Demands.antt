@@ -1,6 +1,6 @@
 -- What was demanded, in document 01's words, each statement proved by citing the rest: of deciding, of the answers and of the checkers.
 --
--- A reader has to believe the meaning of the words (`Solves`, `Written` in answers/specs/Semantics.antt, `Refutes` in soundness/specs/Refutes.antt),
+-- A reader has to believe the meaning of the words (`Solves`, `Written` in answers/specs/Semantics.antt, `Refutes` and `BreaksAt` in soundness/specs),
 -- the table of refusals (`refusalTable` in Refusals.antt) and what a call is (`Call` in Calls.antt), and nothing of how the answers are computed.
 --
 -- The promises of the code are equations, for every input: `decide` promises `Decided` (decide/specs/Decided.antt), `check_model` answers
@@ -12,7 +12,7 @@ use mathlib.Core.Path.{_≡_, refl, sym, ap, subst, _∙_}
 use mathlib.Core.Logic.{_↔_, Iff·rfl, Iff·trans, Iff·and}
 use mathlib.Core.Bool.{Bool, true, false}
 use mathlib.Core.List.{List, [], _∷_, _++_}
-use Prim.Native.Nat.{ℕ, suc, _+_, _*_, _%_, _<_, _≤_}
+use Prim.Native.Nat.{ℕ, _+_, _*_, _%_, _<_, _≤_}
 use native.Mathlib.Omega.{arith}
 use lib.IntN.{ℤ, pos, negℤ, natAbs}
 use lib.ListN.{length, drop, getD, take}
@@ -33,18 +33,20 @@ use Rattle.model.specs.declared.ModelAnswer.the-variants as model
 use Rattle.model.specs.Model.{modelAnswer}
 use Rattle.model.specs.Meaning.{FirstFails, yes-exactly, no-exactly}
 use Rattle.refutation.specs.declared.RefutationAnswer.the-variants.{Yes, No}
-use Rattle.refutation.specs.Progress.{headSize, start}
+use Rattle.refutation.specs.Progress.{start}
 use Rattle.refutation.specs.Answer.{refutationAnswer}
 use Rattle.pieces.specs.Taken.{takeAll, endAnswer}
 use Rattle.pieces.specs.Cut.{Words, takePieces, joined, resumed, in-pieces}
+use Rattle.soundness.specs.Head.{kindOf, stepsIn}
 use Rattle.soundness.specs.Refutes.{Refutes}
-use Rattle.soundness.specs.Place.{Agree, short-place, place-below, first-fault, place-grows}
-use Rattle.soundness.specs.Answered.{answered-yes, answered-no, accepted-when, answers-longer, answers-no-solvable}
+use Rattle.soundness.specs.Answered.{accepted-when, answers-longer, answers-no-solvable}
 use Rattle.answers.specs.Semantics.{Agrees, IsModel, NoLeast, NoGreatest, absentLeast, absentGreatest, Written}
+use Rattle.soundness.specs.BreaksAt.{BreaksAt}
+use Rattle.soundness.specs.Breaks.{breaks-once, breaks-unless-refutes, no-exactly-where}
 use Rattle.answers.specs.Verdict.{verdictOf, dueKind}
 use Rattle.answers.specs.Answers.{modelOf, boundsOf, groupsOf}
 use Rattle.answers.specs.Small.{AllAbove, model-small}
-use Rattle.answers.specs.Refuted.{Due, kindOf, stepsIn, due-refutation}
+use Rattle.answers.specs.Refuted.{Due, due-refutation}
 use Rattle.answers.specs.Meaning.{computed-written, no-tie}
 use Rattle.answers.specs.Decided.{DueKind, LowestFalseLine, names-the-lowest, lines-ok, yes-solvable, no-unsolvable, solvable-yes, unsolvable-no, due-accepted, accepted-no, kind-due}
 use Rattle.answers.specs.Unique.{written-model, written-bounds, written-groups}
@@ -83,7 +85,7 @@ use Rattle.file_report.specs.Report.{Reported}
 use Rattle.file_report.specs.Input.{inputSize, front-enough}
 use Rattle.c_interface.specs.Pieces.{refutationBegin, refutationEnd, takeEach, each-answered, each-checked}
 use Rattle.c_interface.specs.Laws.{model-bytes-below, refutation-bytes-below, decision-below}
-use Rattle.c_interface.specs.Apart.{models-apart, refutations-apart, decisions-apart, returned-yes}
+use Rattle.c_interface.specs.Apart.{BytesBreakAt, models-apart, refutations-apart, decisions-apart, returned-yes, returned-no}
 
 -- A list is valid for its n if no refusal of the list itself applies.
 abbrev pub ValidFor : ℕ → List ℤ → Type 0
@@ -325,25 +327,20 @@ nothing-against-a-solution n L R = answers-no-solvable n L R
 pub accepted-stays-accepted : (n : ℕ) (L M : List ℤ) (R : List ℕ) → ValidFor n (L ++ M) → Accepted n L R → Accepted n (L ++ M) R
 accepted-stays-accepted n L M R = answers-longer n L M R
 
--- A no says where the refutation breaks: at an index of it, 0 where it has fewer than three numbers.
-pub no-says-where : (n : ℕ) (L : List ℤ) (R : List ℕ) (k : ℕ) → refutationAnswer n L R ≡ No k → (length R < headSize → k ≡ 0) × (headSize ≤ length R → k < length R)
-no-says-where n L R k e =
-    let a = answered-no n L R k e in
-    ((λ h. a .1 ∙ short-place L R h), (λ h. subst (λ (i : ℕ). i < length R) (sym (a .1)) (place-below L R h)))
+-- Its no carries a place, an index into the refutation: it says no exactly where the refutation breaks by the rules of request Two. A bad kind is index 0,
+-- bad counts 1, a total length that disagrees with the counts 2; then, in reading order, the first step number that names no step or doesn't join, or the
+-- last step of a walk that ends wrong; last, sums that aren't low enough give the index of the last number. In kind 3 a wrong step number is index 3. Fewer
+-- than three numbers gives index 0.
+pub no-exactly-where-it-breaks : (n : ℕ) (L : List ℤ) (R : List ℕ) (k : ℕ) → (refutationAnswer n L R ≡ No k) ↔ (ValidFor n L × (length R ≤ maxRefutation) × BreaksAt L R k)
+no-exactly-where-it-breaks n L R k = no-exactly-where n L R k
 
--- It is the first fault: nothing as long that agrees on the first three numbers, and on all up to that place, is accepted.
-pub the-first-fault : (n : ℕ) (L : List ℤ) (R T : List ℕ) (k : ℕ) → refutationAnswer n L R ≡ No k → length R ≡ length T → Agree headSize R T → Agree (suc k) R T → Accepted n L T → ⊥
-the-first-fault n L R T k e l h g t =
-    let a = answered-no n L R k e in
-    first-fault L R T l h (subst (λ (i : ℕ). Agree (suc i) R T) (a .1) g) (a .0) (answered-yes n L T .0 t .2)
+-- What is of none of the three kinds breaks somewhere, and nothing else does.
+pub breaks-exactly-if-no-refutation : (L : List ℤ) (R : List ℕ) → (Refutes L R → ⊥) ↔ ((k : ℕ) × BreaksAt L R k)
+breaks-exactly-if-no-refutation L R = breaks-unless-refutes L R
 
--- Changing only numbers after the place never makes the place smaller.
-pub place-never-smaller : (n : ℕ) (L : List ℤ) (R T : List ℕ) (j k : ℕ) → refutationAnswer n L R ≡ No j → refutationAnswer n L T ≡ No k → length R ≡ length T → Agree (suc j) R T → j ≤ k
-place-never-smaller n L R T j k e f l g =
-    let a = answered-no n L R j e in
-    let b = answered-no n L T k f in
-    let m = place-grows L R T l (subst (λ (i : ℕ). Agree (suc i) R T) (a .1) g) in
-    omega (arith, a .1, b .1, m)
+-- It breaks at one place.
+pub breaks-at-one-place : (L : List ℤ) (R : List ℕ) (j k : ℕ) → BreaksAt L R j → BreaksAt L R k → j ≡ k
+breaks-at-one-place L R j k = breaks-once L R j k
 
 -- Stopped after any number it goes on to the same answer, from the list, the numbers not yet read and what it kept.
 pub stopped-and-resumed : (n : ℕ) (L : List ℤ) (A B : List ℕ) → Words (A ++ B) → endAnswer n L (takeAll L (takeAll L start A) B) ≡ refutationAnswer n L (A ++ B)
@@ -428,6 +425,12 @@ returned-yes-is-accepted n b r = returned-yes n b r
 -- So a returned yes is never against a list that has a solution.
 pub returned-yes-not-against-a-solution : (n : ℕ) (b r : List ℕ) → checkRefutation n b r ≡ pos 0 → Solvable (linesOf (int32s b)) → ⊥
 returned-yes-not-against-a-solution n b r e = nothing-against-a-solution n (int32s b) (nat32s r) (returned-yes n b r .0 e .3)
+
+-- The number is 1,000,000 + k exactly if the list's bytes are those of a valid list, there are no more bytes than the longest refutation has, and they
+-- break at k: they are no multiple of four and k is 0, or they are one and their numbers break at k.
+pub returned-no-says-where : (n : ℕ) (b r : List ℕ) (k : ℕ) → (checkRefutation n b r ≡ pos (noCode + k))
+    ↔ ((bytesValidity n b ≡ Valid) × (length r ≤ numberBytes * maxRefutation) × BytesBreakAt b r k)
+returned-no-says-where n b r k = returned-no n b r k
 
 -- A refusal is returned as minus its number times 100,000, and its place: exactly where it is the first of the table that applies.
 pub refusals-returned : (a : Asked) (r : Refusal) → placeOf r < refusalUnit

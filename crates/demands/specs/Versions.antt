@@ -1,10 +1,17 @@
 -- Versions of the checkers that answer idly or by guessing, each a definition, and at a named input what breaks the promise.
 use mathlib.Core.Path.{_≡_, refl, sym, ap, _∙_}
+use mathlib.Core.Logic.{_↔_}
+use mathlib.Core.Bool.{cond}
 use mathlib.Core.List.{List, [], _∷_}
-use Prim.Native.Nat.{ℕ}
+use Prim.Native.Nat.{ℕ, _≤_}
+use native.Mathlib.Omega.{arith}
+use lib.Dec.{ltb}
 use lib.IntN.{ℤ, pos, negℤ}
+use lib.ListN.{length}
 use Rattle.integers.specs.Laws.{never}
 use Rattle.lines.specs.declared.Refusal.the-variants.{TooManyVariables}
+use Rattle.lines.specs.declared.Validity.the-variants.{Valid}
+use Rattle.lines.specs.Limits.{maxRefutation}
 use Rattle.lines.specs.Line.{lineAt, leftSide, isFalse}
 use Rattle.lines.specs.Refusal.{coefficientsOk, variableOk, variablesOk, constantOk, linesValidity, validityOf}
 use Rattle.model.specs.declared.ModelAnswer.{ModelAnswer}
@@ -13,8 +20,10 @@ use Rattle.model.specs.Model as model-check
 use Rattle.model.specs.Model.{valuesValidity, modelValidity, firstFailing, modelAnswer}
 use Rattle.refutation.specs.declared.RefutationAnswer.{RefutationAnswer}
 use Rattle.refutation.specs.declared.RefutationAnswer.the-variants.{Yes, No, Refused}
-use Rattle.refutation.specs.Progress.{countsOk, isFalseStep, headOn, advance, run, closes, accepted, brokenAt}
+use Rattle.refutation.specs.Progress.{headSize, countsOk, isFalseStep, headOn, advance, run, closes, accepted, brokenAt}
 use Rattle.refutation.specs.Answer.{unlessRefused, verdict, refutationValidity, refutationAnswer}
+use Rattle.soundness.specs.Breaks.{breaks-once, no-exactly-where}
+use Rattle.soundness.specs.BreaksAt.{lastIndex, BreaksAt}
 
 -- ---- the refutation checker's promise, of any version of it
 abbrev KeepsRefutation : (ℕ → List ℤ → List ℕ → RefutationAnswer) → Type 0
@@ -52,23 +61,50 @@ pub accepts-everything-breaks : KeepsRefutation acceptsEverything → ⊥
 unfolding acceptsEverything refutationValidity validityOf linesValidity
 accepts-everything-breaks k = let e : Yes ≡ No 0 = k 0 [] [] ∙ nothing in never (cc)
 
--- it answers right, but never says where a refutation breaks
-abbrev atStart : RefutationAnswer → RefutationAnswer
-atStart Yes = Yes
-atStart (No k) = No 0
-atStart (Refused r) = Refused r
+-- the same answer, with another place for its no
+abbrev movedTo : ℕ → RefutationAnswer → RefutationAnswer
+movedTo i Yes = Yes
+movedTo i (No k) = No i
+movedTo i (Refused r) = Refused r
 
+-- it answers right, but never says where a refutation breaks
 pub saysNowhere : ℕ → List ℤ → List ℕ → RefutationAnswer
-saysNowhere n L R = atStart (refutationAnswer n L R)
+saysNowhere n L R = movedTo 0 (refutationAnswer n L R)
 
 -- kind 1 without steps: the counts are wrong
-no-steps : refutationAnswer 0 [] (1 ∷ 0 ∷ 0 ∷ []) ≡ No 1
+abbrev noSteps : List ℕ
+noSteps = 1 ∷ 0 ∷ 0 ∷ []
+
+no-steps : refutationAnswer 0 [] noSteps ≡ No 1
 unfolding refutationAnswer refutationValidity validityOf linesValidity countsOk headOn advance run closes accepted brokenAt verdict
 no-steps = refl
 
 pub says-nowhere-breaks : KeepsRefutation saysNowhere → ⊥
 unfolding saysNowhere
-says-nowhere-breaks k = let e : No 0 ≡ No 1 = ap atStart (sym no-steps) ∙ k 0 [] (1 ∷ 0 ∷ 0 ∷ []) ∙ no-steps in never (cc)
+says-nowhere-breaks k = let e : No 0 ≡ No 1 = ap (movedTo 0) (sym no-steps) ∙ k 0 [] noSteps ∙ no-steps in never (cc)
+
+-- it answers right, but a no names the last number, or 0 where there is no whole head
+pub saysLast : ℕ → List ℤ → List ℕ → RefutationAnswer
+saysLast n L R = movedTo (cond (ltb (length R) headSize) 0 (lastIndex R)) (refutationAnswer n L R)
+
+last-of-no-steps : saysLast 0 [] noSteps ≡ No 2
+unfolding saysLast
+last-of-no-steps = ap (movedTo 2) no-steps
+
+pub says-last-breaks : KeepsRefutation saysLast → ⊥
+says-last-breaks k = let e : No 2 ≡ No 1 = sym last-of-no-steps ∙ k 0 [] noSteps ∙ no-steps in never (cc)
+
+-- nor does it say no exactly where the refutation breaks, which the checker does (`no-exactly-where-it-breaks` in Demands.antt)
+abbrev SaysWhere : (ℕ → List ℤ → List ℕ → RefutationAnswer) → Type 0
+SaysWhere f = (n : ℕ) (L : List ℤ) (R : List ℕ) (k : ℕ) → (f n L R ≡ No k) ↔ ((validityOf n L ≡ Valid) × (length R ≤ maxRefutation) × BreaksAt L R k)
+
+pub says-where : SaysWhere refutationAnswer
+says-where = no-exactly-where
+
+pub says-last-not-where : SaysWhere saysLast → ⊥
+says-last-not-where s =
+    let e = breaks-once [] noSteps 2 1 (s 0 [] noSteps 2 .0 last-of-no-steps .2) (says-where 0 [] noSteps 1 .0 no-steps .2) in
+    absurd (omega arith)
 
 -- it refuses every list
 pub refusesEvery : ℕ → List ℤ → List ℕ → RefutationAnswer

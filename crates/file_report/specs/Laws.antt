@@ -4,7 +4,6 @@ use mathlib.Core.Bool.{Bool, true, false, cond}
 use mathlib.Core.List.{List, _++_}
 use Prim.Native.Nat.{ℕ, _+_, _*_, _-_, _≤_}
 use native.Mathlib.Omega.{arith}
-use borrow.Author.Tests.{le-ltb}
 use lib.IntN.{ℤ}
 use lib.ListN.{length, take, drop, length-append}
 use lib.Seq.{take-at, drop-at}
@@ -16,13 +15,13 @@ use Rattle.lines.specs.Limits.{lineSize}
 use Rattle.lines.specs.Line.{linesOf}
 use Rattle.lines.specs.Refusal.{validityOf}
 use Rattle.refutation.specs.Progress.{headSize}
+use Rattle.soundness.specs.Head.{stepsIn}
 use Rattle.answers.specs.Verdict.{verdictOf}
 use Rattle.answers.specs.Answers.{modelOf, boundsOf, groupsOf}
-use Rattle.answers.specs.Refuted.{stepsIn}
-use Rattle.buffers.specs.Room.{boundsRoom, refutationRoom, workRoom, outputsValidity, decideValidity}
+use Rattle.buffers.specs.Room.{boundsRoom, refutationRoom, workRoom}
 use Rattle.decide.specs.declared.Answer.{Answer}
 use Rattle.decide.specs.declared.Answer.the-variants as answer
-use Rattle.decide.specs.Decided.{Lent, unlessRefused, decideAnswer, answerFor, OnYes, OnNo, validityFor}
+use Rattle.decide.specs.Decided.{Lent, unlessRefused, decideAnswer, answerFor, OnYes, OnNo, validityFor, ok-decide}
 use Rattle.decide.specs.Decided as decide
 use Rattle.decide.specs.Parts.{stated, yes-verdict, no-verdict, stated-length, model-in, bounds-in, groups-in, refutation-in}
 use Rattle.records.specs.declared.FileRefusal.{FileRefusal}
@@ -88,10 +87,8 @@ module _ {n : ℕ} {L : List ℤ} {found : Answer} {b a : Lent} (k : decide.Deci
   -- the buffers are long enough
   pub never-refused : (r : Refusal) → found ≡ answer.Refused r → validityOf n L ≡ validity.Valid
       → n ≤ length (b .model) → boundsRoom n ≤ length (b .bounds) → n ≤ length (b .groups) → refutationRoom n ≤ length (b .refutation) → workRoom n ≤ length (b .work) → ⊥
-  unfolding decideValidity outputsValidity
   never-refused r f v h₁ h₂ h₃ h₄ h₅ =
-      refused-validity n L b r (sym f ∙ k .is)
-      (rw (v, le-ltb (length (b .model)) n h₁, le-ltb (length (b .bounds)) (boundsRoom n) h₂, le-ltb (length (b .groups)) n h₃, le-ltb (length (b .refutation)) (refutationRoom n) h₄, le-ltb (length (b .work)) (workRoom n) h₅))
+      refused-validity n L b r (sym f ∙ k .is) (ok-decide n L b (record { list = v; model = h₁; bounds = h₂; groups = h₃; refutation = h₄; work = h₅ }))
 
 -- ---- what was read
 module _ {bytes : List ℕ} {found : ReadAnswer} {b a : List ℤ} (k : ReadDone mostVariables bytes found b a) (size : length b ≡ lineSize * mostLines) where

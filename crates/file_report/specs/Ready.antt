@@ -7,7 +7,7 @@ use lib.ListN.{length}
 use Rattle.lines.specs.declared.Validity.the-variants.{Valid}
 use Rattle.lines.specs.Refusal.{validityOf}
 use Rattle.refutation.specs.Progress.{headSize}
-use Rattle.answers.specs.Refuted.{stepsIn}
+use Rattle.soundness.specs.Head.{stepsIn}
 use Rattle.buffers.specs.Room.{refutationRoom}
 use Rattle.file_report.specs.Report.{mostVariables}
 

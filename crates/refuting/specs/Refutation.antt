@@ -21,8 +21,8 @@ use Rattle.walks.specs.Distance.{some}
 use Rattle.walks.specs.Row.{best, some-is}
 use Rattle.walks.specs.Negative.{noNegative, no-negative-at}
 use Rattle.bounds.specs.Points.{opposite-below}
+use Rattle.soundness.specs.Head.{kindOf, stepsIn}
 use Rattle.soundness.specs.Refutes.{Refutes, kind-1, kind-2}
-use Rattle.answers.specs.Refuted.{kindOf, stepsIn}
 use Rattle.refutation.specs.Progress.{headSize}
 use Rattle.refuting.specs.Shortest.{walkStart, SumFound, least, closed}
 use Rattle.refuting.specs.Written.{WriteReady, WalkWritten}

@@ -4,11 +4,11 @@ use mathlib.Core.Bool.{Bool, true, false, not, _&&_, _||_}
 use mathlib.Core.List.{List, [], _∷_}
 use Prim.Native.Nat.{ℕ, zero, suc, _+_, _-_, _<_, _≤_}
 use native.Mathlib.Omega.{arith}
-use borrow.Author.Tests.{eq-eqb, eqb-true}
+use borrow.Author.Tests.{eq-eqb, eqb-true, eqb-false}
 use lib.Dec.{eqb}
 use lib.IntN.{ℤ}
 use lib.ListN.{length}
-use Rattle.integers.specs.Laws.{both-true}
+use Rattle.integers.specs.Laws.{never, both-true}
 use Rattle.steps.specs.declared.Step.{Step}
 use Rattle.steps.specs.declared.NamedStep.the-variants.{Found}
 use Rattle.steps.specs.Point.{opposite}
@@ -26,11 +26,11 @@ or-right : (a b : Bool) → b ≡ true → (a || b) ≡ true
 or-right true b e = refl
 or-right false b e = e
 
-joins-here : (s : Progress) (from : ℕ) → s .here ≡ from → joins s from ≡ true
+pub joins-here : (s : Progress) (from : ℕ) → s .here ≡ from → joins s from ≡ true
 unfolding joins
 joins-here s from e = or-right (eqb (s .read) headSize) _ (eq-eqb from (s .here) (sym e))
 
-joins-first : (s : Progress) (from : ℕ) → s .read ≡ headSize → joins s from ≡ true
+pub joins-first : (s : Progress) (from : ℕ) → s .read ≡ headSize → joins s from ≡ true
 unfolding joins
 joins-first s from e = or-left _ (eqb from (s .here)) (eq-eqb (s .read) headSize e)
 
@@ -45,11 +45,22 @@ module _ (s : Progress) (u to : ℕ) where
       go true false x y = refl
       go false b x y = refl
 
+  -- and where it is wrong
+  pub turns-wrong : turns s u to ≡ false → (s .kind ≡ 2) × (s .read + 1 ≡ headSize + s .p) × (to ≡ opposite u → ⊥)
+  unfolding turns
+  turns-wrong = go (eqb (s .kind) 2) (eqb (s .read + 1) (headSize + s .p)) refl refl
+    where
+      go : (a b : Bool) → eqb (s .kind) 2 ≡ a → eqb (s .read + 1) (headSize + s .p) ≡ b → (not (a && b) || eqb to (opposite u)) ≡ false
+          → (s .kind ≡ 2) × (s .read + 1 ≡ headSize + s .p) × (to ≡ opposite u → ⊥)
+      go true true x y e = (eqb-true _ _ x, eqb-true _ _ y, eqb-false _ _ e)
+      go true false x y e = never (cc)
+      go false b x y e = never (cc)
+
 module _ (L : List ℤ) (s : Progress) (r : ℕ) (t : Step) (h : headSize ≤ s .read) (k : s .kind ≡ 3 → ⊥) (named : stepNumbered L r ≡ Found t) where
   is-along : advance L s r ≡ along s t
   is-along = advance-walk L s r h k ∙ ap (walkOn s) named
 
-  good-along : s .good ≡ true → joins s (t .from) ≡ true → turns s (along s t .u) (t .to) ≡ true → advance L s r .good ≡ true
+  pub good-along : s .good ≡ true → joins s (t .from) ≡ true → turns s (along s t .u) (t .to) ≡ true → advance L s r .good ≡ true
   unfolding along
   good-along g j w = ap (λ (y : Progress). y .good) is-along ∙ both-true _ _ g (both-true _ _ j w)
 

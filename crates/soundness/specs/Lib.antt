@@ -1,7 +1,10 @@
+pub mod Head
 pub mod Refutes
+pub mod BreaksAt
 pub mod Run
 pub mod Good
 pub mod Meaning
 pub mod Place
 pub mod Sound
 pub mod Answered
+pub mod Breaks

@@ -36,12 +36,18 @@ pub record There-and-back (L : List ℤ) (R : List ℕ) : Type 0 where
   pub back : Walk L (opposite point) more point
   pub low : half (total (there .steps)) +ℤ half (total (back .steps)) ⋖ pos 0
 
--- kind 3: twice the number of a false line
-pub record Falsehood (L : List ℤ) (R : List ℕ) : Type 0 where
+-- a step number that is twice the number of a false line
+pub record FalseStep (L : List ℤ) (number : ℕ) : Type 0 where
   pub line : ℕ
-  pub is : R ≡ 3 ∷ 1 ∷ 0 ∷ 2 * line ∷ []
+  pub is : number ≡ 2 * line
   pub within : line < lineCount L
   pub false-line : isFalse (lineAt L line) ≡ true
+
+-- kind 3: such a number alone
+pub record Falsehood (L : List ℤ) (R : List ℕ) : Type 0 where
+  pub number : ℕ
+  pub is : R ≡ 3 ∷ 1 ∷ 0 ∷ number ∷ []
+  pub false-step : FalseStep L number
 
 pub data Refutes (L : List ℤ) (R : List ℕ) : Type 0 where
   kind-1 : Closed L R → Refutes L R

@@ -1,6 +1,6 @@
 -- How the checker's progress runs: what stays, and what a run that stays good says of the steps that it read.
 use mathlib.Core.Path.{_≡_, refl, sym, ap, subst, _∙_}
-use mathlib.Core.Bool.{Bool, true, false, not, _&&_, _||_}
+use mathlib.Core.Bool.{Bool, true, false, _&&_, _||_}
 use mathlib.Core.List.{List, [], _∷_}
 use Prim.Native.Nat.{ℕ, zero, suc, _+_, _-_, _<_, _≤_}
 use native.Mathlib.Omega.{arith}
@@ -115,7 +115,7 @@ left s = (headSize + s .p) - s .read
 
 module _ (s : Progress) (t : Step) where
   -- a step that is not the first starts where the walk is
-  joined-here : headSize < s .read → joins s (t .from) ≡ true → s .here ≡ t .from
+  pub joined-here : headSize < s .read → joins s (t .from) ≡ true → s .here ≡ t .from
   unfolding joins
   joined-here h e = sym (eqb-true (t .from) (s .here) (ap (λ (b : Bool). b || eqb (t .from) (s .here)) (sym (ne-eqb (s .read) headSize (λ q. clash _ q h))) ∙ e))
     where
@@ -134,7 +134,7 @@ module _ (s : Progress) (t : Step) where
   along-here = refl
 
   -- the last step of the first walk turns at the opposite of u
-  turned-at : (u : ℕ) → s .kind ≡ 2 → s .read + 1 ≡ headSize + s .p → turns s u (t .to) ≡ true → t .to ≡ opposite u
+  pub turned-at : (u : ℕ) → s .kind ≡ 2 → s .read + 1 ≡ headSize + s .p → turns s u (t .to) ≡ true → t .to ≡ opposite u
   unfolding turns
   turned-at u k r e = eqb-true (t .to) (opposite u) (rw (eq-eqb _ _ k, eq-eqb _ _ r) at e)
 
@@ -285,9 +285,10 @@ module _ (L : List ℤ) (s : Progress) (r : ℕ) (ks : List ℕ) (f : Progress) 
       turning zero e o k b = turned-at s (st .step) (advance L s r .u) k (omega (arith, h .read)) (rw (← ap (λ (y : Progress). y .u) (st .is)) at (st .turned))
       turning (suc p) e o k b = rw first-here at (o .turn (same ∙ k) (omega arith) (omega arith))
 
-pub body : (L : List ℤ) (s : Progress) (r : ℕ) (ks : List ℕ) → Headed s → (s .kind ≡ 3 → ⊥) → run L s (r ∷ ks) .good ≡ true → Body L s (r ∷ ks) (run L s (r ∷ ks))
+pub body : (L : List ℤ) (s : Progress) (ks : List ℕ) → Headed s → (s .kind ≡ 3 → ⊥) → 0 < length ks → run L s ks .good ≡ true → Body L s ks (run L s ks)
 unfolding run
-body L s r ks h k g = go (s .p) refl (h .some)
+body L s [] h k l g = absurd (omega arith)
+body L s (r ∷ ks) h k l g = go (s .p) refl (h .some)
   where
     go : (p : ℕ) → s .p ≡ p → 0 < p → Body L s (r ∷ ks) (run L (advance L s r) ks)
     go zero e l = absurd (omega arith)

@@ -2,7 +2,7 @@
 use mathlib.Core.Path.{_≡_, ap, subst, _∙_}
 use mathlib.Core.Bool.{true}
 use mathlib.Core.List.{List, [], _∷_, _++_}
-use Prim.Native.Nat.{ℕ, _+_, _%_}
+use Prim.Native.Nat.{ℕ, _%_}
 use native.Mathlib.Omega.{arith}
 use lib.IntN.{ℤ, pos, negℤ, _+ℤ_, _-ℤ_}
 use lib.ListN.{length}
@@ -19,7 +19,7 @@ use Rattle.steps.specs.Laws.{numbered-longer}
 use Rattle.steps.specs.Meaning.{numbered-holds, no-false-line}
 use Rattle.steps.specs.Walk.{Names, AllSay, total, walk-says}
 use Rattle.refutation.specs.Progress.{accepts}
-use Rattle.soundness.specs.Refutes.{Walk, Refutes, kind-1, kind-2, kind-3}
+use Rattle.soundness.specs.Refutes.{Walk, FalseStep, Refutes, kind-1, kind-2, kind-3}
 use Rattle.soundness.specs.Meaning.{accepts-exactly}
 
 -- ---- against a solution
@@ -45,7 +45,7 @@ module _ (n : ℕ) (L : List ℤ) (ok : LinesOk n L) (s : Assignment) (solves : 
     where
       clash : (x v w : ℤ) → x -ℤ negℤ x ⩽ v → negℤ x -ℤ x ⩽ w → half v +ℤ half w ⋖ pos 0 → ⊥
       clash x v w = simp ints (omega arith)
-  solved-not-refuted R (kind-3 c) = no-false-line n L ok s solves (c .line) (c .within) (c .false-line)
+  solved-not-refuted R (kind-3 c) = let w = c .false-step in no-false-line n L ok s solves (w .line) (w .within) (w .false-line)
 
   pub accepts-nothing-solved : (R : List ℕ) → accepts L R ≡ true → ⊥
   accepts-nothing-solved R e = solved-not-refuted R (accepts-exactly L R .0 e)
@@ -61,19 +61,21 @@ module _ (L M : List ℤ) (whole : length L % lineSize ≡ 0) where
   walk-longer : {u v : ℕ} {ks : List ℕ} → Walk L u ks v → Walk (L ++ M) u ks v
   walk-longer {ks = ks} w = record { steps = w .steps; some = w .some; named = names-longer ks (w .steps) (w .named); path = w .path }
 
+  false-longer : {r : ℕ} → FalseStep L r → FalseStep (L ++ M) r
+  false-longer w =
+      record {
+        line = w .line;
+        is = w .is;
+        within = omega (arith, count-append L M whole, w .within);
+        false-line = ap isFalse (line-left L M whole (w .line) (w .within)) ∙ w .false-line;
+      }
+
   refutes-longer : (R : List ℕ) → Refutes L R → Refutes (L ++ M) R
   unfolding walk-longer
   refutes-longer R (kind-1 c) = kind-1 (record { numbers = c .numbers; point = c .point; is = c .is; walk = walk-longer (c .walk); low = c .low })
   refutes-longer R (kind-2 c) =
       kind-2 (record { numbers = c .numbers; more = c .more; point = c .point; is = c .is; there = walk-longer (c .there); back = walk-longer (c .back); low = c .low })
-  refutes-longer R (kind-3 c) =
-      kind-3
-      (record {
-        line = c .line;
-        is = c .is;
-        within = omega (arith, count-append L M whole, c .within);
-        false-line = ap isFalse (line-left L M whole (c .line) (c .within)) ∙ c .false-line;
-      })
+  refutes-longer R (kind-3 c) = kind-3 (record { number = c .number; is = c .is; false-step = false-longer (c .false-step) })
 
   pub accepts-longer : (R : List ℕ) → accepts L R ≡ true → accepts (L ++ M) R ≡ true
   accepts-longer R e = accepts-exactly (L ++ M) R .1 (refutes-longer R (accepts-exactly L R .0 e))

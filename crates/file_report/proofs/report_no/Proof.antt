@@ -6,7 +6,7 @@ use native.Mathlib.Omega.{arith}
 use borrow.Author.Needs.{needs}
 use lib.ListN.{getD}
 use Rattle.refutation.specs.Progress.{headSize}
-use Rattle.answers.specs.Refuted.{stepsIn}
+use Rattle.soundness.specs.Head.{stepsIn}
 use Rattle.file_report.specs.Laws.{same-text}
 use Rattle.file_report.proofs.report_no.Statement.{statement}
 use Rattle.file_report.proofs.report_no.Tie as tie
