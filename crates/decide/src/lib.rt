@@ -3,7 +3,7 @@ use answering::write_answers;
 use buffers::clear;
 use buffers::decide_validity;
 use buffers::work_room;
-use distance_table::distance_table;
+use elimination::table_by_elimination;
 use lines::Refusal;
 use lines::Validity;
 use lines::limits::LINE_SIZE;
@@ -34,7 +34,7 @@ fn refuted_by_walks(list: &[i32], n: usize, refutation: &mut [u32], work: &mut [
 {
     let size = 2 * n;
     let start = (size + 1) * size;
-    let u = distance_table(list, n, work);
+    let u = table_by_elimination(list, n, work);
     if u < size {
         write_closed(list, n, u, refutation, work);
         return true;
