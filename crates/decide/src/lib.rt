@@ -3,7 +3,7 @@ use answering::write_answers;
 use buffers::clear;
 use buffers::decide_validity;
 use buffers::work_room;
-use elimination::table_by_elimination;
+use table_by_elimination::table_by_elimination;
 use lines::Refusal;
 use lines::Validity;
 use lines::limits::LINE_SIZE;

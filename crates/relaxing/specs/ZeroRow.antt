@@ -25,7 +25,7 @@ zero-at N p h = getD-replicate N p (some (pos 0)) none h
 
 module _ (E : List Step) (N : ℕ) (within : WithinPoints N E) (k : ℕ) (last : List Distance) (sw : Swept E k (zeroRow N) last) where
   -- after any number of sweeps every point has an entry
-  pub zero-entry : (p : ℕ) → p < N → (z : ℤ) × (at last p ≡ some z)
+  zero-entry : (p : ℕ) → p < N → (z : ℤ) × (at last p ≡ some z)
   zero-entry p h =
       let r = up-inv (up-of-le (⊑-trans (swept-le E k (zeroRow N) last sw p) (⊑-of-eq (zero-at N p h))) (pos 0) (up-at (pos 0))) in
       (r .0, r .1)
