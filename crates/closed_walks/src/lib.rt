@@ -2,9 +2,8 @@
 // point's predecessor), and the marks are followed back. Each step of what they lead round is checked, so that nothing is asked of the passes.
 use flat_steps::read_step;
 use passing::zero_row;
-ghost use Prim.Native.Nat.{_<_, _≤_, _+_};
+ghost use Prim.Native.Nat.{_<_, _≤_};
 ghost use lib.ListN.{length};
-ghost use Rattle.lines.specs.Line.{number};
 ghost use Rattle.closed_walks.specs.Marks.{MarkReady, Marked, MarksReady};
 ghost use Rattle.closed_walks.specs.Back.{ClosesReady, FoundIf, SearchReady, PointFound, PointSearched};
 

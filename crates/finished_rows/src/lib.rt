@@ -1,10 +1,11 @@
+// The rows of the table as distances: as they stand where the table is settled; else each gets 0 at its own point and is settled in place.
 use distances::NO_WALK;
 use integers::halved;
 use passing::settle;
 use reduced_table::FAR;
 use settled_table::table_settled;
 ghost use mathlib.Core.Path.{_≡_};
-ghost use Prim.Native.Nat.{_<_, _+_, _*_};
+ghost use Prim.Native.Nat.{_+_, _*_};
 ghost use Rattle.distances.specs.Stored.{stored};
 ghost use Rattle.passing.specs.Source.{SourceDone};
 ghost use Rattle.finished_rows.specs.Fill.{Filled};

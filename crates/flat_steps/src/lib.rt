@@ -1,3 +1,5 @@
+// The steps of a list at the front of the work area, three numbers each: start, end and weight. They are turned round, since row v of the table holds the
+// distances to v.
 use lines::limits::LINE_SIZE;
 use steps::NamedStep;
 use steps::Step;
@@ -6,7 +8,7 @@ ghost use mathlib.Core.Path.{_≡_};
 ghost use Prim.Native.Nat.{_<_, _≤_, _+_, _*_};
 ghost use lib.ListN.{length};
 ghost use Rattle.integers.specs.Integer.{Within};
-ghost use Rattle.lines.specs.Line.{number};
+ghost use Rattle.lines.specs.Limits.{maxVariables};
 ghost use Rattle.steps.specs.Step.{maxWeight, stepNumbered};
 ghost use Rattle.flat_steps.specs.Steps.{stepIn};
 ghost use Rattle.flat_steps.specs.Flat.{putNumbers, NumberReady, Put, WriteReady, Written};
@@ -14,7 +16,7 @@ ghost use Rattle.flat_steps.specs.Read.{ReadReady};
 
 // One step behind `kept` others.
 fn write_step(work: &mut [i64], kept: usize, from: usize, to: usize, weight: i64)
-    requires { ⌜ (3 * kept + 3 ≤ length (now work)) × (from < 1000) × (to < 1000) × Within maxWeight weight ⌝ }
+    requires { ⌜ (3 * kept + 3 ≤ length (now work)) × (from < 2 * maxVariables) × (to < 2 * maxVariables) × Within maxWeight weight ⌝ }
     ensures { λ _. ⌜ now (work .exit) ≡ putNumbers (now (work .entry)) kept from to weight ⌝ }
 {
     let at = 3 * kept;

@@ -1,10 +1,10 @@
+// The table before anything leaves: the numbers of points, FAR everywhere, 0 on the diagonal, and the reduced weights of the steps.
 use flat_steps::read_step;
 use reduced_table::FAR;
 use reduced_table::lower_entry;
 ghost use Prim.Native.Nat.{_<_, _≤_, _+_, _*_};
 ghost use lib.ListN.{length};
 ghost use Rattle.integers.specs.Integer.{Within};
-ghost use Rattle.lines.specs.Line.{number};
 ghost use Rattle.reduced_start.specs.Start.{maxRead, PointsReady, Pointed, AllFar};
 ghost use Rattle.reduced_table.specs.Reduced.{Reduced, Kept};
 

@@ -1,5 +1,6 @@
+// The table while it is made, on reduced weights. Behind the steps stand a number of each point (its potential) at `pot`, a row to copy to, and the table:
+// an entry is twice the sum of a walk, and the number of its start less that of its end; or FAR. Each function only lowers an entry by a sum of two.
 ghost use mathlib.Core.Path.{_≡_};
-ghost use Prim.Native.Nat.{_<_, _+_, _*_};
 ghost use Rattle.lines.specs.Line.{number};
 ghost use Rattle.reduced_table.specs.Reduced.{cell, Kept, Asked, LowerReady, NegativePart};
 
@@ -49,7 +50,15 @@ pub fn entry_at(work: &[i64], count: usize, pot: usize, size: usize, i: usize, j
 }
 
 // The entry from i to j lowered to z, if that is lower.
-pub fn lower_entry(work: &mut [i64], count: usize, pot: usize, size: usize, i: usize, j: usize, z: i64)
+pub fn lower_entry(
+    work: &mut [i64],
+    count: usize,
+    pot: usize,
+    size: usize,
+    i: usize,
+    j: usize,
+    z: i64,
+)
     requires { ⌜ LowerReady count pot size i j z (now work) ⌝ }
     ensures { λ _. ⌜ Kept count pot size (now (work .entry)) (now (work .exit)) ⌝ }
 {

@@ -1,8 +1,9 @@
+// Whether the table is settled: the diagonal is 0, and no step lowers an entry. Then it holds the distances.
 use flat_steps::read_step;
 use reduced_table::FAR;
 use reduced_table::entry_at;
 use reduced_table::negative_part;
-ghost use Prim.Native.Nat.{_<_, _+_, _*_};
+ghost use Prim.Native.Nat.{_<_};
 ghost use Rattle.settled_table.specs.Settled.{SumReady, SettledIf, StepIf, DiagonalIf, StepsIf, TableIf};
 ghost use Rattle.reduced_table.specs.Reduced.{Reduced};
 

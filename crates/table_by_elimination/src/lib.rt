@@ -95,6 +95,7 @@ pub fn table_by_elimination(list: &[i32], n: usize, work: &mut [i64]) -> usize
     }
     let size = 2 * n;
     let lines = list.len() / LINE_SIZE;
+    // two steps of three numbers for each line
     if 6 * lines + 2 * size > (size + 1) * size {
         return distance_table(list, n, work);
     }

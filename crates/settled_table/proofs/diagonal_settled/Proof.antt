@@ -41,7 +41,7 @@ loop-again turned =
     let loop = turn .before in (
       omega (arith, turn .loop-test .taken),
       diagonal-more (loop .before .args .pot) (loop .before .args .size) (now (loop .before .args .work)) (loop .loop .t) (loop .loop .inv .1)
-      (subst (λ (z : ℤ). z ⩽ pos 0) (read .entry-at .ensures) (not-above _ (rw (toZ-ofZ (record { sfits = read .entry-at .ok })) at (turned .if1 .left)))),
+          (subst (λ (z : ℤ). z ⩽ pos 0) (read .entry-at .ensures) (not-above _ (rw (toZ-ofZ (record { sfits = read .entry-at .ok })) at (turned .if1 .left)))),
     )
 
 returns-2 : tie.Need-returns-2 Inv-loop μ-loop
