@@ -2,7 +2,6 @@
 // most lists that can hold, and the row is a potential then; the marks of a few passes show most that can't. Then elimination on reduced weights.
 use closed_walks::negative_point;
 use distance_table::distance_table;
-use elimination::close;
 use finished_rows::all_rows;
 use flat_steps::write_steps;
 use lines::limits::LINE_SIZE;
@@ -10,6 +9,7 @@ use passing::no_negative;
 use reduced_start::fill_far;
 use reduced_start::put_all;
 use reduced_start::write_points;
+use restoring::close;
 ghost use Prim.Native.Nat.{_*_, _≤_};
 ghost use Rattle.lines.specs.Line.{linesOf};
 ghost use Rattle.steps.specs.Step.{stepsOf};

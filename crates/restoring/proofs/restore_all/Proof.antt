@@ -1,12 +1,12 @@
--- `elimination::restore_all` meets its contract: the table is kept from turn to turn.
+-- `restoring::restore_all` meets its contract: the table is kept from turn to turn.
 use mathlib.Core.Path.{_≡_, refl, _∙_}
 use Prim.Native.Nat.{_/_, _≤_}
 use native.Mathlib.Omega.{arith}
 use lib.ListN.{length}
 use borrow.Author.Needs.{needs}
 use Rattle.reduced_table.specs.Reduced.{Kept, kept-trans, kept-none}
-use Rattle.elimination.proofs.restore_all.Statement.{statement}
-use Rattle.elimination.proofs.restore_all.Tie as tie
+use Rattle.restoring.proofs.restore_all.Statement.{statement}
+use Rattle.restoring.proofs.restore_all.Tie as tie
 
 abbrev Inv-loop : tie.InvT-loop
 Inv-loop work₀ count pot size left₀ work left = (length work ≡ length work₀) × Kept count pot size work₀ work × (left ≤ size / 2)
