@@ -1,4 +1,5 @@
--- A closed walk read back from marks, each step checked: whatever the marks are, a sum below 0 shows that the point's distance to itself is below 0.
+-- A closed walk read back from marks, each step checked: whatever the marks are, a sum below 0 shows that the point's
+-- distance to itself is below 0.
 use mathlib.Core.Path.{_≡_, refl, sym, ap, subst, _∙_}
 use mathlib.Core.Bool.{Bool, true, false}
 use mathlib.Core.List.{List, [], _∷_, _++_}
@@ -66,7 +67,7 @@ module _ (count place size p : ℕ) (w : List ℤ) (r : ClosesReady count place 
       back-fits : SFits w64 (sum +ℤ number w (3 * i + 2))
       back-fits = fits sum (number w (3 * i + 2)) (within-more (omega (arith, h, r .points)) (c .small)) (r .steps .weight-ok i l)
         where
-          fits : (s v : ℤ) → Within 10_000_000_000 s → Within maxWeight v → SFits w64 (s +ℤ v)
+          fits : (s v : ℤ) → Within maxMark s → Within maxWeight v → SFits w64 (s +ℤ v)
           fits s v a b = simp ints (omega zs)
 
       -- one step back, along step i, which ends where the walk begins

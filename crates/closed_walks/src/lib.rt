@@ -1,5 +1,6 @@
-// A negative closed walk, looked for in the marks of passes: a pass leaves at each point that it lowers the number of the step (the field's term: the
-// point's predecessor), and the marks are followed back. Each step of what they lead round is checked, so that nothing is asked of the passes.
+// A negative closed walk, looked for in the marks of passes: a pass leaves at each point that it lowers the number of
+// the step (the field's term: the point's predecessor), and the marks are followed back. Each step of what they lead
+// round is checked, so that nothing is asked of the passes.
 use flat_steps::read_step;
 use passing::zero_row;
 ghost use Prim.Native.Nat.{_<_, _≤_};
@@ -120,8 +121,8 @@ fn first_closed(work: &[i64], count: usize, place: usize, size: usize) -> usize
     size
 }
 
-// A point with a negative closed walk, or the number of points where none is found: the marks are followed after so many passes, from 0 everywhere, and
-// so many again.
+// A point with a negative closed walk, or the number of points where none is found: the marks are followed after so many
+// passes, from 0 everywhere, and so many again.
 pub fn negative_point(
     work: &mut [i64],
     count: usize,

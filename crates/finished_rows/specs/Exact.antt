@@ -81,7 +81,7 @@ module _ {count pot size : ℕ} {w : List ℤ} (r : Reduced count pot size w) (c
       same : (x a b n z : ℤ) → x +ℤ b ≡ (n +ℤ n) +ℤ a → x +ℤ b ⩽ (z +ℤ z) +ℤ a → z ⩽ n → n ≡ z
       same x a b n z = simp ints (omega arith)
 
-      too-far : (x a b z : ℤ) → pos far ⩽ x → x +ℤ b ⩽ (z +ℤ z) +ℤ a → z ⩽ pos 10_000_000_000_000 → a ⩽ pos maxPotential → negℤ (pos maxPotential) ⩽ b → ⊥
+      too-far : (x a b z : ℤ) → pos far ⩽ x → x +ℤ b ⩽ (z +ℤ z) +ℤ a → z ⩽ pos maxPotential → a ⩽ pos maxPotential → negℤ (pos maxPotential) ⩽ b → ⊥
       too-far x a b z = simp ints (omega arith)
 
       go : (d : Distance) → best E size i t ≡ d → (f : Bool) → ltZ (T i t) (pos far) ≡ f → outOf (q i) (q t) (T i t) ≡ best E size i t
@@ -98,5 +98,5 @@ module _ {count pot size : ℕ} {w : List ℤ} (r : Reduced count pot size w) (c
       go (some z) n false f =
           let w = best-attained E size i t z n in
           let b : T i t +ℤ q t ⩽ (z +ℤ z) +ℤ q i = rw (w .sum) at (by-walk i t ht (w .steps) (w .walk)) in
-          let m : Within 10_000_000_000_000 z = within-more (omega (arith, mul-le-mul-right maxWeight (r .points))) (best-within maxWeight E weights size i t z n) in
+          let m : Within maxPotential z = within-more (omega (arith, mul-le-mul-right maxWeight (r .points))) (best-within maxWeight E weights size i t z n) in
           absurd (too-far (T i t) (q i) (q t) z (not-near (T i t) f) b (m .high) (r .small i hi .high) (r .small t ht .low))

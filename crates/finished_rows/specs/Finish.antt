@@ -1,4 +1,5 @@
--- A row of the table as distances, its own point at 0, and settled: then it holds the distances from that point, whatever was done before.
+-- A row of the table as distances, its own point at 0, and settled: then it holds the distances from that point,
+-- whatever was done before.
 use mathlib.Core.Path.{_≡_, refl, sym, ap, ap₂, _∙_}
 use mathlib.Core.Logic.{_⊎_, inl, inr}
 use mathlib.Core.Bool.{Bool, true, false, cond}

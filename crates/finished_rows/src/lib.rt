@@ -1,4 +1,5 @@
-// The rows of the table as distances: as they stand where the table is settled; else each gets 0 at its own point and is settled in place.
+// The rows of the table as distances: as they stand where the table is settled; else each gets 0 at its own point and is
+// settled in place.
 use distances::NO_WALK;
 use integers::halved;
 use passing::settle;

@@ -1,5 +1,5 @@
--- Steps written to the front of the work area, each as three numbers, and read back. They are written turned round: the distances from v over them are
--- those to v, which row v of the table holds.
+-- Steps written to the front of the work area, each as three numbers, and read back. They are written turned round: the
+-- distances from v over them are those to v, which row v of the table holds.
 use mathlib.Core.Path.{_≡_, refl, sym, ap, ap₂, subst, _∙_}
 use mathlib.Core.Logic.{inl, inr}
 use mathlib.Core.List.{List, [], _∷_, _++_, append-assoc, append-nil, map-append}

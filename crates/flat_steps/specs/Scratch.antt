@@ -1,4 +1,5 @@
--- A part of the work area to work in: whatever is stored there, what lies before and behind is kept, and so are the steps at the front.
+-- A part of the work area to work in: whatever is stored there, what lies before and behind is kept, and so are the
+-- steps at the front.
 use mathlib.Core.Path.{_≡_, refl, sym, ap, _∙_}
 use mathlib.Core.List.{List}
 use Prim.Native.Nat.{ℕ, _+_, _*_, _≤_, _<_, _-_}

@@ -1,5 +1,5 @@
-// The steps of a list at the front of the work area, three numbers each: start, end and weight. They are turned round, since row v of the table holds the
-// distances to v.
+// The steps of a list at the front of the work area, three numbers each: start, end and weight. They are turned round,
+// since row v of the table holds the distances to v.
 use lines::limits::LINE_SIZE;
 use steps::NamedStep;
 use steps::Step;

@@ -1,4 +1,5 @@
--- The table before anything leaves: numbers of points from a row of potentials, whatever that holds; far everywhere; then the steps.
+-- The table before anything leaves: numbers of points from a row of potentials, whatever that holds; far everywhere;
+-- then the steps.
 use mathlib.Core.Path.{_≡_, refl, sym, ap, subst, _∙_}
 use mathlib.Core.List.{List, []}
 use Prim.Native.Nat.{ℕ, _+_, _*_, _%_, _≤_, _<_}

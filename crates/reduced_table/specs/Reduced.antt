@@ -1,5 +1,6 @@
--- The table while it is made: each entry is far, or twice the sum of a walk, reduced by numbers of the two points. It is never below 0, so that
--- whatever is lowered by a sum of two entries stays so. Opposite points have opposite numbers: a walk and its mirror image have one entry.
+-- The table while it is made: each entry is far, or twice the sum of a walk, reduced by numbers of the two points. It is
+-- never below 0, so that whatever is lowered by a sum of two entries stays so. Opposite points have opposite numbers: a
+-- walk and its mirror image have one entry.
 use mathlib.Core.Path.{_≡_, sym, ap, subst, _∙_}
 use mathlib.Core.Logic.{_⊎_, inl, inr}
 use mathlib.Core.List.{List, [], _∷_, _++_, append-assoc}

@@ -1,5 +1,5 @@
--- The row that starts with 0 everywhere, the row of a source with a step of weight 0 to every point: once it is settled, no closed walk is negative, and
--- its entries are a potential.
+-- The row that starts with 0 everywhere, the row of a source with a step of weight 0 to every point: once it is settled,
+-- no closed walk is negative, and its entries are a potential.
 use mathlib.Core.Path.{_≡_}
 use mathlib.Core.List.{List}
 use Prim.Native.Nat.{ℕ, _<_}

@@ -1,5 +1,6 @@
-// Restoring: the variables that left come back in the opposite order, each with its two rows, the entries between its points, and its columns, which are
-// those rows of the mirror image. Entries are only lowered by sums of two, or to the mirror image's.
+// Restoring: the variables that left come back in the opposite order, each with its two rows, the entries between its
+// points, and its columns, which are those rows of the mirror image. Entries are only lowered by sums of two, or to the
+// mirror image's.
 use distances::copy_row;
 use elimination::eliminate_all;
 use reduced_table::FAR;
@@ -9,7 +10,8 @@ use reduced_table::lower_entry;
 use steps::opposite_of;
 ghost use Rattle.reduced_table.specs.Reduced.{Reduced, Kept, Asked, PairReady};
 
-// Row k lowered by row j and the entry between them, if that is still what was copied: a walk that is shorter has been through other rows.
+// Row k lowered by row j and the entry between them, if that is still what was copied: a walk that is shorter has been
+// through other rows.
 fn lower_copied(
     work: &mut [i64],
     count: usize,

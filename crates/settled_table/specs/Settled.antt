@@ -12,6 +12,7 @@ use mir.Val.{SFits}
 use Rattle.integers.specs.Integer.{_⩽_, _⋖_}
 use Rattle.integers.specs.Linear.{ints, zs}
 use Rattle.integers.specs.Laws.{never}
+use Rattle.lines.specs.Limits.{maxVariables}
 use Rattle.lines.specs.Line.{number}
 use Rattle.steps.specs.declared.Step.{Step}
 use Rattle.walks.specs.Distance.{none}
@@ -100,7 +101,7 @@ module _ {count pot size s u : ℕ} {r : ℤ} {w : List ℤ} (q : SumReady count
         both : (z d : ℤ) → z ⩽ pos 0 → d ⩽ pos 0 → z +ℤ d ⩽ pos 0
         both z d = simp ints (omega arith)
 
-        fits : (k : ℕ) → k ≤ 100_000_000_000_000_000 → (x : ℤ) → negℤ (pos k) ⩽ x → x ⩽ pos 0 → SFits w64 x
+        fits : (k : ℕ) → k ≤ 2 * maxVariables * far → (x : ℤ) → negℤ (pos k) ⩽ x → x ⩽ pos 0 → SFits w64 x
         fits k = simp ints (omega zs)
 
     pub summed-more : Summed pot size s u r w (t + 1) (z +ℤ d)

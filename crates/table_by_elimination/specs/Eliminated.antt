@@ -1,4 +1,5 @@
--- The rows by elimination: what each part leaves is what the next one asks, and only what lies from the numbers of points on is changed.
+-- The rows by elimination: what each part leaves is what the next one asks, and only what lies from the numbers of
+-- points on is changed.
 use mathlib.Core.Path.{ap, _∙_}
 use mathlib.Core.List.{List}
 use Prim.Native.Nat.{ℕ, _+_, _*_, _-_}

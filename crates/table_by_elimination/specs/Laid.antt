@@ -1,5 +1,5 @@
--- The steps of the list laid at the front of the work area, turned round, with room behind them for a number of each point, a row and the table. What
--- the parts of the engine ask follows from that, and each leaves it so.
+-- The steps of the list laid at the front of the work area, turned round, with room behind them for a number of each
+-- point, a row and the table. What the parts of the engine ask follows from that, and each leaves it so.
 use mathlib.Core.Path.{_≡_, refl, sym, ap, ap₂, subst, _∙_}
 use mathlib.Core.Logic.{inl, inr}
 use mathlib.Core.Bool.{Bool, true}

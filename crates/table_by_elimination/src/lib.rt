@@ -1,5 +1,6 @@
-// The table of distances by elimination. The steps of the list are laid at the front of the work area, turned round; a few passes over the row of 0s settle
-// most lists that can hold, and the row is a potential then; the marks of a few passes show most that can't. Then elimination on reduced weights.
+// The table of distances by elimination. The steps of the list are laid at the front of the work area, turned round; a
+// few passes over the row of 0s settle most lists that can hold, and the row is a potential then; the marks of a few
+// passes show most that can't. Then elimination on reduced weights.
 use closed_walks::negative_point;
 use distance_table::distance_table;
 use finished_rows::all_rows;
@@ -36,8 +37,8 @@ fn make(work: &mut [i64], count: usize, pot: usize, size: usize)
     all_rows(work, count, pot, size);
 }
 
-// The table over the steps laid, decided for certain. The marks of as many passes as points find a negative closed walk; if ever they do not, the rounds
-// are asked.
+// The table over the steps laid, decided for certain. The marks of as many passes as points find a negative closed walk;
+// if ever they do not, the rounds are asked.
 fn table_late(list: &[i32], n: usize, work: &mut [i64], count: usize) -> usize
     requires { ⌜ Laid n count (now list) (now work) ⌝ }
     ensures { λ r. ⌜ TableMade (stepsOf (linesOf (now (list .entry)))) (2 * n) (now (work .entry)) (now (work .exit)) r ⌝ }
@@ -84,8 +85,8 @@ fn table_in_room(list: &[i32], n: usize, work: &mut [i64]) -> usize
     table_late(list, n, work, count)
 }
 
-// The distances between all points, behind the place that the rows of one source take: 2n. Or a point whose distance to itself is below 0. Where there are
-// many lines on few variables, so that the steps have no room, the rounds make it.
+// The distances between all points, behind the place that the rows of one source take: 2n. Or a point whose distance to
+// itself is below 0. Where there are many lines on few variables, so that the steps have no room, the rounds make it.
 pub fn table_by_elimination(list: &[i32], n: usize, work: &mut [i64]) -> usize
     requires { ⌜ TableReady n (now list) (now work) ⌝ }
     ensures { λ r. ⌜ TableMade (stepsOf (linesOf (now (list .entry)))) (2 * n) (now (work .entry)) (now (work .exit)) r ⌝ }

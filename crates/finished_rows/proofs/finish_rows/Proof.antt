@@ -1,4 +1,5 @@
--- `finished_rows::finish_rows` meets its contract. The invariant: the rows 0 to v - 1 are written, and those behind are as they were.
+-- `finished_rows::finish_rows` meets its contract. The invariant: the rows 0 to v - 1 are written, and those behind are
+-- as they were.
 use mathlib.Core.Path.{_≡_, refl, _∙_}
 use Prim.Native.Nat.{_+_, _*_, _-_}
 use native.Mathlib.Omega.{arith}

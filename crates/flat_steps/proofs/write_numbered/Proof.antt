@@ -1,4 +1,5 @@
--- `flat_steps::write_numbered` meets its contract: a step's ends are points and its weight is small, so that `write_step` may be called.
+-- `flat_steps::write_numbered` meets its contract: a step's ends are points and its weight is small, so that
+-- `write_step` may be called.
 use mathlib.Core.Path.{_≡_, sym, _∙_}
 use native.Mathlib.Omega.{arith}
 use borrow.Author.Needs.{needs}
