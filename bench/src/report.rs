@@ -52,7 +52,7 @@ fn shown(seconds: f64) -> String {
 
 /// Prints multiples as a table in Markdown.
 pub fn print_table(rows: &[(String, Multiples)]) {
-    println!("| Lists | Same method | Row by row in place | Three nested loops |");
+    println!("| Lists | Rounds | Row by row in place | Three nested loops |");
     println!("|---|---|---|---|");
     for (lists, multiples) in rows {
         print!("| {lists} |");

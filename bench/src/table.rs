@@ -1,4 +1,4 @@
-//! The library's method in plain Rust: rounds over the whole table of least sums,
+//! Rounds over the whole table of least sums in plain Rust,
 //! until one changes nothing or gives a closed walk a negative sum.
 
 use crate::in_place;

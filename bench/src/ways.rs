@@ -37,7 +37,7 @@ type Decide = fn(usize, &[i32], &mut Outputs) -> i64;
 /// The library comes first: the others are compared with it.
 pub const WAYS: [(&str, Decide); 4] = [
     ("the library", library),
-    ("plain Rust, the same method", same_method),
+    ("plain Rust, rounds", rounds),
     ("plain Rust, row by row in place", row_by_row),
     ("plain Rust, three nested loops", nested_loops),
 ];
@@ -66,7 +66,7 @@ fn library(n: usize, list: &[i32], out: &mut Outputs) -> i64 {
     }
 }
 
-fn same_method(n: usize, list: &[i32], out: &mut Outputs) -> i64 {
+fn rounds(n: usize, list: &[i32], out: &mut Outputs) -> i64 {
     let method = Method {
         sums: table::sums,
         keeps_last: false,

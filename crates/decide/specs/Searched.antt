@@ -101,7 +101,7 @@ module _ (n : ℕ) (L : List ℤ) (R : List ℕ) (w : List ℤ) (a : SearchReady
   ok = valid-list n L (a .valid)
 
   pub table-ready : TableReady n L w
-  table-ready = record { few = ok .variables; valid = ok .lines; room = omega (arith, a .work-room) }
+  table-ready = record { few = ok .variables; valid = ok .lines; few-lines = ok .count; room = omega (arith, a .work-room) }
 
   -- a false line
   pub by-false : (k : ℕ) → k ≡ firstFalse 0 (linesOf L) → k < lineCount L → (R′ : List ℕ) → R′ ≡ 3 ∷ 1 ∷ 0 ∷ 2 * k ∷ drop (headSize + 1) R → Searched n L R w R′ w true

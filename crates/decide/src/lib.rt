@@ -3,7 +3,6 @@ use answering::write_answers;
 use buffers::clear;
 use buffers::decide_validity;
 use buffers::work_room;
-use distance_table::distance_table;
 use lines::Refusal;
 use lines::Validity;
 use lines::limits::LINE_SIZE;
@@ -12,6 +11,7 @@ use refuting::write_closed;
 use refuting::write_false;
 use refuting::write_halves;
 use searching::first_false;
+use table_by_elimination::table_by_elimination;
 ghost use mathlib.Core.Path.{_≡_};
 ghost use mathlib.Core.Bool.{false};
 ghost use Rattle.lines.specs.Line.{linesOf};
@@ -34,7 +34,7 @@ fn refuted_by_walks(list: &[i32], n: usize, refutation: &mut [u32], work: &mut [
 {
     let size = 2 * n;
     let start = (size + 1) * size;
-    let u = distance_table(list, n, work);
+    let u = table_by_elimination(list, n, work);
     if u < size {
         write_closed(list, n, u, refutation, work);
         return true;

@@ -5,11 +5,11 @@ use Rattle.decide.specs.Searched.{part-is, table-ready, short, closed-re
 use Rattle.decide.proofs.refuted_by_walks.Statement.{statement}
 use Rattle.decide.proofs.refuted_by_walks.Tie as tie
 
-distance-table-requires : tie.Need-distance-table-requires
-distance-table-requires c κs = table-ready _ _ _ _ (c .before .before .pre .0)
+table-by-elimination-requires : tie.Need-table-by-elimination-requires
+table-by-elimination-requires c κs = table-ready _ _ _ _ (c .before .before .pre .0)
 
 -- the table is made, or a closed walk of negative sum is known
-module _ (d : tie.After-distance-table) where
+module _ (d : tie.After-table-by-elimination) where
   abbrev s : tie.Start
   s = d .before .before .before
 
@@ -17,20 +17,20 @@ write-closed-requires : tie.Need-write-closed-requires
 write-closed-requires c κs =
     let t = c .before .before in
     let d = t .before .before in
-    closed-ready _ _ _ _ (s d .pre .0) (s d .pre .1) _ _ (d .distance-table .ensures) (t .if1 .taken)
+    closed-ready _ _ _ _ (s d .pre .0) (s d .pre .1) _ _ (d .table-by-elimination .ensures) (t .if1 .taken)
 
 returns : tie.Need-returns
 returns c =
     let k = c .before .before .before in
     let t = k .before .before .before in
     let d = t .before .before in
-    by-walk _ _ _ _ (s d .pre .0) (s d .pre .1) _ _ (d .distance-table .ensures) (t .if1 .taken) _ _ (k .write-closed .ensures)
+    by-walk _ _ _ _ (s d .pre .0) (s d .pre .1) _ _ (d .table-by-elimination .ensures) (t .if1 .taken) _ _ (k .write-closed .ensures)
 
 first-bad-requires : tie.Need-first-bad-requires
 first-bad-requires c κs =
     let e = c .before .before in
     let d = e .before .before in
-    rw (part-is (s d .args .n)) (short _ _ _ _ (s d .pre .0) (s d .pre .1) _ _ (d .distance-table .ensures) (omega (arith, e .if1 .left)))
+    rw (part-is (s d .args .n)) (short _ _ _ _ (s d .pre .0) (s d .pre .1) _ _ (d .table-by-elimination .ensures) (omega (arith, e .if1 .left)))
 
 write-halves-requires : tie.Need-write-halves-requires
 write-halves-requires c κs =
@@ -38,7 +38,7 @@ write-halves-requires c κs =
     let b = t .before in
     let e = b .before .before .before in
     let d = e .before .before in
-    halves-ready _ _ _ _ (s d .pre .0) (s d .pre .1) _ _ (d .distance-table .ensures) (omega (arith, e .if1 .left)) _ (rw (part-is (s d .args .n)) at (b .first-bad .ensures)) (t .if2 .taken)
+    halves-ready _ _ _ _ (s d .pre .0) (s d .pre .1) _ _ (d .table-by-elimination .ensures) (omega (arith, e .if1 .left)) _ (rw (part-is (s d .args .n)) at (b .first-bad .ensures)) (t .if2 .taken)
 
 returns-2 : tie.Need-returns-2
 returns-2 c =
@@ -47,7 +47,7 @@ returns-2 c =
     let b = t .before in
     let e = b .before .before .before in
     let d = e .before .before in
-    by-halves _ _ _ _ (s d .pre .0) (s d .pre .1) _ _ (d .distance-table .ensures) (omega (arith, e .if1 .left)) _ (rw (part-is (s d .args .n)) at (b .first-bad .ensures)) (t .if2 .taken) _ _
+    by-halves _ _ _ _ (s d .pre .0) (s d .pre .1) _ _ (d .table-by-elimination .ensures) (omega (arith, e .if1 .left)) _ (rw (part-is (s d .args .n)) at (b .first-bad .ensures)) (t .if2 .taken) _ _
     (k .write-halves .ensures)
 
 returns-3 : tie.Need-returns-3
@@ -55,7 +55,7 @@ returns-3 c =
     let b = c .before in
     let e = b .before .before .before in
     let d = e .before .before in
-    by-none _ _ _ _ (s d .pre .0) (s d .pre .1) _ _ (d .distance-table .ensures) (omega (arith, e .if1 .left)) _ (rw (part-is (s d .args .n)) at (b .first-bad .ensures)) (omega (arith, c .if2 .left))
+    by-none _ _ _ _ (s d .pre .0) (s d .pre .1) _ _ (d .table-by-elimination .ensures) (omega (arith, e .if1 .left)) _ (rw (part-is (s d .args .n)) at (b .first-bad .ensures)) (omega (arith, c .if2 .left))
 
 same-length : tie.Need-same-length
 same-length c = search needs
@@ -79,7 +79,7 @@ refuted-by-walks-spec =
     (search needs)
     (search needs)
     (search needs)
-    distance-table-requires
+    table-by-elimination-requires
     write-closed-requires
     same-length
     same-length-2

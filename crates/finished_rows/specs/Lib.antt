@@ -1,0 +1,5 @@
+pub mod Exact
+pub mod Finish
+pub mod Fill
+pub mod Rows
+pub mod ExactRows

@@ -1,0 +1,4 @@
+pub mod Steps
+pub mod Scratch
+pub mod Read
+pub mod Flat

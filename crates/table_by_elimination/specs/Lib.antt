@@ -1,0 +1,2 @@
+pub mod Eliminated
+pub mod Laid
