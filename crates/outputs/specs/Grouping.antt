@@ -118,7 +118,7 @@ module _ (n : ℕ) (t bounds : List ℤ) (ok : GroupsReady n t bounds) where
       ∙ ap (λ (b : ℤ). cond (eqZ b absentLeast) noWalk (negℤ b)) e
       ∙ least-back (halves D (point x 1)) (halves-short n t (ok .table .table) (point x 1) (minus-below n x h))
 
-  pub half-is : (p : ℕ) → p < 2 * n → halfIn bounds p ≡ stored (halves D p)
+  half-is : (p : ℕ) → p < 2 * n → halfIn bounds p ≡ stored (halves D p)
   half-is p h =
       let l = variable-below n p h in
       ⊎-elim (λ e. at _ e (plus-half (variableOf p) l)) (λ e. at _ e (minus-half (variableOf p) l)) (which p)

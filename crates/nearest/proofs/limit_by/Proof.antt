@@ -1,6 +1,7 @@
 -- `nearest::limit_by` meets its contract.
 use mathlib.Core.Path.{_≡_, ap, _∙_}
 use Prim.Native.Nat.{_*_}
+use borrow.Author.Needs.{needs}
 use denote.Ref.{now}
 use lib.IntN.{ℤ}
 use mir.Syntax.{w64}
@@ -16,7 +17,7 @@ use Rattle.nearest.proofs.limit_by.Statement.{statement}
 use Rattle.nearest.proofs.limit_by.Tie as tie
 
 mirrored-at-requires : tie.Need-mirrored-at-requires
-mirrored-at-requires c κs = (c .pre .0, c .pre .1, c .pre .2)
+mirrored-at-requires c κs = search needs
 
 -- the entry that was read
 module _ (c : tie.After-mirrored-at) where

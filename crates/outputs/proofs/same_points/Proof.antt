@@ -1,7 +1,7 @@
 -- `outputs::same_points` meets its contract: no walk is stored as a number above 0, so that the number alone is tested.
 use mathlib.Core.Path.{_≡_, sym, ap, _∙_}
 use mathlib.Core.List.{List}
-use Prim.Native.Nat.{ℕ, _+_, _*_}
+use Prim.Native.Nat.{ℕ, _+_, _*_, _<_}
 use borrow.Author.Needs.{needs}
 use denote.Ref.{now}
 use lib.IntN.{ℤ, pos}
@@ -17,7 +17,7 @@ use Rattle.distances.specs.Stored.{stored}
 use Rattle.distances.specs.Read.{stored-of}
 use Rattle.tables.specs.Table.{tableOf}
 use Rattle.outputs.specs.Reading.{apart-first, second-decides}
-use Rattle.outputs.specs.Grouping.{half-ready, tight-read}
+use Rattle.outputs.specs.Grouping.{HalfReady, half-ready, tight-read}
 use Rattle.outputs.proofs.same_points.Statement.{statement}
 use Rattle.outputs.proofs.same_points.Tie as tie
 
@@ -43,15 +43,24 @@ mirrored-at-requires c κs = search needs
 entry-at-requires : tie.Need-entry-at-requires
 entry-at-requires c κs = search needs
 
+-- the halves of both points and of their opposites
+module _ (s : tie.Start) where
+  ready : (r : ℕ) → r < 2 * n s → HalfReady (bounds s) r × HalfReady (bounds s) (opposite r)
+  ready r h = (half-ready (n s) (t s) (bounds s) (s .pre .0) r h, half-ready (n s) (t s) (bounds s) (s .pre .0) (opposite r) (opposite-below (n s) r h))
+
 tight-by-requires : tie.Need-tight-by-requires
 tight-by-requires c κs =
     let s = c .before in
-    (half-ready (n s) (t s) (bounds s) (s .pre .0) (p s) (s .pre .1), half-ready (n s) (t s) (bounds s) (s .pre .0) (opposite (q s)) (opposite-below (n s) (q s) (s .pre .2)))
+    let at-p = ready s (p s) (s .pre .1) in
+    let at-q = ready s (q s) (s .pre .2) in
+    search needs
 
 tight-by-requires-2 : tie.Need-tight-by-requires-2
 tight-by-requires-2 c κs =
     let s = c .before .before .before .before in
-    (half-ready (n s) (t s) (bounds s) (s .pre .0) (q s) (s .pre .2), half-ready (n s) (t s) (bounds s) (s .pre .0) (opposite (p s)) (opposite-below (n s) (p s) (s .pre .1)))
+    let at-p = ready s (p s) (s .pre .1) in
+    let at-q = ready s (q s) (s .pre .2) in
+    search needs
 
 -- from p to q
 there : (c : tie.After-tight-by) → let s = c .before .before in toZ w64 (ofZ w64 (c .tight-by .result)) ≡ stored (tight (tableOf (2 * n s) (t s)) (p s) (q s))

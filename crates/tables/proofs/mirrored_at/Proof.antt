@@ -1,5 +1,6 @@
 -- `tables::mirrored_at` meets its contract.
 use mathlib.Core.Path.{_∙_}
+use native.Mathlib.Omega.{arith}
 use borrow.Author.Needs.{needs}
 use denote.Ref.{now}
 use mir.Syntax.{w64}
@@ -12,7 +13,9 @@ use Rattle.tables.proofs.mirrored_at.Tie as tie
 entry-at-requires : tie.Need-entry-at-requires
 entry-at-requires c κs =
     let s = c .before .before in
-    rw (c .before .opposite-of .ensures, c .opposite-of2 .ensures) (s .pre .0 .table, opposite-below (s .args .n) (s .args .v) (s .pre .2), opposite-below (s .args .n) (s .args .u) (s .pre .1))
+    let hu = opposite-below (s .args .n) (s .args .u) (s .pre .1) in
+    let hv = opposite-below (s .args .n) (s .args .v) (s .pre .2) in
+    rw (c .before .opposite-of .ensures, c .opposite-of2 .ensures) (s .pre .0 .table, omega arith, omega arith)
 
 returns : tie.Need-returns
 returns c =
