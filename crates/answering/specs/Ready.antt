@@ -4,12 +4,13 @@ use Prim.Native.Nat.{ℕ, _*_, _<_, _≤_}
 use lib.IntN.{ℤ}
 use lib.ListN.{length}
 use Rattle.integers.specs.Integer.{Within}
-use Rattle.bounds.specs.Table.{tableModel}
+use Rattle.bounds.specs.Table.{ClosedTable, tableModel}
 use Rattle.tables.specs.Table.{tableOf, ShortTable}
 use Rattle.nearest.specs.Limit.{maxModel}
 
 pub record AnswersReady (n : ℕ) (t model bounds : List ℤ) (groups : List ℕ) : Type 0 where
   pub table : ShortTable n t
+  pub closed : ClosedTable n (tableOf (2 * n) t)
   pub small : (k : ℕ) → k < n → Within maxModel (tableModel n (tableOf (2 * n) t) k)
   pub model-room : n ≤ length model
   pub bounds-room : 2 * n ≤ length bounds

@@ -1,5 +1,5 @@
 -- The stored table of a valid list holds the distances themselves: so the model, bounds and groups read off it are those of the definitions.
-use mathlib.Core.Path.{_≡_, ap, ap₂, _∙_}
+use mathlib.Core.Path.{_≡_, sym, ap, _∙_}
 use mathlib.Core.Bool.{true}
 use mathlib.Core.List.{List}
 use Prim.Native.Nat.{ℕ, _*_, _<_, _≤_}
@@ -16,15 +16,14 @@ use Rattle.lines.specs.Refusal.{validityOf}
 use Rattle.lines.specs.Valid.{LinesOk, valid-list}
 use Rattle.steps.specs.Point.{opposite}
 use Rattle.steps.specs.Step.{stepsOf}
-use Rattle.walks.specs.Distance.{Distance, minD, _⊞_, halfD}
 use Rattle.walks.specs.Row.{best}
 use Rattle.bounds.specs.Points.{opposite-below}
 use Rattle.bounds.specs.Tight.{Table, halves, tight}
 use Rattle.bounds.specs.Range.{model-same}
-use Rattle.bounds.specs.Table.{tableModel}
+use Rattle.bounds.specs.Table.{ClosedTable, tableModel}
 use Rattle.answers.specs.Answers.{modelOf, boundAt, boundsOf, groupAt, groupsOf}
 use Rattle.answers.specs.Verdict.{distances, verdictOf}
-use Rattle.answers.specs.Meaning.{model-is-model, model-value}
+use Rattle.answers.specs.Meaning.{closed, model-is-model, model-value}
 use Rattle.answers.specs.Small.{all-above, model-small}
 use Rattle.answers.specs.Decided.{lines-ok}
 use Rattle.distances.specs.Read.{distanceOf, short-more}
@@ -32,21 +31,22 @@ use Rattle.distances.specs.Table.{storedTable, table-length, stored-at, best-sh
 use Rattle.tables.specs.Sum.{read-back}
 use Rattle.tables.specs.Table.{tableOf, ShortTable}
 use Rattle.nearest.specs.Limit.{maxModel}
-use Rattle.outputs.specs.Agree.{Agree, bounds-same, groups-same}
+use Rattle.outputs.specs.Agree.{Agree, halves-same, tight-same, bounds-same, groups-same}
 
--- ---- two tables with the same distances between the points of n variables have the same model
+-- ---- two tables with the same distances between the points of n variables have the same model, and are closed alike
 module _ (n : ℕ) (D E : Table) (same : Agree (2 * n) D E) where
-  halves-same : (p : ℕ) → p < 2 * n → halves D p ≡ halves E p
-  unfolding halves
-  halves-same p h = ap halfD (same p (opposite p) h (opposite-below n p h))
-
-  tight-same : (i j : ℕ) → i < 2 * n → j < 2 * n → tight D i j ≡ tight E i j
-  unfolding tight
-  tight-same i j h k = ap₂ minD (same i j h k) (ap₂ (λ (a b : Distance). a ⊞ b) (halves-same i h) (halves-same (opposite j) (opposite-below n j k)))
-
   pub table-model-same : (x : ℕ) → tableModel n D x ≡ tableModel n E x
   unfolding tableModel
-  table-model-same = model-same n (tight D) (tight E) (halves D) (halves E) tight-same halves-same n (omega arith)
+  table-model-same = model-same n (tight D) (tight E) (halves D) (halves E) (tight-same n D E same) (halves-same n D E same) n (omega arith)
+
+  closed-same : ClosedTable n E → ClosedTable n D
+  closed-same c =
+      record {
+        diagonal = λ i h. same i i h h ∙ c .diagonal i h;
+        triangle = λ i j k hi hj hk. rw (same i k hi hk, same i j hi hj, same j k hj hk) (c .triangle i j k hi hj hk);
+        mirrored = λ i j hi hj. same i j hi hj ∙ c .mirrored i j hi hj ∙ sym (same (opposite j) (opposite i) (opposite-below n j hj) (opposite-below n i hi));
+        consistent = λ i h a b e f. c .consistent i h a b (sym (halves-same n D E same i h) ∙ e) (sym (halves-same n D E same (opposite i) (opposite-below n i h)) ∙ f);
+      }
 
 -- ---- the stored table of a list
 abbrev pub tableFor : ℕ → List ℤ → List ℤ
@@ -81,11 +81,16 @@ module _ (n : ℕ) (L : List ℤ) (few : n ≤ maxVariables) (ok : LinesOk n L) 
   unfolding groupsOf
   groups-agree = groups-same n D (distances n (linesOf L)) agree
 
--- ---- on a yes, the model's values are small
+-- ---- on a yes, the table is closed and the model's values are small
 small-within : (n : ℕ) (z : ℤ) → n ≤ maxVariables → natAbs z ≤ n * maxConstant → Within maxModel z
 small-within n z l h = abs-within maxModel z (omega (arith, mul-le-mul-right maxConstant l))
 
 module _ (n : ℕ) (L : List ℤ) (valid : validityOf n L ≡ Valid) (yes-verdict : verdictOf n (linesOf L) ≡ true) where
+  pub table-closed : ClosedTable n (tableOf (2 * n) (tableFor n L))
+  table-closed =
+      let l = valid-list n L valid in
+      closed-same n (tableOf (2 * n) (tableFor n L)) (distances n (linesOf L)) (agree n L (l .variables) (l .lines)) (closed n (linesOf L) (lines-ok n L valid) yes-verdict)
+
   pub model-ready : (k : ℕ) → k < n → Within maxModel (tableModel n (tableOf (2 * n) (tableFor n L)) k)
   model-ready k h =
       let l = valid-list n L valid in

@@ -29,5 +29,5 @@ pub fn write_answers(
 {
     write_model(table, n, model);
     write_bounds(table, n, bounds);
-    write_groups(table, n, groups);
+    write_groups(table, n, bounds, groups);
 }

@@ -62,6 +62,19 @@ not-above (some z) = ((λ e. some-le (to z e)), (λ h. back z (le-some h)))
     back : (z : ℤ) → z ⩽ pos 0 → leZ z (pos 0) ≡ true
     back z = simp ints (omega arith)
 
+-- ---- the bounds of x, by their numbers
+pub bound-least : (D : Table) (x : ℕ) → boundAt D (2 * x) ≡ leastOf (halves D (point x 1))
+bound-least D x =
+    let a : 2 * x % 2 ≡ 0 = omega arith in
+    let b : 2 * x / 2 ≡ x = omega arith in
+    rw (eq-eqb _ _ a, b)
+
+pub bound-greatest : (D : Table) (x : ℕ) → boundAt D (2 * x + 1) ≡ greatestOf (halves D (point x 0))
+bound-greatest D x =
+    let a : (2 * x + 1) % 2 ≡ 0 → ⊥ = λ e. omega arith in
+    let b : (2 * x + 1) / 2 ≡ x = omega arith in
+    rw (ne-eqb _ _ a, b)
+
 module _ (n : ℕ) (ls : List Line) (ok : AllOk n ls) (yes-verdict : verdictOf n ls ≡ true) where
   abbrev D : Table
   D = distances n ls
@@ -137,17 +150,11 @@ module _ (n : ℕ) (ls : List Line) (ok : AllOk n ls) (yes-verdict : verdictOf n
 
   least-at : (x : ℕ) → x < n → getD (boundsOf n ls) (2 * x) (pos 0) ≡ leastOf (halves D (point x 1))
   unfolding boundsOf
-  least-at x h =
-      let a : 2 * x % 2 ≡ 0 = omega arith in
-      let b : 2 * x / 2 ≡ x = omega arith in
-      getD-tabulate (2 * n) (2 * x) (boundAt D) (pos 0) (omega arith) ∙ rw (eq-eqb _ _ a, b)
+  least-at x h = getD-tabulate (2 * n) (2 * x) (boundAt D) (pos 0) (omega arith) ∙ bound-least D x
 
   greatest-at : (x : ℕ) → x < n → getD (boundsOf n ls) (2 * x + 1) (pos 0) ≡ greatestOf (halves D (point x 0))
   unfolding boundsOf
-  greatest-at x h =
-      let a : (2 * x + 1) % 2 ≡ 0 → ⊥ = λ e. omega arith in
-      let b : (2 * x + 1) / 2 ≡ x = omega arith in
-      getD-tabulate (2 * n) (2 * x + 1) (boundAt D) (pos 0) (omega arith) ∙ rw (ne-eqb _ _ a, b)
+  greatest-at x h = getD-tabulate (2 * n) (2 * x + 1) (boundAt D) (pos 0) (omega arith) ∙ bound-greatest D x
 
   -- ---- groups
   same-together : (x r : ℕ) → x < n → r < n → (sameGroup D x r ≡ true) ↔ Together ls x r

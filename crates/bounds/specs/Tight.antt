@@ -44,7 +44,7 @@ abbrev pub Obeys : Table → Assignment → Type 0
 Obeys D s = (i j : ℕ) (a : ℤ) → Up (D i j) a → value s i ⩽ a +ℤ value s j
 
 -- the halves of i and of the opposite of j are at most a together
-abbrev ByHalves : (ℕ → Distance) → ℕ → ℕ → ℤ → Type 0
+abbrev pub ByHalves : (ℕ → Distance) → ℕ → ℕ → ℤ → Type 0
 ByHalves h i j a = (x : ℤ) × (y : ℤ) × Up (h i) x × Up (h (opposite j)) y × (x +ℤ y ⩽ a)
 
 -- T and h are variables with equations, so that the points can be read off a hypothesis
@@ -63,7 +63,7 @@ module _ (D T : Table) (h : ℕ → Distance)
   join : {i : ℕ} (j : ℕ) {a b : ℤ} → Up (h i) a → Up (h (opposite j)) b → Up (T i j) (a +ℤ b)
   join {i} j u v = up-eq (sym (t-is i j)) (up-min-r (D i j) (up-plus u v))
 
-  one-of : {i j : ℕ} {a : ℤ} → Up (T i j) a → Up (D i j) a ⊎ ByHalves h i j a
+  pub one-of : {i j : ℕ} {a : ℤ} → Up (T i j) a → Up (D i j) a ⊎ ByHalves h i j a
   one-of {i} {j} {a} u =
       ⊎-elim inl (λ p. inr (up-plus-e (h i) (h (opposite j)) a p)) (up-min-e (D i j) (h i ⊞ h (opposite j)) a (up-eq (t-is i j) u))
 

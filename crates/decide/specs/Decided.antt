@@ -21,7 +21,7 @@ use Rattle.lines.specs.Refusal.{refuseIf, validityOf}
 use Rattle.lines.specs.Valid.{ListOk, or-valid, not-refused, valid-list}
 use Rattle.bounds.specs.Table.{tableModel}
 use Rattle.tables.specs.Table.{tableOf}
-use Rattle.answering.specs.Table.{tableFor, short-table, model-agrees, bounds-agree, groups-agree, model-ready}
+use Rattle.answering.specs.Table.{tableFor, short-table, model-agrees, bounds-agree, groups-agree, table-closed, model-ready}
 use Rattle.answering.specs.Ready.{AnswersReady}
 use Rattle.answers.specs.Verdict.{verdictOf}
 use Rattle.answers.specs.Answers.{modelOf, boundsOf, groupsOf, boundAt, groupAt}
@@ -178,7 +178,7 @@ module _ (n : ℕ) (L : List ℤ) (b : Lent) where
         answers-ready =
             let o = decide-ok n L b e in
             subst (λ (t : List ℤ). AnswersReady n t (b .model) (b .bounds) (b .groups)) (sym table-is)
-            (record { table = short-table n L (ok .variables) (ok .lines); small = model-ready n L (o .list) (k .verdict); model-room = o .model; bounds-room = o .bounds; groups-room = o .groups })
+            (record { table = short-table n L (ok .variables) (ok .lines); closed = table-closed n L (o .list) (k .verdict); small = model-ready n L (o .list) (k .verdict); model-room = o .model; bounds-room = o .bounds; groups-room = o .groups })
 
         pub decided-yes : (m bs : List ℤ) (g : List ℕ)
             → (m ≡ tabulate n (tableModel n (tableOf (2 * n) (tableIn n w₁))) ++ drop n (b .model))

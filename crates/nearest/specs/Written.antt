@@ -10,14 +10,15 @@ use lib.Seq.{take-at}
 use Rattle.integers.specs.Integer.{Within}
 use Rattle.integers.specs.Sequence.{tabulate, tabulate-add, length-tabulate, getD-tabulate, grow}
 use Rattle.lines.specs.Line.{Assignment, number, assignmentOf}
-use Rattle.steps.specs.Point.{point}
-use Rattle.walks.specs.Distance.{Distance}
-use Rattle.bounds.specs.Points.{assign-same, assign-other}
+use Rattle.steps.specs.Point.{point, value}
+use Rattle.walks.specs.Distance.{Distance, Below, up-inv, le-trans}
+use Rattle.bounds.specs.Points.{variableOf, variable-below, below-of-variable, value-cong, assign-same, assign-other}
 use Rattle.bounds.specs.Tight.{Table, halves, tight}
 use Rattle.bounds.specs.Near.{near}
-use Rattle.bounds.specs.Extend.{below, below-lt, limit-cong, pick}
+use Rattle.bounds.specs.Extend.{below, below-lt, limit, limit-cong, pick}
+use Rattle.bounds.specs.Untightened.{limit-untightened}
 use Rattle.bounds.specs.Model.{model}
-use Rattle.bounds.specs.Table.{tableModel}
+use Rattle.bounds.specs.Table.{ClosedTable, tableModel, half-sound, model-solves}
 use Rattle.distances.specs.Read.{distanceOf}
 use Rattle.tables.specs.Table.{tableOf, ShortTable}
 use Rattle.nearest.specs.Limit.{maxModel, limitOf}
@@ -28,6 +29,7 @@ nextOf D values = pick (tight D) (halves D) (assignmentOf values) (below (length
 
 pub record ModelReady (n : ℕ) (t m : List ℤ) : Type 0 where
   pub table : ShortTable n t
+  pub closed : ClosedTable n (tableOf (2 * n) t)
   pub room : n ≤ length m
   pub small : (k : ℕ) → k < n → Within maxModel (tableModel n (tableOf (2 * n) t) k)
 
@@ -55,11 +57,15 @@ module _ (T : Table) (h : ℕ → Distance) where
   next-is n k l s f =
       pick-cong s (model T h k) k (λ x i. f x i ∙ model-stays n x (omega arith) ∙ sym (model-stays k x i)) ∙ sym (model-picks n k l)
 
--- the two ends that were read back
-pub pick-back : (D : Table) (values : List ℤ) (k : ℕ) (u l : ℤ) → distanceOf u ≡ limitOf D values k (point k 0) → distanceOf l ≡ limitOf D values k (point k 1)
+-- the two ends that were read back: no value is above its half, so that the distances give the limits of the tightened table
+pub pick-back : (D : Table) (values : List ℤ) (k : ℕ) → ((q : ℕ) → q < 2 * k → Below (value (assignmentOf values) q) (halves D q))
+    → (u l : ℤ) → distanceOf u ≡ limitOf D values k (point k 0) → distanceOf l ≡ limitOf D values k (point k 1)
     → near (distanceOf u) (distanceOf l) ≡ pick (tight D) (halves D) (assignmentOf values) (below k) k
 unfolding pick
-pick-back D values k u l e f = ap₂ near e f
+pick-back D values k inside u l e f = ap₂ near (e ∙ same (point k 0)) (f ∙ same (point k 1))
+  where
+    same : (p : ℕ) → limitOf D values k p ≡ limit (tight D) (halves D) (assignmentOf values) (below k) p
+    same p = sym (limit-untightened D (assignmentOf values) (below k) (λ q i. inside q (below-of-variable k q (below-lt (variableOf q) k i))) p)
 
 -- ---- the loop, after k values
 module _ (n : ℕ) (t m : List ℤ) (ok : ModelReady n t m) where
@@ -83,6 +89,14 @@ module _ (n : ℕ) (t m : List ℤ) (ok : ModelReady n t m) where
     part-small x h =
         let i : x < k = rw part-length at h in
         rw (part-at x i) (ok .small x (omega arith))
+
+    -- the model is a solution, so that no value is above its half
+    pub part-below-halves : (q : ℕ) → q < 2 * length (take k w) → Below (value (assignmentOf (take k w)) q) (halves D q)
+    part-below-halves q h z u =
+        let i : q < 2 * k = rw part-length at h in
+        let a = up-inv u in
+        let e : value (assignmentOf (take k w)) q ≡ value (tableModel n D) q = value-cong (assignmentOf (take k w)) (tableModel n D) q (part-at (variableOf q) (variable-below k q i)) in
+        rw e (le-trans (half-sound n D (ok .closed) (tableModel n D) (model-solves n D (ok .closed)) q (omega arith) (a .0) (a .1)) (a .2))
 
     value-is : pick (tight D) (halves D) (assignmentOf (take k w)) (below k) k ≡ tableModel n D k
     unfolding tableModel

@@ -1,9 +1,9 @@
 // The model of a table of distances: variables in number order, each the possible value nearest zero, given those before.
 use distances::NO_WALK;
 use tables::half_at;
+use tables::mirrored_at;
 use tables::smaller;
 use tables::sum;
-use tables::tight_at;
 ghost use mathlib.Core.Path.{_≡_};
 ghost use mathlib.Core.List.{_++_};
 ghost use Prim.Native.Nat.{_*_, _<_};
@@ -11,28 +11,28 @@ ghost use lib.ListN.{length, drop};
 ghost use Rattle.integers.specs.Integer.{Within};
 ghost use Rattle.integers.specs.Sequence.{tabulate};
 ghost use Rattle.walks.specs.Distance.{some, minD, _⊞_};
-ghost use Rattle.bounds.specs.Tight.{tight};
 ghost use Rattle.bounds.specs.Near.{near};
 ghost use Rattle.bounds.specs.Table.{tableModel};
 ghost use Rattle.distances.specs.Stored.{stored};
 ghost use Rattle.distances.specs.Read.{distanceOf, Short};
 ghost use Rattle.tables.specs.Sum.{maxSum};
-ghost use Rattle.tables.specs.Table.{tableOf, ShortTable};
+ghost use Rattle.tables.specs.Table.{tableOf, MirroredTable};
 ghost use Rattle.nearest.specs.Limit.{maxModel, byValue, limitOf, LimitReady, ValueReady};
 ghost use Rattle.nearest.specs.Written.{nextOf, ModelReady};
 
-// The greatest value of the point p, given that of the point q.
+// The greatest value of the point p, given that of the point q: by their distance alone, since by their halves the half
+// of p says as much.
 fn limit_by(table: &[i64], n: usize, p: usize, q: usize, value: i64) -> i64
-    requires { ⌜ ShortTable n (now table) × (p < 2 * n) × (q < 2 * n) × Within maxModel value ⌝ }
-    ensures { λ r. ⌜ r ≡ stored (tight (tableOf (2 * n) (now (table .entry))) p q ⊞ some value) ⌝ }
+    requires { ⌜ MirroredTable n (now table) × (p < 2 * n) × (q < 2 * n) × Within maxModel value ⌝ }
+    ensures { λ r. ⌜ r ≡ stored (tableOf (2 * n) (now (table .entry)) p q ⊞ some value) ⌝ }
 {
-    sum(tight_at(table, n, p, q), value)
+    sum(mirrored_at(table, n, p, q), value)
 }
 
 // One variable more: the limit of p, given the value of x too.
 fn limit_step(table: &[i64], n: usize, p: usize, x: usize, value: i64, limit: i64) -> i64
-    requires { ⌜ ShortTable n (now table) × (p < 2 * n) × (x < n) × Within maxModel value ⌝ }
-    ensures { λ r. ⌜ r ≡ stored (minD (distanceOf limit) (byValue (tight (tableOf (2 * n) (now (table .entry)))) p x value)) ⌝ }
+    requires { ⌜ MirroredTable n (now table) × (p < 2 * n) × (x < n) × Within maxModel value ⌝ }
+    ensures { λ r. ⌜ r ≡ stored (minD (distanceOf limit) (byValue (tableOf (2 * n) (now (table .entry))) p x value)) ⌝ }
 {
     let plus = limit_by(table, n, p, 2 * x, value);
     let minus = limit_by(table, n, p, 2 * x + 1, -value);

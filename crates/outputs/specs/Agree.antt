@@ -21,11 +21,11 @@ abbrev pub Agree : ℕ → Table → Table → Type 0
 Agree N D E = (u v : ℕ) → u < N → v < N → D u v ≡ E u v
 
 module _ (n : ℕ) (D E : Table) (same : Agree (2 * n) D E) where
-  halves-same : (p : ℕ) → p < 2 * n → halves D p ≡ halves E p
+  pub halves-same : (p : ℕ) → p < 2 * n → halves D p ≡ halves E p
   unfolding halves
   halves-same p h = ap halfD (same p (opposite p) h (opposite-below n p h))
 
-  tight-same : (i j : ℕ) → i < 2 * n → j < 2 * n → tight D i j ≡ tight E i j
+  pub tight-same : (i j : ℕ) → i < 2 * n → j < 2 * n → tight D i j ≡ tight E i j
   unfolding tight
   tight-same i j h k = ap₂ minD (same i j h k) (ap₂ (λ (a b : Distance). a ⊞ b) (halves-same i h) (halves-same (opposite j) (opposite-below n j k)))
 

@@ -2,19 +2,24 @@
 // are not consistent.
 use distances::NO_WALK;
 use steps::opposite_of;
+use tables::entry_at;
 use tables::half_at;
+use tables::mirrored_at;
 use tables::sum;
-use tables::tight_at;
+use tables::tightened;
 ghost use mathlib.Core.Path.{_≡_};
 ghost use mathlib.Core.List.{_++_};
 ghost use Prim.Native.Nat.{_+_, _*_, _<_, _≤_};
 ghost use lib.ListN.{length, drop};
 ghost use Rattle.integers.specs.Sequence.{tabulate};
-ghost use Rattle.steps.specs.Point.{point};
+ghost use Rattle.steps.specs.Point.{point, opposite};
 ghost use Rattle.bounds.specs.Tight.{halves};
-ghost use Rattle.answers.specs.Answers.{boundAt, greatestOf, leastOf, groupAt, sameGroup};
+ghost use Rattle.answers.specs.Answers.{boundAt, greatestOf, leastOf, groupAt};
 ghost use Rattle.answers.specs.Verdict.{halvesOk};
+ghost use Rattle.distances.specs.Stored.{stored};
+ghost use Rattle.distances.specs.Read.{distanceOf};
 ghost use Rattle.tables.specs.Table.{tableOf, ShortTable};
+ghost use Rattle.outputs.specs.Grouping.{halfIn, tightIn, HalfReady, GroupsReady, samePoints};
 ghost use Rattle.outputs.specs.Bad.{firstBad};
 
 // Written for a least value that is absent.
@@ -64,25 +69,53 @@ pub fn write_bounds(table: &[i64], n: usize, bounds: &mut [i64])
     }
 }
 
-// Whether x and r have the same value in every solution.
-fn same_group(table: &[i64], n: usize, x: usize, r: usize) -> bool
-    requires { ⌜ ShortTable n (now table) × (x < n) × (r < n) ⌝ }
-    ensures { λ b. ⌜ b ≡ sameGroup (tableOf (2 * n) (now (table .entry))) x r ⌝ }
+// The half of the point p, read off the bounds: the greatest value of its variable, or the least one negated.
+fn half_of(bounds: &[i64], p: usize) -> i64
+    requires { ⌜ opposite p < length (now bounds) ⌝ }
+    ensures { λ r. ⌜ r ≡ halfIn (now (bounds .entry)) p ⌝ }
 {
-    if 0 < tight_at(table, n, 2 * x, 2 * r) {
+    let at = opposite_of(p);
+    let bound = bounds[at];
+    if p % 2 == 0 {
+        return bound;
+    }
+    if bound == ABSENT_LEAST {
+        return NO_WALK;
+    }
+    -bound
+}
+
+// The tightened distance from p to q, given their distance.
+fn tight_by(bounds: &[i64], distance: i64, p: usize, q: usize) -> i64
+    requires { ⌜ HalfReady (now bounds) p × HalfReady (now bounds) (opposite q) ⌝ }
+    ensures { λ r. ⌜ r ≡ stored (tightIn (now (bounds .entry)) (distanceOf distance) p q) ⌝ }
+{
+    tightened(
+        distance,
+        half_of(bounds, p),
+        half_of(bounds, opposite_of(q)),
+    )
+}
+
+// Whether p and q have the same value in every solution. Both distances are read in the rows of p and its opposite.
+fn same_points(table: &[i64], n: usize, bounds: &[i64], p: usize, q: usize) -> bool
+    requires { ⌜ GroupsReady n (now table) (now bounds) × (p < 2 * n) × (q < 2 * n) ⌝ }
+    ensures { λ b. ⌜ b ≡ samePoints (tableOf (2 * n) (now (table .entry))) p q ⌝ }
+{
+    if 0 < tight_by(bounds, mirrored_at(table, n, p, q), p, q) {
         return false;
     }
-    tight_at(table, n, 2 * r, 2 * x) <= 0
+    tight_by(bounds, entry_at(table, n, q, p), q, p) <= 0
 }
 
 // The lowest variable that has the value of x in every solution.
-fn group_at(table: &[i64], n: usize, x: usize) -> usize
-    requires { ⌜ ShortTable n (now table) × (x < n) ⌝ }
+fn group_at(table: &[i64], n: usize, bounds: &[i64], x: usize) -> usize
+    requires { ⌜ GroupsReady n (now table) (now bounds) × (x < n) ⌝ }
     ensures { λ r. ⌜ r ≡ groupAt (tableOf (2 * n) (now (table .entry))) x ⌝ }
 {
     let mut r = 0;
     while r < x {
-        if same_group(table, n, x, r) {
+        if same_points(table, n, bounds, 2 * x, 2 * r) {
             return r;
         }
         r += 1;
@@ -90,14 +123,14 @@ fn group_at(table: &[i64], n: usize, x: usize) -> usize
     r
 }
 
-// The groups of all n variables.
-pub fn write_groups(table: &[i64], n: usize, groups: &mut [u32])
-    requires { ⌜ ShortTable n (now table) × (n ≤ length (now groups)) ⌝ }
+// The groups of all n variables, whose bounds are written.
+pub fn write_groups(table: &[i64], n: usize, bounds: &[i64], groups: &mut [u32])
+    requires { ⌜ GroupsReady n (now table) (now bounds) × (n ≤ length (now groups)) ⌝ }
     ensures { λ _. ⌜ now (groups .exit) ≡ tabulate n (groupAt (tableOf (2 * n) (now (table .entry)))) ++ drop n (now (groups .entry)) ⌝ }
 {
     let mut x = 0;
     while x < n {
-        groups[x] = group_at(table, n, x) as u32;
+        groups[x] = group_at(table, n, bounds, x) as u32;
         x += 1;
     }
 }

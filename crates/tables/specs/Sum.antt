@@ -14,7 +14,7 @@ use Rattle.integers.specs.Laws.{never, eqZ-true}
 use Rattle.walks.specs.Distance.{Distance, none, some, minD, _⊞_, halfD, min-one-z}
 use Rattle.walks.specs.Size.{within-sum}
 use Rattle.distances.specs.Stored.{stored}
-use Rattle.distances.specs.Read.{noWalk, distanceOf, Short, maxDistance, of-none, of-some}
+use Rattle.distances.specs.Read.{noWalk, distanceOf, Short, maxDistance, of-none, of-some, short-more}
 
 -- two distances together, or the two halves of a tightened one
 abbrev pub maxTight : ℕ
@@ -100,6 +100,12 @@ sum-short (some a) (some b) m n s t z e = let q : a +ℤ b ≡ z = (cc) in rw (q
 
 pub sum-fits : (a b : ℤ) → Within maxTight a → Within maxTight b → SFits w64 (a +ℤ b)
 sum-fits a b h k = simp ints (omega zs)
+
+-- two halves, their sum as it was stored, and the smaller of it and a distance
+pub tightened-is : (d x y s : ℤ) → Short maxDistance (distanceOf x) → Short maxDistance (distanceOf y) → s ≡ stored (distanceOf x ⊞ distanceOf y)
+    → stored (minD (distanceOf d) (distanceOf s)) ≡ stored (minD (distanceOf d) (distanceOf x ⊞ distanceOf y))
+tightened-is d x y s hx hy e =
+    ap (λ (a : Distance). stored (minD (distanceOf d) a)) (ap distanceOf e ∙ read-back _ (short-more (omega arith) (sum-short _ _ maxDistance maxDistance hx hy)))
 
 -- ---- halves
 pub half-none : (z : ℤ) → z ≡ noWalk → noWalk ≡ stored (halfD (distanceOf z))

@@ -1,5 +1,5 @@
 -- A table of distances as it stands in 2n·2n stored numbers, row by row, and how large its halves and tightened entries are.
-use mathlib.Core.Path.{_≡_, ap, ap₂, _∙_}
+use mathlib.Core.Path.{_≡_, sym, ap, ap₂, _∙_}
 use mathlib.Core.List.{List}
 use Prim.Native.Nat.{ℕ, _+_, _*_, _<_, _≤_}
 use native.Mathlib.Nat.{mul-le-mul-right}
@@ -10,12 +10,12 @@ use Rattle.integers.specs.Integer.{half}
 use Rattle.lines.specs.Limits.{maxVariables}
 use Rattle.lines.specs.Line.{number}
 use Rattle.steps.specs.Point.{opposite}
-use Rattle.walks.specs.Distance.{Distance, minD, _⊞_}
 use Rattle.bounds.specs.Points.{opposite-below}
-use Rattle.bounds.specs.Tight.{Table, halves, tight}
+use Rattle.bounds.specs.Tight.{Table, halves}
+use Rattle.bounds.specs.Table.{ClosedTable}
 use Rattle.distances.specs.Stored.{stored}
-use Rattle.distances.specs.Read.{noWalk, distanceOf, Short, maxDistance, short-more}
-use Rattle.tables.specs.Sum.{maxTight, read-back, min-short, sum-short, half-none, half-some, half-short}
+use Rattle.distances.specs.Read.{noWalk, distanceOf, Short, maxDistance, short-more, stored-of}
+use Rattle.tables.specs.Sum.{maxTight, read-back, half-none, half-some, half-short}
 
 -- N entries to a row; row v has the distances to v
 abbrev pub tableOf : ℕ → List ℤ → Table
@@ -25,6 +25,23 @@ pub record ShortTable (n : ℕ) (t : List ℤ) : Type 0 where
   pub variables : n ≤ maxVariables
   pub size : length t ≡ 2 * n * (2 * n)
   pub short : (u v : ℕ) → u < 2 * n → v < 2 * n → Short maxDistance (tableOf (2 * n) t u v)
+
+-- each entry is that of the opposite points in the other order: so the distances from a point stand in the row of its opposite
+pub record MirroredTable (n : ℕ) (t : List ℤ) : Type 0 where
+  pub table : ShortTable n t
+  pub mirrored : (u v : ℕ) → u < 2 * n → v < 2 * n → tableOf (2 * n) t u v ≡ tableOf (2 * n) t (opposite v) (opposite u)
+
+pub mirrored-table : (n : ℕ) (t : List ℤ) → ShortTable n t → ClosedTable n (tableOf (2 * n) t) → MirroredTable n t
+mirrored-table n t s c = record { table = s; mirrored = c .mirrored }
+
+pub mirrored-entry : (n : ℕ) (t : List ℤ) → MirroredTable n t → (u v : ℕ) → u < 2 * n → v < 2 * n → (i j : ℕ) → i ≡ opposite u → j ≡ opposite v
+    → number t (i * (2 * n) + j) ≡ stored (tableOf (2 * n) t u v)
+mirrored-entry n t m u v hu hv i j ei ej =
+    ap₂ (λ (a b : ℕ). number t (a * (2 * n) + b)) ei ej ∙ sym (stored-of _) ∙ ap stored (sym (m .mirrored u v hu hv))
+
+-- an entry that was read
+pub entry-back : (N : ℕ) (t : List ℤ) (u v : ℕ) (z : ℤ) → z ≡ stored (tableOf N t u v) → distanceOf z ≡ tableOf N t u v
+entry-back N t u v z e = ap distanceOf (e ∙ stored-of (number t (v * N + u)))
 
 -- the entry's index is below the table's size, and small
 pub entry-lt : (N u v : ℕ) → u < N → v < N → u * N + v < N * N
@@ -39,12 +56,6 @@ module _ (n : ℕ) (t : List ℤ) (ok : ShortTable n t) where
   pub halves-short : (p : ℕ) → p < 2 * n → Short maxDistance (halves (tableOf (2 * n) t) p)
   unfolding halves
   halves-short p h = half-short _ maxDistance (ok .short p (opposite p) h (opposite-below n p h))
-
-  pub tight-short : (i j : ℕ) → i < 2 * n → j < 2 * n → Short maxTight (tight (tableOf (2 * n) t) i j)
-  unfolding tight
-  tight-short i j h k =
-      min-short _ _ maxTight (short-more (omega arith) (ok .short i j h k))
-      (short-more (omega arith) (sum-short _ _ maxDistance maxDistance (halves-short i h) (halves-short (opposite j) (opposite-below n j k))))
 
 -- the half of a stored entry
 pub half-none-at : (N : ℕ) (t : List ℤ) (p : ℕ) → number t (opposite p * N + p) ≡ noWalk → noWalk ≡ stored (halves (tableOf N t) p)
@@ -62,18 +73,3 @@ module _ (n : ℕ) (t : List ℤ) (ok : ShortTable n t) where
 
   pub half-back-short : (p : ℕ) → p < 2 * n → (z : ℤ) → z ≡ stored (halves (tableOf (2 * n) t) p) → Short maxTight (distanceOf z)
   half-back-short p h z e = rw (half-back p h z e) (short-more (omega arith) (halves-short n t ok p h))
-
-  -- two halves, their sum, and the smaller of it and the entry
-  pub tight-is : (i j : ℕ) → i < 2 * n → j < 2 * n → (x y s : ℤ) → x ≡ stored (halves (tableOf (2 * n) t) i) → y ≡ stored (halves (tableOf (2 * n) t) (opposite j))
-      → s ≡ stored (distanceOf x ⊞ distanceOf y) → stored (minD (tableOf (2 * n) t i j) (distanceOf s)) ≡ stored (tight (tableOf (2 * n) t) i j)
-  unfolding tight
-  tight-is i j h k x y s ex ey es =
-      let l = opposite-below n j k in
-      let q : distanceOf s ≡ halves (tableOf (2 * n) t) i ⊞ halves (tableOf (2 * n) t) (opposite j) =
-      ap distanceOf (es ∙ ap₂ (λ (a b : Distance). stored (a ⊞ b)) (half-back i h x ex) (half-back (opposite j) l y ey))
-      ∙ read-back _ (short-more (omega arith) (sum-short _ _ maxDistance maxDistance (halves-short n t ok i h) (halves-short n t ok (opposite j) l))) in
-      ap (λ (d : Distance). stored (minD (tableOf (2 * n) t i j) d)) q
-
-  -- for callers of `tight_at`
-  pub tight-back : (i j : ℕ) → i < 2 * n → j < 2 * n → (z : ℤ) → z ≡ stored (tight (tableOf (2 * n) t) i j) → distanceOf z ≡ tight (tableOf (2 * n) t) i j
-  tight-back i j h k z e = ap distanceOf e ∙ read-back _ (short-more (omega arith) (tight-short n t ok i j h k))

@@ -1,4 +1,4 @@
-// A table of distances read: a point's half, and the tightened distance of two points.
+// A table of distances read: an entry, by the row of its end or by that of its start; a point's half; and the tightened distance of two points.
 use distances::NO_WALK;
 use integers::halved;
 use steps::opposite_of;
@@ -6,11 +6,11 @@ ghost use mathlib.Core.Path.{_≡_};
 ghost use Prim.Native.Nat.{_+_, _*_, _<_};
 ghost use Rattle.lines.specs.Line.{number};
 ghost use Rattle.walks.specs.Distance.{minD, _⊞_};
-ghost use Rattle.bounds.specs.Tight.{halves, tight};
+ghost use Rattle.bounds.specs.Tight.{halves};
 ghost use Rattle.distances.specs.Stored.{stored};
-ghost use Rattle.distances.specs.Read.{distanceOf, Short};
+ghost use Rattle.distances.specs.Read.{distanceOf, Short, maxDistance};
 ghost use Rattle.tables.specs.Sum.{maxTight};
-ghost use Rattle.tables.specs.Table.{tableOf, ShortTable};
+ghost use Rattle.tables.specs.Table.{tableOf, ShortTable, MirroredTable};
 
 // The smaller of two distances: NO_WALK is above every number.
 pub fn smaller(a: i64, b: i64) -> i64
@@ -42,6 +42,15 @@ pub fn entry_at(table: &[i64], n: usize, u: usize, v: usize) -> i64
     table[at]
 }
 
+// The distance from u to v, read where the distance between their opposites stands: those from one point then stand in
+// one row.
+pub fn mirrored_at(table: &[i64], n: usize, u: usize, v: usize) -> i64
+    requires { ⌜ MirroredTable n (now table) × (u < 2 * n) × (v < 2 * n) ⌝ }
+    ensures { λ r. ⌜ r ≡ stored (tableOf (2 * n) (now (table .entry)) u v) ⌝ }
+{
+    entry_at(table, n, opposite_of(v), opposite_of(u))
+}
+
 // The greatest value that the distance to its opposite leaves the point p.
 pub fn half_at(table: &[i64], n: usize, p: usize) -> i64
     requires { ⌜ ShortTable n (now table) × (p < 2 * n) ⌝ }
@@ -54,11 +63,11 @@ pub fn half_at(table: &[i64], n: usize, p: usize) -> i64
     halved(distance)
 }
 
-// The distance from i to j, or that of their halves where it is less.
-pub fn tight_at(table: &[i64], n: usize, i: usize, j: usize) -> i64
-    requires { ⌜ ShortTable n (now table) × (i < 2 * n) × (j < 2 * n) ⌝ }
-    ensures { λ r. ⌜ r ≡ stored (tight (tableOf (2 * n) (now (table .entry))) i j) ⌝ }
+// The tightened distance of two points: their distance, or two halves together where that is less.
+pub fn tightened(distance: i64, half: i64, other: i64) -> i64
+    requires { ⌜ Short maxDistance (distanceOf half) × Short maxDistance (distanceOf other) ⌝ }
+    ensures { λ r. ⌜ r ≡ stored (minD (distanceOf distance) (distanceOf half ⊞ distanceOf other)) ⌝ }
 {
-    let by_halves = sum(half_at(table, n, i), half_at(table, n, opposite_of(j)));
-    smaller(entry_at(table, n, i, j), by_halves)
+    let by_halves = sum(half, other);
+    smaller(distance, by_halves)
 }

@@ -25,7 +25,7 @@ abbrev μ-loop : tie.MeasureT-loop
 μ-loop table n p values limit₀ x₀ limit x = length values - x
 
 half-at-requires : tie.Need-half-at-requires Inv-loop μ-loop
-half-at-requires c κs = (c .pre .table, c .pre .within)
+half-at-requires c κs = (c .pre .table .table, c .pre .within)
 
 loop-holds : tie.Need-loop-holds Inv-loop μ-loop
 loop-holds c =
@@ -64,7 +64,7 @@ loop-again c =
     let a = s l .args in
     let p = s l .pre in (
       omega (arith, h),
-      limit-more (a .n) (now (a .table)) (p .table) (now (a .values)) (p .count) (p .small) (a .p) (p .within) (x l) h (toZ w64 (l .loop .limit)) _ (l .loop .inv .1)
+      limit-more (a .n) (now (a .table)) (p .table .table) (now (a .values)) (p .count) (p .small) (a .p) (p .within) (x l) h (toZ w64 (l .loop .limit)) _ (l .loop .inv .1)
           (kept w64 (c .limit-step .result) (c .limit-step .ok) ∙ (rw (value-is l h) at (c .limit-step .ensures))),
     )
 

@@ -1,6 +1,7 @@
 -- `nearest::limit_by` meets its contract.
 use mathlib.Core.Path.{_≡_, ap, _∙_}
 use Prim.Native.Nat.{_*_}
+use borrow.Author.Needs.{needs}
 use denote.Ref.{now}
 use lib.IntN.{ℤ}
 use mir.Syntax.{w64}
@@ -8,32 +9,31 @@ use mir.Val.{toZ, ofZ}
 use mir.Facts.{toZ-ofZ}
 use Rattle.integers.specs.Bits.{kept}
 use Rattle.walks.specs.Distance.{_⊞_}
-use Rattle.bounds.specs.Tight.{tight}
 use Rattle.distances.specs.Stored.{stored}
 use Rattle.distances.specs.Read.{distanceOf}
 use Rattle.tables.specs.Table.{tableOf}
-use Rattle.nearest.specs.Limit.{value-short, tight-back-short, sum-back}
+use Rattle.nearest.specs.Limit.{value-short, entry-short, sum-back}
 use Rattle.nearest.proofs.limit_by.Statement.{statement}
 use Rattle.nearest.proofs.limit_by.Tie as tie
 
-tight-at-requires : tie.Need-tight-at-requires
-tight-at-requires c κs = (c .pre .0, c .pre .1, c .pre .2)
+mirrored-at-requires : tie.Need-mirrored-at-requires
+mirrored-at-requires c κs = search needs
 
--- the tightened entry that was read
-module _ (c : tie.After-tight-at) where
+-- the entry that was read
+module _ (c : tie.After-mirrored-at) where
   abbrev s : tie.Start
   s = c .before
 
   abbrev entry : ℤ
-  entry = toZ w64 (ofZ w64 (c .tight-at .result))
+  entry = toZ w64 (ofZ w64 (c .mirrored-at .result))
 
-  is : entry ≡ stored (tight (tableOf (2 * s .args .n) (now (s .args .table))) (s .args .p) (s .args .q))
-  is = kept w64 (c .tight-at .result) (c .tight-at .ok) ∙ c .tight-at .ensures
+  is : entry ≡ stored (tableOf (2 * s .args .n) (now (s .args .table)) (s .args .p) (s .args .q))
+  is = kept w64 (c .mirrored-at .result) (c .mirrored-at .ok) ∙ c .mirrored-at .ensures
 
 sum-requires : tie.Need-sum-requires
 sum-requires c κs =
     let r = s c in
-    (tight-back-short (r .args .n) (now (r .args .table)) (r .pre .0) (r .args .p) (r .args .q) (r .pre .1) (r .pre .2) (entry c) (is c), rw (toZ-ofZ (r .fits .value)) (value-short (r .args .value) (r .pre .3)))
+    (entry-short (r .args .n) (now (r .args .table)) (r .pre .0 .table) (r .args .p) (r .args .q) (r .pre .1) (r .pre .2) (entry c) (is c), rw (toZ-ofZ (r .fits .value)) (value-short (r .args .value) (r .pre .3)))
 
 returns : tie.Need-returns
 returns c =
@@ -42,7 +42,7 @@ returns c =
     kept w64 (c .sum .result) (c .sum .ok)
     ∙ c .sum .ensures
     ∙ ap (λ (z : ℤ). stored (distanceOf (entry a) ⊞ distanceOf z)) (toZ-ofZ (r .fits .value))
-    ∙ sum-back (r .args .n) (now (r .args .table)) (r .pre .0) (r .args .p) (r .args .q) (r .pre .1) (r .pre .2) (entry a) (is a) (r .args .value) (r .pre .3)
+    ∙ sum-back (r .args .n) (now (r .args .table)) (r .pre .0 .table) (r .args .p) (r .args .q) (r .pre .1) (r .pre .2) (entry a) (is a) (r .args .value) (r .pre .3)
 
 pub limit-by-spec : {M : Type 1} → statement M
-limit-by-spec = tie.close (tie.spec tight-at-requires sum-requires returns)
+limit-by-spec = tie.close (tie.spec mirrored-at-requires sum-requires returns)

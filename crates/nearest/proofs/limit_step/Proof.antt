@@ -12,7 +12,6 @@ use Rattle.integers.specs.Bits.{kept}
 use Rattle.steps.specs.Point.{point}
 use Rattle.walks.specs.Distance.{Distance, some, minD, _⊞_}
 use Rattle.walks.specs.Size.{within-more}
-use Rattle.bounds.specs.Tight.{tight}
 use Rattle.distances.specs.Stored.{stored}
 use Rattle.distances.specs.Read.{distanceOf}
 use Rattle.tables.specs.Table.{tableOf}
@@ -54,12 +53,12 @@ returns c =
     let a = m .before in
     let s = a .before in
     let D = tableOf (2 * s .args .n) (now (s .args .table)) in
-    let plus : toZ w64 (ofZ w64 (a .limit-by .result)) ≡ stored (tight D (s .args .p) (point (s .args .x) 0) ⊞ some (v s)) =
-    kept w64 (a .limit-by .result) (a .limit-by .ok) ∙ a .limit-by .ensures ∙ ap₂ (λ (q : ℕ) (z : ℤ). stored (tight D (s .args .p) q ⊞ some z)) (plus-point (s .args .x)) (value-is s) in
-    let minus : toZ w64 (ofZ w64 (m .limit-by2 .result)) ≡ stored (tight D (s .args .p) (point (s .args .x) 1) ⊞ some (negℤ (v s))) =
-    kept w64 (m .limit-by2 .result) (m .limit-by2 .ok) ∙ m .limit-by2 .ensures ∙ ap (λ (z : ℤ). stored (tight D (s .args .p) (point (s .args .x) 1) ⊞ some z)) (opposite-is s) in
-    let less : distanceOf (toZ w64 (ofZ w64 (b .smaller .result))) ≡ byValue (tight D) (s .args .p) (s .args .x) (v s) =
-    step-back (s .args .n) (now (s .args .table)) (s .pre .0) (s .args .p) (s .args .x) (s .pre .1) (s .pre .2) (v s) (s .pre .3) _ _ _ plus minus
+    let plus : toZ w64 (ofZ w64 (a .limit-by .result)) ≡ stored (D (s .args .p) (point (s .args .x) 0) ⊞ some (v s)) =
+    kept w64 (a .limit-by .result) (a .limit-by .ok) ∙ a .limit-by .ensures ∙ ap₂ (λ (q : ℕ) (z : ℤ). stored (D (s .args .p) q ⊞ some z)) (plus-point (s .args .x)) (value-is s) in
+    let minus : toZ w64 (ofZ w64 (m .limit-by2 .result)) ≡ stored (D (s .args .p) (point (s .args .x) 1) ⊞ some (negℤ (v s))) =
+    kept w64 (m .limit-by2 .result) (m .limit-by2 .ok) ∙ m .limit-by2 .ensures ∙ ap (λ (z : ℤ). stored (D (s .args .p) (point (s .args .x) 1) ⊞ some z)) (opposite-is s) in
+    let less : distanceOf (toZ w64 (ofZ w64 (b .smaller .result))) ≡ byValue D (s .args .p) (s .args .x) (v s) =
+    step-back (s .args .n) (now (s .args .table)) (s .pre .0 .table) (s .args .p) (s .args .x) (s .pre .1) (s .pre .2) (v s) (s .pre .3) _ _ _ plus minus
     (kept w64 (b .smaller .result) (b .smaller .ok) ∙ b .smaller .ensures) in
     kept w64 (c .smaller2 .result) (c .smaller2 .ok) ∙ c .smaller2 .ensures
     ∙ ap₂ (λ (z : ℤ) (d : Distance). stored (minD (distanceOf z) d)) (toZ-ofZ (s .fits .limit)) less

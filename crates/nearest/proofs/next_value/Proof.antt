@@ -38,12 +38,12 @@ module _ (s : tie.Start) where
     back : distanceOf z ≡ limitOf (tableOf (2 * n) t) values k p
     back =
         let r = limit-ready n p t values (s .pre) h in
-        limit-back n t (r .table) values (r .count) (r .small) p (r .within) k (omega arith) z e
+        limit-back n t (r .table .table) values (r .count) (r .small) p (r .within) k (omega arith) z e
 
     back-short : Short maxSum (distanceOf z)
     back-short =
         let r = limit-ready n p t values (s .pre) h in
-        rw back (short-more (omega arith) (limit-short n t (r .table) values (r .count) (r .small) p (r .within) k (omega arith)))
+        rw back (short-more (omega arith) (limit-short n t (r .table .table) values (r .count) (r .small) p (r .within) k (omega arith)))
 
 limit-at-requires : tie.Need-limit-at-requires
 limit-at-requires c κs = limit-ready (n c) (2 * k c) (t c) (values c) (c .pre) (omega arith)
@@ -81,7 +81,7 @@ returns c =
     let r = s a in
     kept w64 (c .nearest-value .result) (c .nearest-value .ok)
     ∙ c .nearest-value .ensures
-    ∙ pick-back (tableOf (2 * n r) (t r)) (values r) (k r) (up a) (low a) (back r (point (k r) 0) (omega arith) (up a) (up-is a)) (back r (point (k r) 1) (omega arith) (low a) (low-is a))
+    ∙ pick-back (tableOf (2 * n r) (t r)) (values r) (k r) (r .pre .below-halves) (up a) (low a) (back r (point (k r) 0) (omega arith) (up a) (up-is a)) (back r (point (k r) 1) (omega arith) (low a) (low-is a))
 
 pub next-value-spec : {M : Type 1} → statement M
 next-value-spec = tie.close (tie.spec (search needs) limit-at-requires (search needs) (search needs) limit-at-requires-2 nearest-value-requires returns)

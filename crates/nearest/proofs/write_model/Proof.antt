@@ -10,8 +10,8 @@ use mir.Syntax.{w64}
 use Rattle.integers.specs.Bits.{kept}
 use Rattle.integers.specs.Sequence.{tabulate}
 use Rattle.bounds.specs.Table.{tableModel}
-use Rattle.tables.specs.Table.{tableOf}
-use Rattle.nearest.specs.Written.{part-length, part-small, written-more}
+use Rattle.tables.specs.Table.{tableOf, mirrored-table}
+use Rattle.nearest.specs.Written.{part-length, part-small, part-below-halves, written-more}
 use Rattle.nearest.proofs.write_model.Statement.{statement}
 use Rattle.nearest.proofs.write_model.Tie as tie
 
@@ -49,9 +49,10 @@ next-value-requires c κs =
     let r = s l in
     rw (from-zero (k l))
     (record {
-      table = r .pre .table;
+      table = mirrored-table (r .args .n) (now (r .args .table)) (r .pre .table) (r .pre .closed);
       count = rw (part-length (r .args .n) (now (r .args .table)) (now (r .args .model)) (r .pre) (k l) h (l .loop .model) (l .loop .inv .2)) h;
       small = part-small (r .args .n) (now (r .args .table)) (now (r .args .model)) (r .pre) (k l) h (l .loop .model) (l .loop .inv .2);
+      below-halves = part-below-halves (r .args .n) (now (r .args .table)) (now (r .args .model)) (r .pre) (k l) h (l .loop .model) (l .loop .inv .2);
     })
 
 mul-value : tie.Need-mul-value Inv-loop μ-loop

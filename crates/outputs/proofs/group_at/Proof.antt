@@ -7,15 +7,16 @@ use borrow.Author.Needs.{needs}
 use denote.Ref.{now}
 use Rattle.answers.specs.Answers.{sameGroup}
 use Rattle.tables.specs.Table.{tableOf}
+use Rattle.outputs.specs.Grouping.{same-variables}
 use Rattle.outputs.specs.Lowest.{Searched, searched-none, searched-more, searched-found, searched-all}
 use Rattle.outputs.proofs.group_at.Statement.{statement}
 use Rattle.outputs.proofs.group_at.Tie as tie
 
 abbrev Inv-loop : tie.InvT-loop
-Inv-loop table n x r₀ r = (r ≤ x) × Searched (sameGroup (tableOf (2 * n) table) x) x r
+Inv-loop table n bounds x r₀ r = (r ≤ x) × Searched (sameGroup (tableOf (2 * n) table) x) x r
 
 abbrev μ-loop : tie.MeasureT-loop
-μ-loop table n x r₀ r = x - r
+μ-loop table n bounds x r₀ r = x - r
 
 -- the test of a variable
 abbrev isSame : tie.Start Inv-loop μ-loop → ℕ → Bool
@@ -24,22 +25,22 @@ isSame s = sameGroup (tableOf (2 * s .args .n) (now (s .args .table))) (s .args 
 loop-holds : tie.Need-loop-holds Inv-loop μ-loop
 loop-holds c = (omega arith, searched-none (isSame c) (c .args .x))
 
-same-group-requires : tie.Need-same-group-requires Inv-loop μ-loop
-same-group-requires c κs = search needs
+same-points-requires : tie.Need-same-points-requires Inv-loop μ-loop
+same-points-requires c κs = search needs
 
 returns : tie.Need-returns Inv-loop μ-loop
 returns c =
     let g = c .before in
     let l = g .before .before in
     let s = l .before in
-    searched-found (isSame s) (s .args .x) (l .loop .r) (g .before .loop-test .taken) (sym (g .same-group .ensures) ∙ c .if1 .taken) (l .loop .inv .1)
+    searched-found (isSame s) (s .args .x) (l .loop .r) (g .before .loop-test .taken) (sym (g .same-points .ensures ∙ same-variables (tableOf (2 * s .args .n) (now (s .args .table))) (s .args .x) (l .loop .r)) ∙ c .if1 .taken) (l .loop .inv .1)
 
 loop-again : tie.Need-loop-again Inv-loop μ-loop
 loop-again c =
     let g = c .before in
     let l = g .before .before in
     let s = l .before in
-    (omega arith, searched-more (isSame s) (s .args .x) (l .loop .r) (g .before .loop-test .taken) (sym (g .same-group .ensures) ∙ c .if1 .left) (l .loop .inv .1))
+    (omega arith, searched-more (isSame s) (s .args .x) (l .loop .r) (g .before .loop-test .taken) (sym (g .same-points .ensures ∙ same-variables (tableOf (2 * s .args .n) (now (s .args .table))) (s .args .x) (l .loop .r)) ∙ c .if1 .left) (l .loop .inv .1))
 
 returns-2 : tie.Need-returns-2 Inv-loop μ-loop
 returns-2 c =
@@ -54,7 +55,9 @@ group-at-spec =
     Inv-loop
     μ-loop
     loop-holds
-    same-group-requires
+    (search needs)
+    (search needs)
+    same-points-requires
     returns
     (search needs)
     (search needs)

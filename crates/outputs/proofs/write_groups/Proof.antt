@@ -14,10 +14,10 @@ use Rattle.outputs.proofs.write_groups.Statement.{statement}
 use Rattle.outputs.proofs.write_groups.Tie as tie
 
 abbrev Inv-loop : tie.InvT-loop
-Inv-loop table n groups₀ x₀ groups x = (x ≤ n) × (length groups ≡ length groups₀) × (groups ≡ filled (groupAt (tableOf (2 * n) table)) groups₀ x)
+Inv-loop table n bounds groups₀ x₀ groups x = (x ≤ n) × (length groups ≡ length groups₀) × (groups ≡ filled (groupAt (tableOf (2 * n) table)) groups₀ x)
 
 abbrev μ-loop : tie.MeasureT-loop
-μ-loop table n groups₀ x₀ groups x = n - x
+μ-loop table n bounds groups₀ x₀ groups x = n - x
 
 abbrev group : tie.Start Inv-loop μ-loop → ℕ → ℕ
 group s = groupAt (tableOf (2 * s .args .n) (now (s .args .table)))
