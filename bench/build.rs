@@ -1,6 +1,6 @@
 //! Tells the linker where the static library is, in the folder named by
 //! UTVPI_LIB_DIR or else in the repository's target/staticlib, and the benchmark
-//! the limits of a list, from the header.
+//! the limits of a list and the numbers of a line, from the header.
 
 use std::env;
 use std::fs;
@@ -13,7 +13,11 @@ fn main() {
     println!("cargo:rerun-if-changed={}", header.display());
     let text = fs::read_to_string(&header)
         .unwrap_or_else(|why| panic!("{} can't be read: {why}", header.display()));
-    for name in ["UTVPI_MOST_VARIABLES", "UTVPI_MOST_LINES"] {
+    for name in [
+        "UTVPI_MOST_VARIABLES",
+        "UTVPI_MOST_LINES",
+        "UTVPI_LINE_NUMBERS",
+    ] {
         let number = defined(&text, name)
             .unwrap_or_else(|| panic!("{} defines no number {name}", header.display()));
         println!("cargo:rustc-env={name}={number}");

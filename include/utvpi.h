@@ -88,6 +88,9 @@ extern "C" {
 #define UTVPI_MOST_LINES 4096
 #define UTVPI_MOST_REFUTATION 65536
 
+/* The numbers of a line. */
+#define UTVPI_LINE_NUMBERS 5
+
 /* The most stack that a call takes, in bytes. utvpi_check_model,
  * utvpi_check_refutation and utvpi_read_list hold the longest list there, however
  * short the one at hand is, and the first of them the longest model; the last part

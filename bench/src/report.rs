@@ -1,65 +1,67 @@
-//! What is printed: times, ratios of the library to the others, and a table.
+//! The table that is printed, in Markdown.
 
-use crate::ways::{Times, WAYS};
+use crate::families::Family;
+use crate::multiples::{best, milliseconds, multiple, shown, sum};
+use crate::timing::Times;
+use crate::ways::{LIBRARY, SAME_METHOD, THREE_LOOPS, WAYS};
 
-/// The library's time as a multiple of each other way's.
-pub type Multiples = [f64; WAYS.len() - 1];
-
-/// The multiples of the times of all lists together.
-pub fn together(lists: &[Times]) -> Multiples {
-    let mut sums = [0.0; WAYS.len()];
-    for times in lists {
-        for (sum, time) in sums.iter_mut().zip(times) {
-            *sum += time;
-        }
-    }
-    std::array::from_fn(|other| sums[0] / sums[other + 1])
+/// Some lists of a family: all, or those of one verdict.
+pub struct Row<'a> {
+    pub family: &'a Family,
+    pub name: String,
+    pub lists: Vec<Times>,
 }
 
-/// For each other way the greatest multiple of any list.
-pub fn worst(lists: &[Times]) -> Multiples {
-    std::array::from_fn(|other| {
-        let multiples = lists.iter().map(|times| times[0] / times[other + 1]);
-        multiples.fold(0.0, f64::max)
-    })
-}
-
-/// Prints the mean time of each way for some lists, and the multiples.
-pub fn print(what: &str, lists: &[Times]) {
-    println!("{what}:");
-    let (together, worst) = (together(lists), worst(lists));
-    for (way, (name, _)) in WAYS.iter().enumerate() {
-        let sum: f64 = lists.iter().map(|times| times[way]).sum();
-        print!("  {name:32} {} a list", shown(sum / lists.len() as f64));
-        if way > 0 {
-            print!("   ratio {:8.2}", together[way - 1]);
-        }
-        if way > 0 && lists.len() > 1 {
-            print!(", worst list {:8.2}", worst[way - 1]);
-        }
-        println!();
-    }
-}
-
-/// Seconds as a text of one width.
-fn shown(seconds: f64) -> String {
-    if seconds < 0.01 {
-        format!("{:8.1} µs", seconds * 1e6)
+/// A row for a family, and one for each verdict where its lists have both.
+pub fn rows<'a>(family: &'a Family, lists: &[(bool, Times)]) -> Vec<Row<'a>> {
+    let of = |verdict: bool| -> Vec<Times> {
+        let those = lists.iter().filter(|(holds, _)| *holds == verdict);
+        those.map(|(_, times)| *times).collect()
+    };
+    let (yes, no) = (of(true), of(false));
+    let all = [&yes[..], &no].concat();
+    let parts = if yes.is_empty() || no.is_empty() {
+        vec![("", all)]
     } else {
-        format!("{:8.1} ms", seconds * 1e3)
-    }
+        vec![(", all", all), (", can hold", yes), (", can't", no)]
+    };
+    let row = |(part, lists)| Row {
+        family,
+        name: format!("{}{part}", family.name),
+        lists,
+    };
+    parts.into_iter().map(row).collect()
 }
 
-/// Prints multiples as a table in Markdown.
-pub fn print_table(rows: &[(String, Multiples)]) {
-    println!("| Lists | Rounds | Row by row in place | Three nested loops |");
-    println!("|---|---|---|---|");
-    for (lists, multiples) in rows {
-        print!("| {lists} |");
-        for multiple in multiples {
-            let digits = usize::from(*multiple < 10.0);
-            print!(" {multiple:.digits$} |");
-        }
-        println!();
+pub fn print_head() {
+    let columns = [
+        "Variables",
+        "Lines",
+        "Lists",
+        "Count",
+        "Library, a list",
+        "Same method",
+        "Three loops",
+        "Best plain way",
+    ];
+    println!("| {} |", columns.join(" | "));
+    println!("|{}", "---|".repeat(columns.len()));
+}
+
+impl Row<'_> {
+    pub fn print(&self) {
+        let (sum, count) = (sum(&self.lists), self.lists.len());
+        let best = best(&sum);
+        println!(
+            "| {} | {} | {} | {count} | {} | {} | {} | {} ({}) |",
+            self.family.n,
+            self.family.lists[0].len(),
+            self.name,
+            milliseconds(sum[LIBRARY] / count as f64),
+            shown(multiple(&sum, SAME_METHOD)),
+            shown(multiple(&sum, THREE_LOOPS)),
+            shown(multiple(&sum, best)),
+            WAYS[best].name,
+        );
     }
 }

@@ -1,9 +1,11 @@
-//! The steps of a list's lines, and the buffers that an answer is written to.
+//! The steps of a list's lines. Variable x has the points 2x and, for its negative,
+//! 2x + 1.
+
+use crate::lines::Line;
 
 /// Stands for no walk.
 pub const NONE: i64 = i64::MAX;
 
-/// A step between points: variable x has 2x and, for its negative, 2x + 1.
 #[derive(Clone, Copy)]
 pub struct Step {
     pub from: usize,
@@ -12,51 +14,24 @@ pub struct Step {
     pub number: u32,
 }
 
-/// All that deciding is lent.
-pub struct Outputs {
-    pub model: Vec<i64>,
-    pub bounds: Vec<i64>,
-    pub groups: Vec<u32>,
-    pub refutation: Vec<u32>,
-    pub work: Vec<i64>,
-}
-
-impl Outputs {
-    pub fn new(n: usize) -> Outputs {
-        Outputs {
-            model: vec![0; n],
-            bounds: vec![0; 2 * n],
-            groups: vec![0; n],
-            refutation: vec![0; 4 + 4 * n],
-            work: vec![0; 16 * n * n + 64 * n + 64],
-        }
-    }
-
-    /// Fills all with a number that means nothing.
-    pub fn fill(&mut self) {
-        for numbers in [&mut self.model, &mut self.bounds, &mut self.work] {
-            numbers.fill(7);
-        }
-        for numbers in [&mut self.groups, &mut self.refutation] {
-            numbers.fill(7);
-        }
-    }
+/// The point of the negative.
+pub fn opposite(point: usize) -> usize {
+    point ^ 1
 }
 
 /// The lowest line that says 0 ≤ d with d below 0.
-pub fn false_line(list: &[i32]) -> Option<usize> {
-    list.chunks_exact(5)
-        .position(|line| line[0] == 0 && line[2] == 0 && line[4] < 0)
+pub fn false_line(list: &[Line]) -> Option<usize> {
+    list.iter()
+        .position(|&[a, _, b, _, d, ..]| a == 0 && b == 0 && d < 0)
 }
 
 /// The steps of a valid list.
-pub fn steps(list: &[i32]) -> Vec<Step> {
+pub fn steps(list: &[Line]) -> Vec<Step> {
     let point = |sign: i32, x: i32| 2 * x as usize + usize::from(sign < 0);
-    let mut steps = Vec::with_capacity(2 * list.len() / 5);
-    for (at, line) in list.chunks_exact(5).enumerate() {
-        let &[a, x, b, y, d] = line else { continue };
-        let (number, weight) = (2 * at as u32, i64::from(d));
-        let mut add = |from, to, weight, number| {
+    let mut steps = Vec::with_capacity(2 * list.len());
+    for (at, &[a, x, b, y, d, ..]) in list.iter().enumerate() {
+        let mut add = |from, to, weight, side| {
+            let (weight, number) = (i64::from(weight), (2 * at + side) as u32);
             steps.push(Step {
                 from,
                 to,
@@ -66,11 +41,11 @@ pub fn steps(list: &[i32]) -> Vec<Step> {
         };
         match (a, b) {
             (0, 0) => {}
-            (_, 0) => add(point(a, x), point(-a, x), 2 * weight, number),
-            (0, _) => add(point(b, y), point(-b, y), 2 * weight, number),
+            (_, 0) => add(point(a, x), point(-a, x), 2 * d, 0),
+            (0, _) => add(point(b, y), point(-b, y), 2 * d, 0),
             _ => {
-                add(point(a, x), point(-b, y), weight, number);
-                add(point(b, y), point(-a, x), weight, number + 1);
+                add(point(a, x), point(-b, y), d, 0);
+                add(point(b, y), point(-a, x), d, 1);
             }
         }
     }

@@ -1,0 +1,74 @@
+//! The library's functions.
+
+use crate::buffers::Buffers;
+use crate::lines::Line;
+
+extern "C" {
+    fn utvpi_decide(
+        n: u64,
+        list: *const i32,
+        list_len: usize,
+        model: *mut i64,
+        model_len: usize,
+        bounds: *mut i64,
+        bounds_len: usize,
+        groups: *mut u32,
+        groups_len: usize,
+        refutation: *mut u32,
+        refutation_len: usize,
+        work: *mut i64,
+        work_len: usize,
+    ) -> i64;
+    fn utvpi_check_refutation(
+        n: u64,
+        list: *const u8,
+        list_len: usize,
+        refutation: *const u8,
+        refutation_len: usize,
+    ) -> i64;
+}
+
+/// Decides a list that must not be refused.
+pub fn decide(n: usize, list: &[Line], out: &mut Buffers) -> i64 {
+    let list = list.as_flattened();
+    // The function stays within the lengths and keeps no pointer.
+    let result = unsafe {
+        utvpi_decide(
+            n as u64,
+            list.as_ptr(),
+            list.len(),
+            out.model.as_mut_ptr(),
+            out.model.len(),
+            out.bounds.as_mut_ptr(),
+            out.bounds.len(),
+            out.groups.as_mut_ptr(),
+            out.groups.len(),
+            out.refutation.as_mut_ptr(),
+            out.refutation.len(),
+            out.work.as_mut_ptr(),
+            out.work.len(),
+        )
+    };
+    assert!(result >= 0, "the library refuses with {result}");
+    result
+}
+
+/// Whether the checker accepts the refutation at the buffer's front.
+pub fn refutes(n: usize, list: &[Line], buffer: &[u32]) -> bool {
+    let count = 3 + buffer[1] as usize + buffer[2] as usize;
+    let numbers = list.as_flattened().iter();
+    let list: Vec<u8> = numbers.flat_map(|one| one.to_le_bytes()).collect();
+    let numbers = buffer[..count].iter();
+    let refutation: Vec<u8> = numbers.flat_map(|one| one.to_le_bytes()).collect();
+    // The function stays within the lengths and keeps no pointer.
+    let result = unsafe {
+        utvpi_check_refutation(
+            n as u64,
+            list.as_ptr(),
+            list.len(),
+            refutation.as_ptr(),
+            refutation.len(),
+        )
+    };
+    result == 0
+}
