@@ -4,7 +4,7 @@ use mathlib.Core.List.{List}
 use Prim.Native.Nat.{ℕ, zero, suc, _+_, _*_, _<_, _≤_}
 use native.Mathlib.Numerals.{add-one}
 use native.Mathlib.Omega.{arith}
-use lib.IntN.{ℤ, pos, negℤ, _-ℤ_}
+use lib.IntN.{ℤ, pos, negℤ}
 use lib.ListN.{length}
 use mir.Syntax.{w64}
 use mir.Val.{SFits}
@@ -53,9 +53,6 @@ pub plus-point : (x : ℕ) → 2 * x ≡ point x 0
 plus-point x = omega arith
 
 -- ---- numbers that fit
-pub minus-is : (v : ℤ) → pos 0 -ℤ v ≡ negℤ v
-minus-is v = simp ints (omega arith)
-
 pub minus-fits : (v : ℤ) → Within maxSum v → SFits w64 (negℤ v)
 minus-fits v h = simp ints (omega zs)
 

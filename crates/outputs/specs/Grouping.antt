@@ -26,6 +26,7 @@ use Rattle.answers.specs.Answers.{leastOf, boundAt, notAbove0, sameGroup}
 use Rattle.answers.specs.Meaning.{bound-least, bound-greatest}
 use Rattle.distances.specs.Stored.{stored}
 use Rattle.distances.specs.Read.{noWalk, distanceOf, Short, maxDistance}
+use Rattle.tables.specs.Sum.{minus-is}
 use Rattle.tables.specs.Table.{tableOf, MirroredTable, entry-back, halves-short, half-back}
 
 -- the half of the point p, from the bound of its variable: a plus point's is the greatest value, a minus point's the least negated
@@ -72,9 +73,6 @@ module _ (p : ℕ) (bound : ℤ) where
 
   pub half-minus : (p % 2 ≡ 0 → ⊥) → (bound ≡ absentLeast → ⊥) → pos 0 -ℤ bound ≡ halfBy p bound
   half-minus e q = minus-is bound ∙ sym (minus-point e ∙ ap (λ (t : Bool). cond t noWalk (negℤ bound)) (ne-eqZ bound absentLeast q))
-    where
-      minus-is : (z : ℤ) → pos 0 -ℤ z ≡ negℤ z
-      minus-is z = simp ints (omega arith)
 
   -- only the number that stands for no least value has no opposite
   pub half-fits : SFits w64 bound → (bound ≡ absentLeast → ⊥) → SFits w64 (pos 0 -ℤ bound)

@@ -4,7 +4,7 @@ use mathlib.Core.Bool.{Bool, true, false, _&&_}
 use mathlib.Core.List.{List}
 use Prim.Native.Nat.{ℕ, _*_, _<_}
 use native.Mathlib.Omega.{arith}
-use lib.IntN.{ℤ, pos, negℤ, _-ℤ_}
+use lib.IntN.{ℤ, pos, _-ℤ_}
 use lib.Signed.{leZ, ltZ}
 use mir.Syntax.{w64}
 use mir.Val.{SFits}
@@ -20,7 +20,7 @@ use Rattle.answers.specs.Answers.{leastOf, notAbove0}
 use Rattle.answers.specs.Verdict.{halvesOk}
 use Rattle.distances.specs.Stored.{stored}
 use Rattle.distances.specs.Read.{noWalk, distanceOf, Short, maxDistance, of-none, short-more}
-use Rattle.tables.specs.Sum.{read-back}
+use Rattle.tables.specs.Sum.{read-back, minus-is}
 use Rattle.tables.specs.Table.{tableOf, ShortTable, half-back}
 
 -- ---- whether there is a walk
@@ -37,10 +37,7 @@ least-none d s e = sym (ap leastOf (is-none d s e))
 
 pub least-some : (d : Distance) → (stored d ≡ noWalk → ⊥) → pos 0 -ℤ stored d ≡ leastOf d
 least-some none n = absurd (n refl)
-least-some (some z) n = minus z
-  where
-    minus : (z : ℤ) → pos 0 -ℤ z ≡ negℤ z
-    minus z = simp ints (omega arith)
+least-some (some z) n = minus-is z
 
 pub minus-fits : (z : ℤ) → Within maxDistance z → SFits w64 (pos 0 -ℤ z)
 minus-fits z h = simp ints (omega zs)

@@ -4,7 +4,7 @@ use mathlib.Core.Logic.{_⊎_, inl, inr}
 use mathlib.Core.Bool.{Bool, true, false, cond}
 use Prim.Native.Nat.{ℕ, _+_, _*_}
 use native.Mathlib.Omega.{arith}
-use lib.IntN.{ℤ, pos, negℤ, _+ℤ_}
+use lib.IntN.{ℤ, pos, negℤ, _+ℤ_, _-ℤ_}
 use lib.Signed.{ltZ}
 use mir.Syntax.{w64}
 use mir.Val.{SFits}
@@ -106,6 +106,10 @@ pub tightened-is : (d x y s : ℤ) → Short maxDistance (distanceOf x) → Shor
     → stored (minD (distanceOf d) (distanceOf s)) ≡ stored (minD (distanceOf d) (distanceOf x ⊞ distanceOf y))
 tightened-is d x y s hx hy e =
     ap (λ (a : Distance). stored (minD (distanceOf d) a)) (ap distanceOf e ∙ read-back _ (short-more (omega arith) (sum-short _ _ maxDistance maxDistance hx hy)))
+
+-- ---- a number negated, as the code computes it
+pub minus-is : (z : ℤ) → pos 0 -ℤ z ≡ negℤ z
+minus-is z = simp ints (omega arith)
 
 -- ---- halves
 pub half-none : (z : ℤ) → z ≡ noWalk → noWalk ≡ stored (halfD (distanceOf z))

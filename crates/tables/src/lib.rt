@@ -1,4 +1,4 @@
-// A table of distances read: an entry, by the row of its end or by that of its start; a point's half; and the tightened distance of two points.
+// A table of distances read by rows: the distance of two points, tightened or not, and a point's half.
 use distances::NO_WALK;
 use integers::halved;
 use steps::opposite_of;

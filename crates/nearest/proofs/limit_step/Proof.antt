@@ -14,8 +14,9 @@ use Rattle.walks.specs.Distance.{Distance, some, minD, _⊞_}
 use Rattle.walks.specs.Size.{within-more}
 use Rattle.distances.specs.Stored.{stored}
 use Rattle.distances.specs.Read.{distanceOf}
+use Rattle.tables.specs.Sum.{minus-is}
 use Rattle.tables.specs.Table.{tableOf}
-use Rattle.nearest.specs.Limit.{maxModel, byValue, plus-point, minus-is, minus-fits, minus-within, step-back}
+use Rattle.nearest.specs.Limit.{maxModel, byValue, plus-point, minus-fits, minus-within, step-back}
 use Rattle.nearest.proofs.limit_step.Statement.{statement}
 use Rattle.nearest.proofs.limit_step.Tie as tie
 

@@ -10,8 +10,8 @@ use Rattle.walks.specs.Distance.{minD}
 use Rattle.bounds.specs.Near.{atMost}
 use Rattle.distances.specs.Stored.{stored}
 use Rattle.distances.specs.Read.{noWalk, distanceOf}
-use Rattle.tables.specs.Sum.{maxSum, short-number}
-use Rattle.nearest.specs.Limit.{minus-is, minus-fits}
+use Rattle.tables.specs.Sum.{maxSum, short-number, minus-is}
+use Rattle.nearest.specs.Limit.{minus-fits}
 use Rattle.nearest.specs.Value.{high-back, near-none, near-low-end, near-high-end}
 use Rattle.nearest.proofs.nearest_value.Statement.{statement}
 use Rattle.nearest.proofs.nearest_value.Tie as tie
