@@ -214,11 +214,10 @@ int64_t utvpi_check_refutation(uint64_t n, const uint8_t *list, size_t list_len,
  * are in numbers.
  *
  * What is kept between two numbers is this struct, and nothing else: it may be
- * stored and used again later, and a copy of it goes on from the same place. It is
- * ten numbers with nothing between them, which are the checker's own and best left
- * alone. Whatever bytes it holds, the calls return, and what they return is fixed
- * by them: good is 1 as long as nothing was wrong, and any other number there
- * counts as 0; a struct with larger numbers than those taken can have left makes
+ * stored and used again later, and a copy of it goes on from the same place. Its
+ * ten numbers are the checker's own and best left alone. Whatever they are, the
+ * calls return, and what they return is fixed by them: the byte good is 1 as long
+ * as nothing was wrong, and any other number there counts as 0; a struct with larger numbers than those taken can have left makes
  * the refutation wrong, at the end with k = 0. Of a struct that no call returned
  * the result says nothing else.
  *
@@ -227,7 +226,7 @@ int64_t utvpi_check_refutation(uint64_t n, const uint8_t *list, size_t list_len,
 typedef struct utvpi_progress {
     size_t read, kind, p, q, u, here;
     int64_t first, second;
-    uint64_t good;
+    uint8_t good;
     size_t wrong;
 } utvpi_progress;
 

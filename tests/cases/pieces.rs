@@ -21,8 +21,9 @@ const TOO_MANY: usize = MOST_REFUTATION + MOST_REFUTATION / 16;
 /// The largest sum of so many steps: a line of one variable counts twice.
 const LARGEST_SUM: i64 = MOST_REFUTATION as i64 * 2 * LARGEST_BOUND;
 
-/// A state as it is stored while no checker runs: its numbers, eight bytes each, as
-/// they stand in the struct.
+/// A state as it is stored while no checker runs: its numbers as they stand in the
+/// struct, eight bytes each, but for `good`, which is one byte before seven that
+/// hold nothing.
 type Stored = [u8; size_of::<Progress>()];
 
 fn store(kept: Progress) -> Stored {
@@ -40,7 +41,7 @@ fn store(kept: Progress) -> Stored {
     } = kept;
     let counts = [read, kind, p, q, u, here].map(|number| (number as u64).to_le_bytes());
     let sums = [first, second].map(i64::to_le_bytes);
-    let end = [good, wrong as u64].map(u64::to_le_bytes);
+    let end = [u64::from(good), wrong as u64].map(u64::to_le_bytes);
     let bytes = [counts.concat(), sums.concat(), end.concat()].concat();
     bytes.try_into().unwrap()
 }
@@ -58,7 +59,7 @@ fn restore(stored: &Stored) -> Progress {
         here: count(5),
         first: sum(6),
         second: sum(7),
-        good: number(8),
+        good: stored[8 * 8],
         wrong: count(9),
     }
 }
@@ -443,18 +444,7 @@ fn wild_sum(chance: &mut Chance) -> i64 {
 }
 
 /// Numbers beside 0 and 1, which every call takes for 0.
-const NEITHER: [u64; 10] = [
-    2,
-    3,
-    128,
-    255,
-    256,
-    257,
-    u32::MAX as u64,
-    (1 << 32) + 1,
-    1 << 63,
-    u64::MAX,
-];
+const NEITHER: [u8; 6] = [2, 3, 127, 128, 254, u8::MAX];
 
 /// The state with few of its numbers changed, or many, or all. At times the
 /// counts fit again, the walk is closed and nothing was wrong.
@@ -481,9 +471,9 @@ fn made_wild(chance: &mut Chance, mut kept: Progress) -> Progress {
     }
     if chance.one_in(often) {
         kept.good = match chance.below(4) {
-            0 => chance.next(),
+            0 => chance.next() as u8,
             1 => chance.pick(&NEITHER),
-            _ => chance.below(2) as u64,
+            _ => chance.below(2) as u8,
         };
     }
     if chance.one_in(3) {
@@ -507,7 +497,7 @@ fn is_good(kept: &Progress) -> bool {
 /// The same state, with 0 for a number in `good` that is neither 0 nor 1.
 fn read_as(kept: Progress) -> Progress {
     Progress {
-        good: u64::from(is_good(&kept)),
+        good: u8::from(is_good(&kept)),
         ..kept
     }
 }
@@ -614,7 +604,7 @@ fn any_state() {
 
         // The same after something was wrong.
         let wrong = Progress {
-            good: chance.pick(&[0, 0, 2, 255, u64::MAX]),
+            good: chance.pick(&[0, 0, 2, 128, u8::MAX]),
             ..wild
         };
         let after = answer_to(take_all(wrong, &list, &more), n, &list);
@@ -643,14 +633,14 @@ fn any_state() {
 /// turns from accepted to a no, at the place kept, as it does with 0.
 #[test]
 fn any_number_for_good() {
-    assert_eq!(size_of::<Progress>(), 80, "ten numbers of eight bytes");
+    assert_eq!(size_of::<Progress>(), 80, "ten places of eight bytes");
     let list = CASE_4.concat();
     let numbers = [2, 2, 2, 0, 3, 4, 7];
     for cut in 0..=numbers.len() {
         let (read, left) = numbers.split_at(cut);
         let kept = take_all(library::refutation_begin(), &list, read);
         assert_eq!(kept.good, 1);
-        let ends = |good: u64| {
+        let ends = |good: u8| {
             let end = take_all(Progress { good, ..kept }, &list, left);
             answer_to(end, 3, &list)
         };
@@ -684,7 +674,7 @@ fn any_bytes() {
             bytes[..8].copy_from_slice(&(chance.next() % (most + 2)).to_le_bytes());
         }
         let kept = restore(&bytes);
-        assert_eq!(store(kept), bytes);
+        assert_eq!(restore(&store(kept)), kept);
         let most = 2 * LARGEST_BOUND as u128 * kept.read as u128;
         let is_sum = |sum: i64| u128::from(sum.unsigned_abs()) <= most;
         let counts = [kept.p, kept.q];

@@ -13,7 +13,7 @@ pub struct Progress {
     pub here: usize,
     pub first: i64,
     pub second: i64,
-    pub good: u64,
+    pub good: u8,
     pub wrong: usize,
 }
 

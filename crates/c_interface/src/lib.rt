@@ -211,7 +211,7 @@ pub extern "C" fn utvpi_decide(
 }
 
 // What C keeps between two numbers of a refutation that arrives in pieces: the checker's own numbers. Every value of each
-// is defined: good is 1 as long as nothing was wrong, and any other number says that something was.
+// is defined: the byte good is 1 as long as nothing was wrong, and any other number says that something was.
 #[repr(C)]
 pub struct Kept {
     pub read: usize,
@@ -222,7 +222,7 @@ pub struct Kept {
     pub here: usize,
     pub first: i64,
     pub second: i64,
-    pub good: u64,
+    pub good: u8,
     pub wrong: usize,
 }
 
@@ -245,7 +245,7 @@ fn progress_of(kept: Kept) -> Progress
 }
 
 // The number by which C is told whether nothing was wrong.
-fn good_number(good: bool) -> u64
+fn good_number(good: bool) -> u8
     ensures { λ r. ⌜ r ≡ goodNumber good ⌝ }
 {
     if good { 1 } else { 0 }
