@@ -11,8 +11,9 @@ ghost use Rattle.closed_walks.specs.Back.{ClosesReady, FoundIf, SearchRe
 // Numbers of a row with marks stay above this.
 const LOWEST_MARK: i64 = -1_000_000_000_000_000;
 
-// One step of a pass that leaves marks: p and q are points of the row at `place`, whose marks stand behind it.
-fn mark_step(
+// One step of a pass that leaves marks: p and q are points of the row at `place`, whose marks stand behind it. Whether it
+// lowers q.
+pub fn mark_step(
     work: &mut [i64],
     place: usize,
     size: usize,
@@ -20,7 +21,7 @@ fn mark_step(
     q: usize,
     weight: i64,
     mark: i64,
-)
+) -> bool
     requires { ⌜ MarkReady place size p q weight (now work) ⌝ }
     ensures { λ _. ⌜ Marked place size (now (work .entry)) (now (work .exit)) ⌝ }
 {
@@ -28,14 +29,15 @@ fn mark_step(
     let entry = work[place + q];
     let lower = sum < entry;
     if !lower {
-        return;
+        return false;
     }
     let small = LOWEST_MARK < sum;
     if !small {
-        return;
+        return false;
     }
     work[place + q] = sum;
     work[place + size + q] = mark;
+    true
 }
 
 // A pass that leaves at each point that it lowers the number of the step.
@@ -64,7 +66,7 @@ fn mark_passes(work: &mut [i64], count: usize, place: usize, size: usize, passes
 }
 
 // The number of a step that stands at a place as a mark, or `count` where it is no such number.
-fn mark_at(work: &[i64], at: usize, count: usize) -> usize
+pub fn mark_at(work: &[i64], at: usize, count: usize) -> usize
     requires { ⌜ at < length (now work) ⌝ }
     ensures { λ r. ⌜ r ≤ count ⌝ }
 {
