@@ -10,13 +10,16 @@ use refuting::copy_numbers;
 use refuting::write_head;
 use steps::NamedStep;
 use steps::step_numbered;
-ghost use Prim.Native.Nat.{_+_, _*_, _<_, _≤_};
-ghost use lib.ListN.{length};
+ghost use Prim.Native.Nat.{_*_, _<_, _≤_};
 ghost use Rattle.lines.specs.Limits.{maxLines};
 ghost use Rattle.refuting.specs.Shortest.{walkStart};
 ghost use Rattle.closed_refutation.specs.Passes.{PassReady, Passed, BackReady, EndsAt};
 ghost use Rattle.closed_refutation.specs.Collected.{CollectReady, Collected};
 ghost use Rattle.closed_refutation.specs.AtOnce.{AtOnceReady, AtOnce};
+
+// The most passes: they show a negative closed walk in nearly all lists that have one, and where they do not, the table
+// over the steps laid out, whose passes are faster, finds it.
+const PASSES: usize = 16;
 
 // The step with a number, in a pass: the point that it lowers, or else the last one before.
 fn mark_numbered(list: &[i32], n: usize, work: &mut [i64], number: usize, last: usize) -> usize
@@ -146,8 +149,8 @@ fn refuted_from(list: &[i32], n: usize, p: usize, refutation: &mut [u32], work: 
     true
 }
 
-// Whether the list is refuted so, after any of as many passes as points, from 0 everywhere. The passes end where one
-// changes nothing: no closed walk is negative then.
+// Whether the list is refuted so, after any of some passes, from 0 everywhere. They end where one changes nothing: no
+// closed walk is negative then.
 pub fn refuted_at_once(list: &[i32], n: usize, refutation: &mut [u32], work: &mut [i64]) -> bool
     requires { ⌜ AtOnceReady n (now list) (now refutation) (now work) ⌝ }
     ensures { λ r. ⌜ AtOnce 0 n (now (list .entry)) (now (refutation .entry)) (now (work .entry)) (now (refutation .exit)) (now (work .exit)) r ⌝ }
@@ -158,8 +161,8 @@ pub fn refuted_at_once(list: &[i32], n: usize, refutation: &mut [u32], work: &mu
     let size = 2 * n;
     let marks = 2 * size;
     zero_row(&mut work[0..marks], marks);
-    let mut k = 0;
-    while k < size {
+    let mut left = PASSES;
+    while 0 < left {
         let p = mark_list(list, n, work);
         if size <= p {
             return false;
@@ -167,7 +170,7 @@ pub fn refuted_at_once(list: &[i32], n: usize, refutation: &mut [u32], work: &mu
         if refuted_from(list, n, p, refutation, work) {
             return true;
         }
-        k += 1;
+        left -= 1;
     }
     false
 }

@@ -123,29 +123,20 @@ fn first_closed(work: &[i64], count: usize, place: usize, size: usize) -> usize
     size
 }
 
-// A point with a negative closed walk, or the number of points where none is found: the marks are followed after so many
-// passes, from 0 everywhere, and so many again.
+// A point with a negative closed walk, or the number of points where none is found: the marks of so many passes, from 0
+// everywhere, are followed.
 pub fn negative_point(
     work: &mut [i64],
     count: usize,
     place: usize,
     size: usize,
     passes: usize,
-    turns: usize,
 ) -> usize
     requires { ⌜ SearchReady count place size (now work) ⌝ }
     ensures { λ r. ⌜ PointSearched count place size (now (work .entry)) (now (work .exit)) r ⌝ }
 {
     let end = place + size;
     zero_row(&mut work[place..end], size);
-    let mut k = 0;
-    while k < turns {
-        mark_passes(work, count, place, size, passes);
-        let p = first_closed(work, count, place, size);
-        if p < size {
-            return p;
-        }
-        k += 1;
-    }
-    size
+    mark_passes(work, count, place, size, passes);
+    first_closed(work, count, place, size)
 }

@@ -1,13 +1,11 @@
 -- `closed_refutation::number_back` meets its contract: the number is handed over where its step was seen to end there.
 use mathlib.Core.Path.{_≡_, sym, ap, _∙_}
-use native.Mathlib.Omega.{arith}
 use borrow.Author.Needs.{needs}
 use denote.Ref.{now}
 use Rattle.lines.specs.Limits.{maxVariables}
 use Rattle.lines.specs.Valid.{lines-more}
 use Rattle.steps.specs.declared.Step.{Step}
 use Rattle.steps.specs.declared.NamedStep.the-variants.{Found}
-use Rattle.steps.specs.Step.{stepNumbered}
 use Rattle.closed_refutation.specs.Passes.{ends-nowhere}
 use Rattle.closed_refutation.proofs.number_back.Statement.{statement}
 use Rattle.closed_refutation.proofs.number_back.Tie as tie

@@ -15,10 +15,10 @@ use Rattle.closed_refutation.proofs.refuted_at_once.Statement.{statemen
 use Rattle.closed_refutation.proofs.refuted_at_once.Tie as tie
 
 abbrev Inv-loop : tie.InvT-loop
-Inv-loop list n refutation₀ work₀ size marks k₀ refutation work k = (length refutation ≡ length refutation₀) × (length work ≡ length work₀) × (refutation ≡ refutation₀) × OnTheWay n work₀ work
+Inv-loop list n refutation₀ work₀ size marks left₀ refutation work left = (length refutation ≡ length refutation₀) × (length work ≡ length work₀) × (refutation ≡ refutation₀) × OnTheWay n work₀ work
 
 abbrev μ-loop : tie.MeasureT-loop
-μ-loop list n refutation₀ work₀ size marks k₀ refutation work k = size - k
+μ-loop list n refutation₀ work₀ size marks left₀ refutation work left = left
 
 returns : tie.Need-returns Inv-loop μ-loop
 returns c = let s = c .before .before in not-at-once _ _ _ _ _ _ _ refl (scratch-none 0 (walkEnd (s .args .n)) (now (s .args .work)))
