@@ -20,7 +20,7 @@ use Rattle.steps.specs.declared.Step.{Step}
 use Rattle.steps.specs.Step.{maxWeight}
 use Rattle.steps.specs.Walk.{total}
 use Rattle.walks.specs.Distance.{Distance, none, some, _⊑_, le-some}
-use Rattle.walks.specs.Row.{best}
+use Rattle.walks.specs.Row.{WithinPoints, best}
 use Rattle.walks.specs.Reach.{Walk, walk-none}
 use Rattle.walks.specs.Least.{best-short}
 use Rattle.walks.specs.Negative.{notBelow0}
@@ -49,6 +49,20 @@ pub record Back (count size p : ℕ) (w : List ℤ) (k at : ℕ) (sum : ℤ) : T
   pub count-is : length path ≡ k
   pub sum-is : total path ≡ sum
   pub small : Within (k * maxWeight) sum
+
+-- a closed walk of negative sum, with at most as many steps as points: its point's distance to itself is below 0
+pub short-negative : (E : List Step) (N : ℕ) → WithinPoints N E → (p : ℕ) → p < N → (path : List Step) → Walk E p path p → length path ≤ N → total path ⋖ pos 0 → notBelow0 (best E N p p) ≡ false
+short-negative E N within p low path walk few negative = go (best E N p p) refl
+  where
+    least : best E N p p ⊑ some (total path)
+    least = best-short E N within p p low path walk few
+
+    below : (z s : ℤ) → z ⩽ s → s ⋖ pos 0 → leZ (pos 0) z ≡ false
+    below z s = simp ints (omega arith)
+
+    go : (d : Distance) → best E N p p ≡ d → notBelow0 d ≡ false
+    go none q = absurd ((rw q at least) .le)
+    go (some z) q = below z (total path) (le-some (rw q at least)) negative
 
 -- p's distance to itself is below 0
 abbrev Found : ℕ → ℕ → ℕ → List ℤ → Type 0
@@ -98,20 +112,9 @@ module _ (count place size p : ℕ) (w : List ℤ) (r : ClosesReady count place 
 
     -- it is closed, and its sum is below 0
     pub back-found : at ≡ p → sum ⋖ pos 0 → Found count size p w
-    back-found e h = go (best (stepsIn count w) size p p) refl
-      where
-        closed : Walk (stepsIn count w) p (c .path) p
-        closed = subst (λ (u : ℕ). Walk (stepsIn count w) u (c .path) p) e (c .walk)
-
-        least : best (stepsIn count w) size p p ⊑ some sum
-        least = rw (c .sum-is) at (best-short (stepsIn count w) size (within-steps (r .steps)) p p (r .low) (c .path) closed (omega (arith, c .count-is, c .at-most)))
-
-        below : (z s : ℤ) → z ⩽ s → s ⋖ pos 0 → leZ (pos 0) z ≡ false
-        below z s = simp ints (omega arith)
-
-        go : (d : Distance) → best (stepsIn count w) size p p ≡ d → notBelow0 d ≡ false
-        go none q = absurd ((rw q at least) .le)
-        go (some z) q = below z sum (le-some (rw q at least)) h
+    back-found e h =
+        short-negative (stepsIn count w) size (within-steps (r .steps)) p (r .low) (c .path) (subst (λ (u : ℕ). Walk (stepsIn count w) u (c .path) p) e (c .walk)) (omega (arith, c .count-is, c .at-most))
+        (rw (c .sum-is) h)
 
 -- ---- the search for a point, over marks that may be anything
 pub record SearchReady (count place size : ℕ) (w : List ℤ) : Type 0 where

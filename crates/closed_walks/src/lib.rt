@@ -11,8 +11,9 @@ ghost use Rattle.closed_walks.specs.Back.{ClosesReady, FoundIf, SearchRe
 // Numbers of a row with marks stay above this.
 const LOWEST_MARK: i64 = -1_000_000_000_000_000;
 
-// One step of a pass that leaves marks: p and q are points of the row at `place`, whose marks stand behind it.
-fn mark_step(
+// One step of a pass that leaves marks: p and q are points of the row at `place`, whose marks stand behind it. Whether it
+// lowers q.
+pub fn mark_step(
     work: &mut [i64],
     place: usize,
     size: usize,
@@ -20,7 +21,7 @@ fn mark_step(
     q: usize,
     weight: i64,
     mark: i64,
-)
+) -> bool
     requires { ⌜ MarkReady place size p q weight (now work) ⌝ }
     ensures { λ _. ⌜ Marked place size (now (work .entry)) (now (work .exit)) ⌝ }
 {
@@ -28,14 +29,15 @@ fn mark_step(
     let entry = work[place + q];
     let lower = sum < entry;
     if !lower {
-        return;
+        return false;
     }
     let small = LOWEST_MARK < sum;
     if !small {
-        return;
+        return false;
     }
     work[place + q] = sum;
     work[place + size + q] = mark;
+    true
 }
 
 // A pass that leaves at each point that it lowers the number of the step.
@@ -64,7 +66,7 @@ fn mark_passes(work: &mut [i64], count: usize, place: usize, size: usize, passes
 }
 
 // The number of a step that stands at a place as a mark, or `count` where it is no such number.
-fn mark_at(work: &[i64], at: usize, count: usize) -> usize
+pub fn mark_at(work: &[i64], at: usize, count: usize) -> usize
     requires { ⌜ at < length (now work) ⌝ }
     ensures { λ r. ⌜ r ≤ count ⌝ }
 {
@@ -121,29 +123,20 @@ fn first_closed(work: &[i64], count: usize, place: usize, size: usize) -> usize
     size
 }
 
-// A point with a negative closed walk, or the number of points where none is found: the marks are followed after so many
-// passes, from 0 everywhere, and so many again.
+// A point with a negative closed walk, or the number of points where none is found: the marks of so many passes, from 0
+// everywhere, are followed.
 pub fn negative_point(
     work: &mut [i64],
     count: usize,
     place: usize,
     size: usize,
     passes: usize,
-    turns: usize,
 ) -> usize
     requires { ⌜ SearchReady count place size (now work) ⌝ }
     ensures { λ r. ⌜ PointSearched count place size (now (work .entry)) (now (work .exit)) r ⌝ }
 {
     let end = place + size;
     zero_row(&mut work[place..end], size);
-    let mut k = 0;
-    while k < turns {
-        mark_passes(work, count, place, size, passes);
-        let p = first_closed(work, count, place, size);
-        if p < size {
-            return p;
-        }
-        k += 1;
-    }
-    size
+    mark_passes(work, count, place, size, passes);
+    first_closed(work, count, place, size)
 }

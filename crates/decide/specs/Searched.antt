@@ -35,6 +35,8 @@ use Rattle.distance_table.specs.Made.{TableMade}
 use Rattle.refutation.specs.Progress.{headSize}
 use Rattle.refuting.specs.Shortest.{walkStart}
 use Rattle.refuting.specs.Refutation.{ClosedReady, HalvesReady, RefutationWritten}
+use Rattle.flat_steps.specs.Scratch.{Scratch}
+use Rattle.closed_refutation.specs.AtOnce.{AtOnceReady, RefutedAtOnce}
 
 -- behind rows, table and walks
 abbrev pub usedRoom : ℕ → ℕ
@@ -120,6 +122,30 @@ module _ (n : ℕ) (L : List ℤ) (R : List ℕ) (w : List ℤ) (a : SearchReady
           go : (b : Bool) → hasFalse (linesOf L) ≡ b → b ≡ true
           go true z = refl
           go false z = absurd (omega (arith, false-none L z, e))
+
+  pub at-once-ready : AtOnceReady n L R w
+  at-once-ready = record { few = ok .variables; valid = ok .lines; lines = ok .count; room = omega (arith, a .room); work-room = a .work-room }
+
+  -- refuted at once
+  pub by-at-once : hasFalse (linesOf L) ≡ false → (R′ : List ℕ) (w₁ : List ℤ) → RefutedAtOnce n L R w R′ w₁ → Searched n L R w R′ w₁ true
+  by-at-once clear R′ w₁ f =
+      record {
+        verdict = no-by-walk n (linesOf L) clear (f .negative);
+        on-no = λ _. due-written n L R w R′ w₁ 1 (λ z. omega arith) (kind-negative n (linesOf L) clear (f .negative)) (f .written);
+        on-yes = λ z. never (cc);
+        same-length = f .written .same-length;
+        behind = f .written .behind;
+      }
+
+  -- not at once: what the search leaves from there on
+  module _ (R₁ : List ℕ) (w₁ : List ℤ) (k : (R₁ ≡ R) × Scratch 0 (usedRoom n) w w₁) where
+    pub search-after : SearchReady n L R₁ w₁
+    search-after = record { valid = a .valid; room = rw (k .0) (a .room); work-room = omega (arith, a .work-room, k .1 .same-length) }
+
+    pub searched-after : (R′ : List ℕ) (w′ : List ℤ) (r : Bool) → Searched n L R₁ w₁ R′ w′ r → Searched n L R w R′ w′ r
+    searched-after R′ w′ r f =
+        let g : Searched n L R w₁ R′ w′ r = subst (λ (x : List ℕ). Searched n L x w₁ R′ w′ r) (k .0) f in
+        record { verdict = g .verdict; on-no = g .on-no; on-yes = g .on-yes; same-length = g .same-length ∙ k .1 .same-length; behind = g .behind ∙ k .1 .behind }
 
   module _ (clear : hasFalse (linesOf L) ≡ false) (w₁ : List ℤ) (u : ℕ) (d : TableMade E m w w₁ u) where
     behind-table : drop (usedRoom n) w₁ ≡ drop (usedRoom n) w

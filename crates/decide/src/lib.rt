@@ -3,6 +3,7 @@ use answering::write_answers;
 use buffers::clear;
 use buffers::decide_validity;
 use buffers::work_room;
+use closed_refutation::refuted_at_once;
 use lines::Refusal;
 use lines::Validity;
 use lines::limits::LINE_SIZE;
@@ -26,9 +27,9 @@ pub enum Answer {
     Refused(Refusal),
 }
 
-// Whether walks refute the list: a closed walk of negative sum, else two between a point and its opposite. If so, the
-// refutation is written; else the table of distances stands in the work area.
-fn refuted_by_walks(list: &[i32], n: usize, refutation: &mut [u32], work: &mut [i64]) -> bool
+// Whether the table refutes the list: a closed walk of negative sum, else two walks between a point and its opposite. If
+// so, the refutation is written; else the table of distances stands in the work area.
+fn refuted_by_table(list: &[i32], n: usize, refutation: &mut [u32], work: &mut [i64]) -> bool
     requires { ⌜ SearchReady n (now list) (now refutation) (now work) × (hasFalse (linesOf (now list)) ≡ false) ⌝ }
     ensures { λ r. ⌜ Searched n (now (list .entry)) (now (refutation .entry)) (now (work .entry)) (now (refutation .exit)) (now (work .exit)) r ⌝ }
 {
@@ -45,6 +46,17 @@ fn refuted_by_walks(list: &[i32], n: usize, refutation: &mut [u32], work: &mut [
         return true;
     }
     false
+}
+
+// Whether walks refute the list: at once by a closed walk of negative sum that a few passes show, else by the table.
+fn refuted_by_walks(list: &[i32], n: usize, refutation: &mut [u32], work: &mut [i64]) -> bool
+    requires { ⌜ SearchReady n (now list) (now refutation) (now work) × (hasFalse (linesOf (now list)) ≡ false) ⌝ }
+    ensures { λ r. ⌜ Searched n (now (list .entry)) (now (refutation .entry)) (now (work .entry)) (now (refutation .exit)) (now (work .exit)) r ⌝ }
+{
+    if refuted_at_once(list, n, refutation, work) {
+        return true;
+    }
+    refuted_by_table(list, n, refutation, work)
 }
 
 // Whether the list is refuted: by its lowest false line, else by walks.

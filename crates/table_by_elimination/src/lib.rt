@@ -1,6 +1,6 @@
 // The table of distances by elimination. The steps of the list are laid at the front of the work area, turned round; a
-// few passes over the row of 0s settle most lists that can hold, and the row is a potential then; the marks of a few
-// passes show most that can't. Then elimination on reduced weights.
+// few passes over the row of 0s settle most lists that can hold, and the row is a potential then. Then elimination on
+// reduced weights.
 use closed_walks::negative_point;
 use distance_table::distance_table;
 use finished_rows::all_rows;
@@ -21,9 +21,6 @@ ghost use Rattle.table_by_elimination.specs.Laid.{RoomReady, Laid};
 
 // So many passes are a few.
 const SOON: usize = 8;
-
-// So often the marks of a few passes are followed.
-const TURNS: usize = 3;
 
 // The rows of all points by elimination, where no closed walk is negative. The potential stands first in the table.
 fn make(work: &mut [i64], count: usize, pot: usize, size: usize)
@@ -50,7 +47,7 @@ fn table_late(list: &[i32], n: usize, work: &mut [i64], count: usize) -> usize
         make(work, count, pot, size);
         return size;
     }
-    let p = negative_point(work, count, start, size, size, 1);
+    let p = negative_point(work, count, start, size, size);
     if p < size {
         return p;
     }
@@ -77,10 +74,6 @@ fn table_in_room(list: &[i32], n: usize, work: &mut [i64]) -> usize
     if no_negative(work, count, start, size, passes) {
         make(work, count, pot, size);
         return size;
-    }
-    let p = negative_point(work, count, start, size, SOON, TURNS);
-    if p < size {
-        return p;
     }
     table_late(list, n, work, count)
 }

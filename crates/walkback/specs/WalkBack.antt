@@ -100,7 +100,7 @@ module _ (E : List Step) (N u : ℕ) where
           ∙ take-length (storedRow (rowAt E N u k)))
 
 -- ---- one number more, in front of what is written
-set-last : (w ys : List ℤ) (s : ℕ) (z : ℤ) → s < length w → set (take (s + 1) w ++ ys) s z ≡ take s w ++ (z ∷ ys)
+pub set-last : (w ys : List ℤ) (s : ℕ) (z : ℤ) → s < length w → set (take (s + 1) w ++ ys) s z ≡ take s w ++ (z ∷ ys)
 set-last w ys s z h =
     let e : s + 1 ≡ suc s = omega arith in
     ap (λ (xs : List ℤ). set (xs ++ ys) s z) (ap (λ (m : ℕ). take m w) e ∙ take-suc w s (pos 0) h)

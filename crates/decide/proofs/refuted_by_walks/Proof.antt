@@ -1,61 +1,11 @@
--- `decide::refuted_by_walks` meets its contract: a closed walk of negative sum, else two walks whose halves sum below 0, else neither.
-use native.Mathlib.Omega.{arith}
+-- `decide::refuted_by_walks` meets its contract: the list is refuted at once, or the table says.
 use borrow.Author.Needs.{needs}
-use Rattle.decide.specs.Searched.{part-is, table-ready, short, closed-ready, by-walk, halves-ready, by-halves, by-none}
+use Rattle.decide.specs.Searched.{at-once-ready, by-at-once, search-after, searched-after}
 use Rattle.decide.proofs.refuted_by_walks.Statement.{statement}
 use Rattle.decide.proofs.refuted_by_walks.Tie as tie
 
-table-by-elimination-requires : tie.Need-table-by-elimination-requires
-table-by-elimination-requires c κs = table-ready _ _ _ _ (c .before .before .pre .0)
-
--- the table is made, or a closed walk of negative sum is known
-module _ (d : tie.After-table-by-elimination) where
-  abbrev s : tie.Start
-  s = d .before .before .before
-
-write-closed-requires : tie.Need-write-closed-requires
-write-closed-requires c κs =
-    let t = c .before .before in
-    let d = t .before .before in
-    closed-ready _ _ _ _ (s d .pre .0) (s d .pre .1) _ _ (d .table-by-elimination .ensures) (t .if1 .taken)
-
-returns : tie.Need-returns
-returns c =
-    let k = c .before .before .before in
-    let t = k .before .before .before in
-    let d = t .before .before in
-    by-walk _ _ _ _ (s d .pre .0) (s d .pre .1) _ _ (d .table-by-elimination .ensures) (t .if1 .taken) _ _ (k .write-closed .ensures)
-
-first-bad-requires : tie.Need-first-bad-requires
-first-bad-requires c κs =
-    let e = c .before .before in
-    let d = e .before .before in
-    rw (part-is (s d .args .n)) (short _ _ _ _ (s d .pre .0) (s d .pre .1) _ _ (d .table-by-elimination .ensures) (omega (arith, e .if1 .left)))
-
-write-halves-requires : tie.Need-write-halves-requires
-write-halves-requires c κs =
-    let t = c .before .before in
-    let b = t .before in
-    let e = b .before .before .before in
-    let d = e .before .before in
-    halves-ready _ _ _ _ (s d .pre .0) (s d .pre .1) _ _ (d .table-by-elimination .ensures) (omega (arith, e .if1 .left)) _ (rw (part-is (s d .args .n)) at (b .first-bad .ensures)) (t .if2 .taken)
-
-returns-2 : tie.Need-returns-2
-returns-2 c =
-    let k = c .before .before .before in
-    let t = k .before .before .before in
-    let b = t .before in
-    let e = b .before .before .before in
-    let d = e .before .before in
-    by-halves _ _ _ _ (s d .pre .0) (s d .pre .1) _ _ (d .table-by-elimination .ensures) (omega (arith, e .if1 .left)) _ (rw (part-is (s d .args .n)) at (b .first-bad .ensures)) (t .if2 .taken) _ _
-    (k .write-halves .ensures)
-
-returns-3 : tie.Need-returns-3
-returns-3 c =
-    let b = c .before in
-    let e = b .before .before .before in
-    let d = e .before .before in
-    by-none _ _ _ _ (s d .pre .0) (s d .pre .1) _ _ (d .table-by-elimination .ensures) (omega (arith, e .if1 .left)) _ (rw (part-is (s d .args .n)) at (b .first-bad .ensures)) (omega (arith, c .if2 .left))
+refuted-at-once-requires : tie.Need-refuted-at-once-requires
+refuted-at-once-requires c κs = at-once-ready _ _ _ _ (c .before .before .before .pre .0)
 
 same-length : tie.Need-same-length
 same-length c = search needs
@@ -63,37 +13,46 @@ same-length c = search needs
 same-length-2 : tie.Need-same-length-2
 same-length-2 c = search needs
 
+returns : tie.Need-returns
+returns c =
+    let f = c .before .before .before .before in
+    let s = f .before .before .before .before in
+    by-at-once _ _ _ _ (s .pre .0) (s .pre .1) _ _ (f .refuted-at-once .ensures .on-yes (c .if1 .taken))
+
+-- not at once
+module _ (e : tie.Else1) where
+  abbrev f : tie.After-refuted-at-once
+  f = e .before .before .before .before
+
+  abbrev s : tie.Start
+  s = f .before .before .before .before
+
+refuted-by-table-requires : tie.Need-refuted-by-table-requires
+refuted-by-table-requires c κs =
+    let e = c .before .before in
+    (search-after _ _ _ _ (s e .pre .0) _ _ (f e .refuted-at-once .ensures .on-no (e .if1 .left)), s e .pre .1)
+
 same-length-3 : tie.Need-same-length-3
 same-length-3 c = search needs
 
 same-length-4 : tie.Need-same-length-4
 same-length-4 c = search needs
 
-same-length-5 : tie.Need-same-length-5
-same-length-5 c = search needs
+returns-2 : tie.Need-returns-2
+returns-2 c =
+    let t = c .before .before .before in
+    let e = t .before .before .before in
+    searched-after _ _ _ _ (s e .pre .0) _ _ (f e .refuted-at-once .ensures .on-no (e .if1 .left)) _ _ _ (t .refuted-by-table .ensures)
 
 pub refuted-by-walks-spec : {M : Type 1} → statement M
 refuted-by-walks-spec =
     tie.close
     (tie.spec
-    (search needs)
-    (search needs)
-    (search needs)
-    table-by-elimination-requires
-    write-closed-requires
+    refuted-at-once-requires
     same-length
     same-length-2
     returns
-    (search needs)
-    (search needs)
-    (search needs)
-    (search needs)
-    (search needs)
-    (search needs)
-    first-bad-requires
-    write-halves-requires
+    refuted-by-table-requires
     same-length-3
     same-length-4
-    returns-2
-    same-length-5
-    returns-3)
+    returns-2)

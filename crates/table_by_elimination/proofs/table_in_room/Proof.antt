@@ -3,7 +3,7 @@ use mathlib.Core.List.{List}
 use borrow.Author.Needs.{needs}
 use denote.Ref.{now}
 use lib.IntN.{ℤ}
-use Rattle.table_by_elimination.specs.Laid.{LaidFrom, from-trans, made-from, write-ready, laid-written, laid-row, laid-search, laid-scratch, laid-decided, laid-found, laid-make, laid-made, clear-again}
+use Rattle.table_by_elimination.specs.Laid.{LaidFrom, made-from, write-ready, laid-written, laid-row, laid-decided, laid-make, laid-made, clear-again}
 use Rattle.table_by_elimination.proofs.table_in_room.Statement.{statement}
 use Rattle.table_by_elimination.proofs.table_in_room.Tie as tie
 
@@ -26,14 +26,6 @@ module _ (passed : tie.After-work2) where
   decided : LaidFrom (start wrote .args .n) (wrote .write-steps .result) (now (start wrote .args .list)) (work wrote) (passed .before .no-negative .last .0)
   decided = laid-decided (written wrote .laid) _ (passed .before .no-negative .ensures)
 
--- after the search for a point
-module _ (searched : tie.After-negative-point) where
-  abbrev passed : tie.After-work2
-  passed = searched .before .before .before
-
-  laid : LaidFrom (start (wrote passed) .args .n) (wrote passed .write-steps .result) (now (start (wrote passed) .args .list)) (now (start (wrote passed) .args .work)) (searched .negative-point .last .0)
-  laid = from-trans (written (wrote passed)) (from-trans (decided passed) (laid-scratch (decided passed .laid) _ (searched .negative-point .ensures .scratch)))
-
 write-steps-requires : tie.Need-write-steps-requires
 write-steps-requires call κs = write-ready _ _ _ (call .before .pre)
 
@@ -52,19 +44,13 @@ returns exit =
     let clear = clear-again (written (wrote passed) .laid) (decided passed .laid) (passed .before .no-negative .ensures .yes (yes .if1 .taken)) in
     made-from (written (wrote passed) .same) (made-from (decided passed .same) (laid-made (decided passed .laid) clear _ (exit .before .make .ensures)))
 
-negative-point-requires : tie.Need-negative-point-requires
-negative-point-requires call κs = laid-search (decided (call .before .before) .laid)
+table-late-requires : tie.Need-table-late-requires
+table-late-requires call κs = decided (call .before .before) .laid
 
 returns-2 : tie.Need-returns-2
 returns-2 exit =
-    let searched = exit .before .before in
-    made-from (laid searched .same) (laid-found (laid searched .laid) _ (searched .negative-point .ensures .point) (exit .if2 .taken))
-
-table-late-requires : tie.Need-table-late-requires
-table-late-requires call κs = laid (call .before .before .before) .laid
-
-returns-3 : tie.Need-returns-3
-returns-3 exit = made-from (laid (exit .before .before .before .before .before) .same) (exit .before .table-late .ensures)
+    let passed = exit .before .before .before .before in
+    made-from (written (wrote passed) .same) (made-from (decided passed .same) (exit .before .table-late .ensures))
 
 pub table-in-room-spec : {M : Type 1} → statement M
 table-in-room-spec =
@@ -81,9 +67,6 @@ table-in-room-spec =
     make-requires
     (search needs)
     returns
-    negative-point-requires
-    (search needs)
-    returns-2
     table-late-requires
     (search needs)
-    returns-3)
+    returns-2)

@@ -1,0 +1,50 @@
+-- `closed_refutation::number_back` meets its contract: the number is handed over where its step was seen to end there.
+use mathlib.Core.Path.{_≡_, sym, ap, _∙_}
+use borrow.Author.Needs.{needs}
+use denote.Ref.{now}
+use Rattle.lines.specs.Limits.{maxVariables}
+use Rattle.lines.specs.Valid.{lines-more}
+use Rattle.steps.specs.declared.Step.{Step}
+use Rattle.steps.specs.declared.NamedStep.the-variants.{Found}
+use Rattle.closed_refutation.specs.Passes.{ends-nowhere}
+use Rattle.closed_refutation.proofs.number_back.Statement.{statement}
+use Rattle.closed_refutation.proofs.number_back.Tie as tie
+
+mark-at-requires : tie.Need-mark-at-requires
+mark-at-requires c κs = search needs
+
+step-numbered-requires : tie.Need-step-numbered-requires
+step-numbered-requires c κs = let s = c .before in lines-more (s .args .n) maxVariables (now (s .args .list)) (s .pre .few) (s .pre .valid) _
+
+same : {s t : Step} → Found s ≡ Found t → s ≡ t
+same e = cc
+
+returns : tie.Need-returns
+returns c =
+    let f = c .before .before .before in
+    let m = f .before .before .before in
+    record {
+      below = m .mark-at .ensures;
+      ends = λ t e. ap (λ (x : Step). x .to) (same (sym e ∙ (sym (f .before .before .step-numbered .ensures) ∙ f .t .given .1))) ∙ c .if1 .taken;
+    }
+
+returns-2 : tie.Need-returns-2
+returns-2 c = let s = c .before .before .before .before .before .before .before in ends-nowhere (now (s .args .list)) (s .args .at)
+
+returns-3 : tie.Need-returns-3
+returns-3 c = let s = c .before .before .before .before in ends-nowhere (now (s .args .list)) (s .args .at)
+
+pub number-back-spec : {M : Type 1} → statement M
+number-back-spec =
+    tie.close
+    (tie.spec
+    (search needs)
+    (search needs)
+    (search needs)
+    mark-at-requires
+    step-numbered-requires
+    (search needs)
+    returns
+    (search needs)
+    returns-2
+    returns-3)
