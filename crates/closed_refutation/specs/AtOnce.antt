@@ -1,5 +1,5 @@
 -- A refutation at once: what is asked and promised, and the refutation that a collected walk makes.
-use mathlib.Core.Path.{_≡_, refl}
+use mathlib.Core.Path.{_≡_, refl, subst, _∙_}
 use mathlib.Core.Logic.{inl}
 use mathlib.Core.Bool.{Bool, true, false}
 use mathlib.Core.List.{List, _∷_}
@@ -26,7 +26,7 @@ use Rattle.closed_walks.specs.Back.{short-negative}
 use Rattle.refuting.specs.Copy.{StepNumbers, copiedTo}
 use Rattle.refuting.specs.Shortest.{walkStart}
 use Rattle.refuting.specs.Written.{numbers-fit, numbers-small, walk-written}
-use Rattle.refuting.specs.Refutation.{ClosedReady, RefutationWritten, written-after, closed-written}
+use Rattle.refuting.specs.Refutation.{ClosedReady, RefutationWritten, closed-written}
 use Rattle.closed_refutation.specs.Collected.{walkEnd, ClosedFound}
 
 pub record AtOnceReady (n : ℕ) (L : List ℤ) (R : List ℕ) (w : List ℤ) : Type 0 where
@@ -51,8 +51,13 @@ not-at-once place n L R w R′ w′ e s = record { on-yes = λ z. never (cc); on
 -- a refutation after the work area was changed
 pub at-once-after : (place n : ℕ) (L : List ℤ) (R R₁ : List ℕ) (w w₁ : List ℤ) (R′ : List ℕ) (w′ : List ℤ) → R₁ ≡ R → Scratch 0 (walkEnd n) w w₁ → RefutedAtOnce n L R₁ w₁ R′ w′ → AtOnce place n L R w R′ w′ true
 at-once-after place n L R R₁ w w₁ R′ w′ same s f =
+    let g : RefutedAtOnce n L R w₁ R′ w′ = subst (λ (x : List ℕ). RefutedAtOnce n L x w₁ R′ w′) same f in
+    let k = g .written in
     record {
-      on-yes = λ _. record { written = written-after n L 1 R R₁ w w₁ R′ w′ same (s .same-length) (s .behind) (f .written); negative = f .negative };
+      on-yes = λ _. record {
+        written = record { numbers = k .numbers; refutes = k .refutes; kind-is = k .kind-is; few = k .few; size = k .size; is = k .is; same-length = k .same-length ∙ s .same-length; behind = k .behind ∙ s .behind };
+        negative = g .negative;
+      };
       on-no = λ z. never (cc);
     }
 

@@ -4,7 +4,6 @@ use buffers::clear;
 use buffers::decide_validity;
 use buffers::work_room;
 use closed_refutation::refuted_at_once;
-use halves_refutation::halves_at_once;
 use lines::Refusal;
 use lines::Validity;
 use lines::limits::LINE_SIZE;
@@ -43,9 +42,6 @@ fn refuted_by_table(list: &[i32], n: usize, refutation: &mut [u32], work: &mut [
     }
     let p = first_bad(&work[start..start + size * size], n);
     if p < size {
-        if halves_at_once(list, n, p, refutation, work) {
-            return true;
-        }
         write_halves(list, n, p, refutation, work);
         return true;
     }

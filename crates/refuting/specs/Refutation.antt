@@ -38,13 +38,6 @@ pub record RefutationWritten (n : ℕ) (L : List ℤ) (kind : ℕ) (R : List ℕ
   pub same-length : length w′ ≡ length w
   pub behind : drop (walkStart (2 * n) + 2 * n) w′ ≡ drop (walkStart (2 * n) + 2 * n) w
 
--- written after the work area was changed before its end
-pub written-after : (n : ℕ) (L : List ℤ) (kind : ℕ) (R R₁ : List ℕ) (w w₁ : List ℤ) (R′ : List ℕ) (w′ : List ℤ) → R₁ ≡ R → length w₁ ≡ length w → drop (walkStart (2 * n) + 2 * n) w₁ ≡ drop (walkStart (2 * n) + 2 * n) w
-    → RefutationWritten n L kind R₁ w₁ R′ w′ → RefutationWritten n L kind R w R′ w′
-written-after n L kind R R₁ w w₁ R′ w′ same l b f =
-    let k : RefutationWritten n L kind R w₁ R′ w′ = subst (λ (x : List ℕ). RefutationWritten n L kind x w₁ R′ w′) same f in
-    record { numbers = k .numbers; refutes = k .refutes; kind-is = k .kind-is; few = k .few; size = k .size; is = k .is; same-length = k .same-length ∙ l; behind = k .behind ∙ b }
-
 -- ---- walks have steps
 named-some : (L : List ℤ) (ks : List ℕ) (ts : List Step) → Names L ks ts → 0 < length ts → 0 < length ks
 named-some L [] [] a h = h

@@ -16,14 +16,14 @@ use Rattle.refuting.specs.Copy.{StepNumbers, copiedTo}
 use Rattle.refuting.specs.Shortest.{walkStart, WalkReady, SumFound, WalkFound}
 
 -- ---- numbers stored and read back
-pub getD-pos : (ks : List ℕ) (i : ℕ) → i < length ks → getD (map pos ks) i (pos 0) ≡ pos (getD ks i 0)
+getD-pos : (ks : List ℕ) (i : ℕ) → i < length ks → getD (map pos ks) i (pos 0) ≡ pos (getD ks i 0)
 getD-pos [] i h = absurd (omega arith)
 getD-pos (k ∷ ks) zero h = refl
 getD-pos (k ∷ ks) (suc i) h = getD-pos ks i (omega arith)
 
-pub read-back : (ks : List ℕ) (x : List ℤ) → take (length ks) (map natAbs (map pos ks ++ x)) ≡ ks
-read-back [] x = refl
-read-back (k ∷ ks) x = ap (λ (l : List ℕ). k ∷ l) (read-back ks x)
+back : (ks : List ℕ) (x : List ℤ) → take (length ks) (map natAbs (map pos ks ++ x)) ≡ ks
+back [] x = refl
+back (k ∷ ks) x = ap (λ (l : List ℕ). k ∷ l) (back ks x)
 
 -- ---- what is asked and promised
 pub record WriteReady (n : ℕ) (L : List ℤ) (u v : ℕ) (R : List ℕ) (place : ℕ) (w : List ℤ) : Type 0 where
@@ -84,4 +84,4 @@ module _ (n : ℕ) (L : List ℤ) (u v : ℕ) (R : List ℕ) (place : ℕ) (w w�
       split = omega (arith, f .few)
 
       copied : take r (map natAbs (drop (end - r) w′)) ≡ f .numbers
-      copied = ap₂ (λ (j : ℕ) (l : List ℤ). take j (map natAbs l)) (sym (f .count)) (f .stand) ∙ read-back (f .numbers) (drop end w)
+      copied = ap₂ (λ (j : ℕ) (l : List ℤ). take j (map natAbs l)) (sym (f .count)) (f .stand) ∙ back (f .numbers) (drop end w)

@@ -304,7 +304,7 @@ accepts-closed L R c =
     let low : f .first ⋖ pos 0 = subst (λ (x : ℤ). x ⋖ pos 0) (sym (o .first ∙ ap total all)) (c .low) in
     ap (accepts L) (c .is) ∙ accepted-end L 1 p 0 ks (omega arith) (o .good) (closes-1 f kind .1 (o .to ∙ sym (o .from), low))
 
-pub names-append : (L : List ℤ) (ks ls : List ℕ) (ss ts : List Step) → Names L ks ss → Names L ls ts → Names L (ks ++ ls) (ss ++ ts)
+names-append : (L : List ℤ) (ks ls : List ℕ) (ss ts : List Step) → Names L ks ss → Names L ls ts → Names L (ks ++ ls) (ss ++ ts)
 names-append L [] ls [] ts a b = b
 names-append L [] ls (s ∷ ss) ts a b = absurd a
 names-append L (k ∷ ks) ls [] ts a b = absurd a
