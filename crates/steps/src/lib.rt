@@ -26,8 +26,9 @@ pub enum NamedStep {
 }
 
 // For the coefficients -1, 0, 1 of x and, below each, of y: side 0's start, end and weight factor, then side 1's. An end
-// is a place of the line and a sign: 0 is x+, 1 is x-, 2 is y+, 3 is y-. A factor of 0 says that there is no step.
-const STEP_TABLE: [usize; 54] = [
+// is a place of the line and a sign: 0 is x+, 1 is x-, 2 is y+, 3 is y-. A factor of 0 says that there is no step. Entries are bytes:
+// the compiler lays the table out anew wherever it is read.
+const STEP_TABLE: [u8; 54] = [
     1,
     2,
     1,
@@ -84,11 +85,17 @@ const STEP_TABLE: [usize; 54] = [
     1, // x + y
 ];
 
+fn number_of(entry: u8) -> usize
+    ensures { λ r. ⌜ r ≡ entry ⌝ }
+{
+    entry as usize
+}
+
 fn entry_at(i: usize) -> usize
     requires { ⌜ i < 54 ⌝ }
     ensures { λ r. ⌜ r ≡ entry i ⌝ }
 {
-    STEP_TABLE[i]
+    number_of(STEP_TABLE[i])
 }
 
 // A coefficient's row or column in the table.

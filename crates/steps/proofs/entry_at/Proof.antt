@@ -7,7 +7,7 @@ use Rattle.steps.proofs.entry_at.Tie as tie
 
 returns : tie.Need-returns
 unfolding entry
-returns c = refl
+returns c = c .number-of .ensures
 
 pub entry-at-spec : {M : Type 1} → statement M
 entry-at-spec = tie.close (tie.spec (search needs) (search needs) returns)
