@@ -20,18 +20,15 @@ use Rattle.steps.specs.Walk.{Path, total, Names}
 use Rattle.walks.specs.Size.{within-more, within-sum}
 use Rattle.distances.specs.Numbers.{StepOk, numbered-ok}
 use Rattle.walkback.specs.WalkBack.{set-last}
-use Rattle.flat_steps.specs.Scratch.{Scratch}
-use Rattle.refuting.specs.Shortest.{walkStart, WalkFound, closed}
-
--- behind the room of walks
-abbrev pub walkEnd : ℕ → ℕ
-walkEnd n = walkStart (2 * n) + 2 * n
+use Rattle.packed_steps.specs.Scratch.{Scratch}
+use Rattle.packed_steps.specs.Layout.{walksAt, rowAt, placesAt}
+use Rattle.refuting.specs.Shortest.{WalkFound, closed}
 
 pub record CollectReady (n : ℕ) (L w : List ℤ) (p : ℕ) : Type 0 where
   pub few : n ≤ maxVariables
   pub valid : LinesOk n L
   pub lines : lineCount L ≤ maxLines
-  pub room : walkEnd n ≤ length w
+  pub room : placesAt n ≤ length w
   pub within : p < 2 * n
 
 -- r numbers name a walk from p to p of negative sum
@@ -42,17 +39,17 @@ pub record ClosedFound (n : ℕ) (L w : List ℤ) (p : ℕ) (w′ : List ℤ) (r
 
 -- 0: none is found
 pub record Collected (n : ℕ) (L w : List ℤ) (p : ℕ) (w′ : List ℤ) (r : ℕ) : Type 0 where
-  pub scratch : Scratch (walkStart (2 * n)) (walkEnd n) w w′
+  pub scratch : Scratch (walksAt n) (rowAt n) w w′
   pub closed : (r ≡ 0 → ⊥) → ClosedFound n L w p w′ r
 
 -- ---- the loop: the numbers from the slot on name a walk from `at` to p of this sum
 pub record Collecting (n : ℕ) (L : List ℤ) (p : ℕ) (w₀ w : List ℤ) (slot at : ℕ) (sum : ℤ) : Type 0 where
-  pub free : walkStart (2 * n) ≤ slot
+  pub free : walksAt n ≤ slot
   pub numbers : List ℕ
-  pub count : slot + length numbers ≡ walkEnd n
-  pub area : w ≡ take slot w₀ ++ (map pos numbers ++ drop (walkEnd n) w₀)
+  pub count : slot + length numbers ≡ rowAt n
+  pub area : w ≡ take slot w₀ ++ (map pos numbers ++ drop (rowAt n) w₀)
   pub steps : List Step
-  pub short : slot + length steps ≡ walkEnd n
+  pub short : slot + length steps ≡ rowAt n
   pub named : Names L numbers steps
   pub path : Path at steps p
   pub sum-is : total steps ≡ sum
@@ -60,15 +57,15 @@ pub record Collecting (n : ℕ) (L : List ℤ) (p : ℕ) (w₀ w : List ℤ) (sl
   pub small : Within (length numbers * maxWeight) sum
 
 module _ (n : ℕ) (L : List ℤ) (p : ℕ) (w₀ : List ℤ) (a : CollectReady n L w₀ p) where
-  pub collecting-start : Collecting n L p w₀ w₀ (walkEnd n) p (pos 0)
-  collecting-start =
+  pub collecting-start : (row : ℕ) → row ≡ rowAt n → Collecting n L p w₀ w₀ row p (pos 0)
+  collecting-start row e =
       record {
-        free = omega arith;
+        free = omega (arith, e);
         numbers = [];
-        count = omega arith;
-        area = sym (take-append-drop (walkEnd n) w₀);
+        count = omega (arith, e);
+        area = rw e (sym (take-append-drop (rowAt n) w₀));
         steps = [];
-        short = omega arith;
+        short = omega (arith, e);
         named = tt;
         path = refl;
         sum-is = refl;
@@ -83,29 +80,29 @@ module _ (n : ℕ) (L : List ℤ) (p : ℕ) (w₀ : List ℤ) (a : CollectReady 
     front-size : length (take slot w₀) ≡ slot
     front-size = length-take-le slot w₀ slot-in
 
-    pub collecting-scratch : Scratch (walkStart (2 * n)) (walkEnd n) w₀ w
+    pub collecting-scratch : Scratch (walksAt n) (rowAt n) w₀ w
     collecting-scratch =
         record {
           same-length =
               ap length (b .area)
-              ∙ length-append (take slot w₀) (map pos (b .numbers) ++ drop (walkEnd n) w₀)
-              ∙ omega (arith, front-size, length-append (map pos (b .numbers)) (drop (walkEnd n) w₀), length-map (b .numbers) pos, length-drop (walkEnd n) w₀, b .count, a .room);
+              ∙ length-append (take slot w₀) (map pos (b .numbers) ++ drop (rowAt n) w₀)
+              ∙ omega (arith, front-size, length-append (map pos (b .numbers)) (drop (rowAt n) w₀), length-map (b .numbers) pos, length-drop (rowAt n) w₀, b .count, a .room);
           front =
-              ap (take (walkStart (2 * n))) (b .area)
-              ∙ take-append-le (walkStart (2 * n)) (take slot w₀) (map pos (b .numbers) ++ drop (walkEnd n) w₀) (omega (arith, front-size, b .free))
-              ∙ take-take (walkStart (2 * n)) slot w₀ (b .free);
+              ap (take (walksAt n)) (b .area)
+              ∙ take-append-le (walksAt n) (take slot w₀) (map pos (b .numbers) ++ drop (rowAt n) w₀) (omega (arith, front-size, b .free))
+              ∙ take-take (walksAt n) slot w₀ (b .free);
           behind =
               ap (λ (j : ℕ). drop j w) (sym (b .count))
               ∙ sym (drop-drop (length (b .numbers)) slot w)
               ∙ ap (drop (length (b .numbers))) stand
-              ∙ drop-at (map pos (b .numbers)) (drop (walkEnd n) w₀) (length (b .numbers)) (length-map (b .numbers) pos);
+              ∙ drop-at (map pos (b .numbers)) (drop (rowAt n) w₀) (length (b .numbers)) (length-map (b .numbers) pos);
         }
       where
-        stand : drop slot w ≡ map pos (b .numbers) ++ drop (walkEnd n) w₀
-        stand = ap (drop slot) (b .area) ∙ drop-at (take slot w₀) (map pos (b .numbers) ++ drop (walkEnd n) w₀) slot front-size
+        stand : drop slot w ≡ map pos (b .numbers) ++ drop (rowAt n) w₀
+        stand = ap (drop slot) (b .area) ∙ drop-at (take slot w₀) (map pos (b .numbers) ++ drop (rowAt n) w₀) slot front-size
 
     -- one number more, of a step that ends where the walk begins
-    module _ (h : walkStart (2 * n) < slot) (k : ℕ) (t : Step) (named : stepNumbered L k ≡ Found t) where
+    module _ (h : walksAt n < slot) (k : ℕ) (t : Step) (named : stepNumbered L k ≡ Found t) where
       ok : StepOk n t
       ok = numbered-ok n L (a .valid) k t named
 
@@ -122,8 +119,8 @@ module _ (n : ℕ) (L : List ℤ) (p : ℕ) (w₀ : List ℤ) (a : CollectReady 
             numbers = k ∷ b .numbers;
             count = omega (arith, b .count, h);
             area =
-                ap (λ (l : List ℤ). set l (slot - 1) (pos k)) (b .area ∙ ap (λ (i : ℕ). take i w₀ ++ (map pos (b .numbers) ++ drop (walkEnd n) w₀)) back)
-                ∙ set-last w₀ (map pos (b .numbers) ++ drop (walkEnd n) w₀) (slot - 1) (pos k) (omega (arith, slot-in, h));
+                ap (λ (l : List ℤ). set l (slot - 1) (pos k)) (b .area ∙ ap (λ (i : ℕ). take i w₀ ++ (map pos (b .numbers) ++ drop (rowAt n) w₀)) back)
+                ∙ set-last w₀ (map pos (b .numbers) ++ drop (rowAt n) w₀) (slot - 1) (pos k) (omega (arith, slot-in, h));
             steps = t ∷ b .steps;
             short = omega (arith, b .short, h);
             named = (named, b .named);
@@ -143,22 +140,22 @@ module _ (n : ℕ) (L : List ℤ) (p : ℕ) (w₀ : List ℤ) (a : CollectReady 
     collected-none = record { scratch = collecting-scratch; closed = λ f. absurd (f refl) }
 
     -- it is closed, and its sum is below 0
-    pub collected-closed : at ≡ p → sum ⋖ pos 0 → Collected n L w₀ p w (walkEnd n - slot)
-    collected-closed e h = record { scratch = collecting-scratch; closed = λ _. record { found = walk; short = omega (arith, b .short, b .free); low = low } }
+    pub collected-closed : at ≡ p → sum ⋖ pos 0 → (row : ℕ) → row ≡ rowAt n → Collected n L w₀ p w (row - slot)
+    collected-closed e h row q = rw q (record { scratch = collecting-scratch; closed = λ _. record { found = walk; short = omega (arith, b .short, b .free); low = low } })
       where
         low : total (b .steps) ⋖ pos 0
         low = rw (b .sum-is) h
 
-        again : walkEnd n - (walkEnd n - slot) ≡ slot
+        again : rowAt n - (rowAt n - slot) ≡ slot
         again = omega (arith, b .count)
 
-        walk : WalkFound n L p p w₀ w (walkEnd n - slot)
+        walk : WalkFound n L p p w₀ w (rowAt n - slot)
         walk =
             record {
               few = omega (arith, b .free);
               numbers = b .numbers;
               count = omega (arith, b .count);
-              stand = rw again (ap (drop slot) (b .area) ∙ drop-at (take slot w₀) (map pos (b .numbers) ++ drop (walkEnd n) w₀) slot front-size);
+              stand = rw again (ap (drop slot) (b .area) ∙ drop-at (take slot w₀) (map pos (b .numbers) ++ drop (rowAt n) w₀) slot front-size);
               same-length = collecting-scratch .same-length;
               steps = b .steps;
               named = b .named;

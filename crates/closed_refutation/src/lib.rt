@@ -1,62 +1,157 @@
-// A refutation of kind 1 at once: passes over the steps of the list leave at each point that they lower the number of the
-// step, and after each pass the marks are followed back from the last point lowered. What they lead round is checked, so
-// that nothing is asked of the passes; where it is no negative closed walk, nothing is written.
-use closed_walks::mark_at;
-use closed_walks::mark_step;
+// A refutation of kind 1 at once: passes over the packed steps leave at each point that they lower the step (the field's
+// term: the point's predecessor), and after each pass the marks are followed back from the last point lowered. What they
+// lead round is checked, so that nothing is asked of the passes; where it is no negative closed walk, nothing is written.
 use lines::limits::LINE_SIZE;
-use passing::zero_row;
+use packed_steps::from_in;
+use packed_steps::layout::row_at;
+use packed_steps::number_in;
+use packed_steps::read_step;
 use refutation::HEAD_SIZE;
 use refuting::copy_numbers;
 use refuting::write_head;
 use steps::NamedStep;
 use steps::step_numbered;
-ghost use Prim.Native.Nat.{_*_, _<_, _≤_};
-ghost use Rattle.lines.specs.Limits.{maxLines};
-ghost use Rattle.refuting.specs.Shortest.{walkStart};
-ghost use Rattle.closed_refutation.specs.Passes.{PassReady, Passed, BackReady, EndsAt};
+ghost use mathlib.Core.Path.{_≡_};
+ghost use mathlib.Core.Bool.{true};
+ghost use Prim.Native.Nat.{_+_, _*_, _<_, _≤_};
+ghost use lib.ListN.{length};
+ghost use Rattle.walks.specs.Negative.{noNegative};
+ghost use Rattle.packed_steps.specs.Steps.{stepsIn};
+ghost use Rattle.closed_refutation.specs.Filled.{Filled};
+ghost use Rattle.closed_refutation.specs.Passes.{MarkReady, PassReady, Passed};
+ghost use Rattle.closed_refutation.specs.Potential.{PotentialReady};
+ghost use Rattle.closed_refutation.specs.Back.{BackReady, EndsAt};
 ghost use Rattle.closed_refutation.specs.Collected.{CollectReady, Collected};
-ghost use Rattle.closed_refutation.specs.AtOnce.{AtOnceReady, AtOnce};
+ghost use Rattle.closed_refutation.specs.AtOnce.{FromReady, AtOnceFrom, AtOnceReady, AtOnce};
 
-// The most passes: they show a negative closed walk in nearly all lists that have one, and where they do not, the table
-// over the steps laid out, whose passes are faster, finds it.
-const PASSES: usize = 16;
+// Numbers of a row stay above this.
+pub const LOWEST_MARK: i64 = -1_000_000_000_000_000;
 
-// The step with a number, in a pass: the point that it lowers, or else the last one before.
-fn mark_numbered(list: &[i32], n: usize, work: &mut [i64], number: usize, last: usize) -> usize
-    requires { ⌜ PassReady n (now list) (now work) × (number < 2 * maxLines) × (last ≤ 2 * n) ⌝ }
-    ensures { λ r. ⌜ Passed n (now (work .entry)) (now (work .exit)) r ⌝ }
+// A value to each number from a place on, before another.
+pub fn fill(work: &mut [i64], from: usize, end: usize, value: i64)
+    requires { ⌜ (from ≤ end) × (end ≤ length (now work)) ⌝ }
+    ensures { λ _. ⌜ Filled from end value end (now (work .entry)) (now (work .exit)) ⌝ }
 {
-    if let NamedStep::Found(t) = step_numbered(list, number) {
-        let point = t.to;
-        if mark_step(work, 0, 2 * n, t.from, point, t.weight, number as i64) {
-            return point;
+    let mut i = from;
+    while i < end {
+        work[i] = value;
+        i += 1;
+    }
+}
+
+// Step i in a pass over a row, whose marks stand behind it: the point that it lowers, or else the last one before.
+fn mark_at_step(work: &mut [i64], i: usize, row: usize, size: usize, last: usize) -> usize
+    requires { ⌜ MarkReady i row size last (now work) ⌝ }
+    ensures { λ r. ⌜ Passed row size (now (work .entry)) (now (work .exit)) r ⌝ }
+{
+    let step = read_step(work, i);
+    let from = step.from;
+    let to = step.to;
+    let sum = work[row + from] + step.weight;
+    let entry = work[row + to];
+    if sum < entry {
+        if LOWEST_MARK < sum {
+            let mark = work[i];
+            work[row + to] = sum;
+            work[row + size + to] = mark;
+            return to;
         }
     }
     last
 }
 
-// A pass over all steps: the last point that it lowers, or the number of points.
-fn mark_list(list: &[i32], n: usize, work: &mut [i64]) -> usize
-    requires { ⌜ PassReady n (now list) (now work) ⌝ }
-    ensures { λ r. ⌜ Passed n (now (work .entry)) (now (work .exit)) r ⌝ }
+// A pass over the steps, from the first on: the last point that it lowered, or the number of points.
+pub fn mark_pass(work: &mut [i64], count: usize, row: usize, size: usize) -> usize
+    requires { ⌜ PassReady count row size (now work) ⌝ }
+    ensures { λ r. ⌜ Passed row size (now (work .entry)) (now (work .exit)) r ⌝ }
 {
-    let count = 2 * (list.len() / LINE_SIZE);
-    let mut last = 2 * n;
-    let mut number = 0;
-    while number < count {
-        last = mark_numbered(list, n, work, number, last);
-        number += 1;
+    let mut last = size;
+    let mut i = 0;
+    while i < count {
+        last = mark_at_step(work, i, row, size, last);
+        i += 1;
     }
     last
 }
 
-// The number that is the mark at a point, if the step that it names ends there, or else the number behind the last.
-fn number_back(list: &[i32], n: usize, work: &[i64], at: usize) -> usize
-    requires { ⌜ BackReady n (now list) (now work) at ⌝ }
+// The same from the last step back.
+pub fn mark_pass_back(work: &mut [i64], count: usize, row: usize, size: usize) -> usize
+    requires { ⌜ PassReady count row size (now work) ⌝ }
+    ensures { λ r. ⌜ Passed row size (now (work .entry)) (now (work .exit)) r ⌝ }
+{
+    let mut last = size;
+    let mut i = count;
+    while 0 < i {
+        i -= 1;
+        last = mark_at_step(work, i, row, size, last);
+    }
+    last
+}
+
+// Passes go up and down in turn.
+pub fn mark_turn(work: &mut [i64], count: usize, row: usize, size: usize, turn: usize) -> usize
+    requires { ⌜ PassReady count row size (now work) ⌝ }
+    ensures { λ r. ⌜ Passed row size (now (work .entry)) (now (work .exit)) r ⌝ }
+{
+    if turn % 2 == 0 {
+        return mark_pass(work, count, row, size);
+    }
+    mark_pass_back(work, count, row, size)
+}
+
+// Whether no step lowers the row.
+pub fn is_potential(work: &[i64], count: usize, row: usize, size: usize) -> bool
+    requires { ⌜ PotentialReady count row size (now work) ⌝ }
+    ensures { λ r. ⌜ (r ≡ true → noNegative (stepsIn count (now (work .entry))) size ≡ true) ⌝ }
+{
+    let mut i = 0;
+    while i < count {
+        let step = read_step(work, i);
+        let from = step.from;
+        let to = step.to;
+        let sum = work[row + from] + step.weight;
+        let entry = work[row + to];
+        if sum < entry {
+            return false;
+        }
+        i += 1;
+    }
+    true
+}
+
+// The point to which as many marks as points lead back from p, or the number of points: it is on a circle of marks.
+fn far_back(work: &[i64], marks: usize, size: usize, p: usize) -> usize
+    requires { ⌜ (marks + size ≤ length (now work)) × (p < size) ⌝ }
+    ensures { λ r. ⌜ r ≤ size ⌝ }
+{
+    let mut at = p;
+    let mut k = 0;
+    while k < size {
+        let mark = work[marks + at];
+        if mark < 0 {
+            return size;
+        }
+        at = from_in(mark);
+        if size <= at {
+            return size;
+        }
+        k += 1;
+    }
+    at
+}
+
+// The number in the list of the step that is the mark at a point, if the list's step ends there, or else the number
+// behind the last.
+pub fn number_back(list: &[i32], n: usize, work: &[i64], marks: usize, at: usize) -> usize
+    requires { ⌜ BackReady n (now list) marks at (now work) ⌝ }
     ensures { λ r. ⌜ EndsAt (now (list .entry)) at r ⌝ }
 {
     let count = 2 * (list.len() / LINE_SIZE);
-    let number = mark_at(work, 2 * n + at, count);
+    let mark = work[marks + at];
+    if mark < 0 {
+        return count;
+    }
+    let number = number_in(mark);
     if let NamedStep::Found(t) = step_numbered(list, number) {
         if t.to == at {
             return number;
@@ -65,49 +160,20 @@ fn number_back(list: &[i32], n: usize, work: &[i64], at: usize) -> usize
     count
 }
 
-// The point where the step that the mark at a point names starts, or the number of points.
-fn point_back(list: &[i32], n: usize, work: &[i64], at: usize) -> usize
-    requires { ⌜ BackReady n (now list) (now work) at ⌝ }
-    ensures { λ r. ⌜ r ≤ 2 * n ⌝ }
-{
-    let number = number_back(list, n, work, at);
-    match step_numbered(list, number) {
-        NamedStep::Found(t) => t.from,
-        NamedStep::Nothing => 2 * n,
-    }
-}
-
-// The point to which as many marks as points lead back from p, or the number of points: it is on a circle of marks.
-fn far_back(list: &[i32], n: usize, work: &[i64], p: usize) -> usize
-    requires { ⌜ BackReady n (now list) (now work) p ⌝ }
-    ensures { λ r. ⌜ r ≤ 2 * n ⌝ }
-{
-    let size = 2 * n;
-    let mut at = p;
-    let mut k = 0;
-    while k < size {
-        if size <= at {
-            return size;
-        }
-        at = point_back(list, n, work, at);
-        k += 1;
-    }
-    at
-}
-
 // How many steps the walk has round which the marks lead from p back to p, if its sum is below 0, or else 0. Their
-// numbers stand where those of walks do, before the end of the work area's used room.
+// numbers stand where those of walks do, before the row.
 fn collect(list: &[i32], n: usize, work: &mut [i64], p: usize) -> usize
     requires { ⌜ CollectReady n (now list) (now work) p ⌝ }
     ensures { λ r. ⌜ Collected n (now (list .entry)) (now (work .entry)) p (now (work .exit)) r ⌝ }
 {
     let size = 2 * n;
-    let start = (size + 1) * size + size * size;
-    let mut slot = start + size;
+    let row = row_at(n);
+    let start = row - size;
+    let mut slot = row;
     let mut at = p;
     let mut sum: i64 = 0;
     while start < slot {
-        let number = number_back(list, n, work, at);
+        let number = number_back(list, n, work, row + size, at);
         match step_numbered(list, number) {
             NamedStep::Nothing => {
                 return 0;
@@ -121,7 +187,7 @@ fn collect(list: &[i32], n: usize, work: &mut [i64], p: usize) -> usize
         }
         if at == p {
             if sum < 0 {
-                return start + size - slot;
+                return row - slot;
             }
             return 0;
         }
@@ -131,11 +197,12 @@ fn collect(list: &[i32], n: usize, work: &mut [i64], p: usize) -> usize
 
 // Whether the marks lead from p back to a closed walk of negative sum: then its refutation is written.
 fn refuted_from(list: &[i32], n: usize, p: usize, refutation: &mut [u32], work: &mut [i64]) -> bool
-    requires { ⌜ AtOnceReady n (now list) (now refutation) (now work) × (p < 2 * n) ⌝ }
-    ensures { λ r. ⌜ AtOnce (walkStart (2 * n)) n (now (list .entry)) (now (refutation .entry)) (now (work .entry)) (now (refutation .exit)) (now (work .exit)) r ⌝ }
+    requires { ⌜ FromReady n (now list) (now refutation) (now work) × (p < 2 * n) ⌝ }
+    ensures { λ r. ⌜ AtOnceFrom n (now (list .entry)) (now (refutation .entry)) (now (work .entry)) (now (refutation .exit)) (now (work .exit)) r ⌝ }
 {
     let size = 2 * n;
-    let q = far_back(list, n, work, p);
+    let row = row_at(n);
+    let q = far_back(work, row + size, size, p);
     if size <= q {
         return false;
     }
@@ -143,34 +210,38 @@ fn refuted_from(list: &[i32], n: usize, p: usize, refutation: &mut [u32], work: 
     if count == 0 {
         return false;
     }
-    let end = (size + 1) * size + size * size + size;
-    copy_numbers(work, end - count, count, refutation, HEAD_SIZE);
+    copy_numbers(work, row - count, count, refutation, HEAD_SIZE);
     write_head(refutation, 1, count, 0);
     true
 }
 
-// Whether the list is refuted so, after any of some passes, from 0 everywhere. They end where one changes nothing: no
-// closed walk is negative then.
-pub fn refuted_at_once(list: &[i32], n: usize, refutation: &mut [u32], work: &mut [i64]) -> bool
-    requires { ⌜ AtOnceReady n (now list) (now refutation) (now work) ⌝ }
-    ensures { λ r. ⌜ AtOnce 0 n (now (list .entry)) (now (refutation .entry)) (now (work .entry)) (now (refutation .exit)) (now (work .exit)) r ⌝ }
+// Whether the list is refuted so, after any of at most one pass more than there are points, from 0 everywhere. They end
+// where one changes nothing: no closed walk is negative then.
+pub fn refuted_at_once(
+    list: &[i32],
+    n: usize,
+    count: usize,
+    refutation: &mut [u32],
+    work: &mut [i64],
+) -> bool
+    requires { ⌜ AtOnceReady n (now list) count (now refutation) (now work) ⌝ }
+    ensures { λ r. ⌜ AtOnce n (now (list .entry)) (now (refutation .entry)) (now (work .entry)) (now (refutation .exit)) (now (work .exit)) r ⌝ }
 {
-    if n == 0 {
-        return false;
-    }
     let size = 2 * n;
-    let marks = 2 * size;
-    zero_row(&mut work[0..marks], marks);
-    let mut left = PASSES;
-    while 0 < left {
-        let p = mark_list(list, n, work);
+    let row = row_at(n);
+    let marks = row + size;
+    fill(work, row, marks, 0);
+    fill(work, marks, marks + size, -1);
+    let mut turn = 0;
+    while turn <= size {
+        let p = mark_turn(work, count, row, size, turn);
         if size <= p {
             return false;
         }
         if refuted_from(list, n, p, refutation, work) {
             return true;
         }
-        left -= 1;
+        turn += 1;
     }
     false
 }

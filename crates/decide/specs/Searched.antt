@@ -4,6 +4,7 @@ use mathlib.Core.Logic.{inl}
 use mathlib.Core.Bool.{Bool, true, false, not}
 use mathlib.Core.List.{List, [], _∷_, _++_}
 use Prim.Native.Nat.{ℕ, _+_, _*_, _-_, _<_, _≤_}
+use native.Mathlib.Nat.{mul-le-mul-right}
 use native.Mathlib.Omega.{arith}
 use lib.IntN.{ℤ, pos, _+ℤ_}
 use lib.ListN.{length, take, drop}
@@ -12,6 +13,7 @@ use Rattle.integers.specs.Integer.{_⋖_, half}
 use Rattle.integers.specs.Laws.{never}
 use Rattle.integers.specs.Table.{allBelow}
 use Rattle.lines.specs.declared.Line.{Line}
+use Rattle.lines.specs.Limits.{maxVariables}
 use Rattle.lines.specs.declared.Validity.the-variants.{Valid}
 use Rattle.lines.specs.Line.{lineCount, linesOf}
 use Rattle.lines.specs.Refusal.{validityOf}
@@ -24,23 +26,27 @@ use Rattle.walks.specs.Row.{best, some-is}
 use Rattle.walks.specs.Negative.{notBelow0, noNegative, is-below, no-negative-false}
 use Rattle.answers.specs.Verdict.{hasFalse, firstFalse, distances, halvesOk, consistentHalves, verdictOf, dueKind}
 use Rattle.answers.specs.Refuted.{Due, due-false, kind-negative, kind-halves}
-use Rattle.distances.specs.Table.{tableStart, storedTable, TableReady}
+use Rattle.distances.specs.Table.{tableStart, storedTable}
 use Rattle.tables.specs.Table.{tableOf, ShortTable}
 use Rattle.outputs.specs.Agree.{Agree, ok-same, all-ok-same}
 use Rattle.outputs.specs.Bad.{firstBad, none-bad, first-bad}
 use Rattle.buffers.specs.Room.{refutationRoom}
 use Rattle.searching.specs.False.{false-none}
 use Rattle.answering.specs.Table.{agree, short-table}
-use Rattle.distance_table.specs.Made.{TableMade}
 use Rattle.refutation.specs.Progress.{headSize}
-use Rattle.refuting.specs.Shortest.{walkStart}
 use Rattle.refuting.specs.Refutation.{ClosedReady, HalvesReady, RefutationWritten}
-use Rattle.flat_steps.specs.Scratch.{Scratch}
-use Rattle.closed_refutation.specs.AtOnce.{AtOnceReady, RefutedAtOnce}
+use Rattle.packed_steps.specs.Steps.{StepsReady, maxSteps}
+use Rattle.packed_steps.specs.Scratch.{Scratch, scratch-trans, scratch-wider}
+use Rattle.packed_steps.specs.Layout.{rowAt, placesAt, engineEnd}
+use Rattle.packed_steps.specs.Laid.{LayReady, Laid}
+use Rattle.closed_refutation.specs.Passes.{SmallRow}
+use Rattle.closed_refutation.specs.AtOnce.{AtOnceReady, AtOnce}
+use Rattle.halves_refutation.specs.Halves.{HalvesAtOnce}
+use Rattle.table_by_elimination.specs.Found.{TableAsked, TableFound, laid-standing, standing-kept}
 
--- behind rows, table and walks
+-- behind all that the engine works in
 abbrev pub usedRoom : ℕ → ℕ
-usedRoom n = walkStart (2 * n) + 2 * n
+usedRoom n = engineEnd n
 
 pub record SearchReady (n : ℕ) (L : List ℤ) (R : List ℕ) (w : List ℤ) : Type 0 where
   pub valid : validityOf n L ≡ Valid
@@ -57,6 +63,12 @@ pub record Searched (n : ℕ) (L : List ℤ) (R : List ℕ) (w : List ℤ) (R′
   pub on-yes : refuted ≡ false → (R′ ≡ R) × (tableIn n w′ ≡ storedTable (stepsOf (linesOf L)) (2 * n) (2 * n))
   pub same-length : length w′ ≡ length w
   pub behind : drop (usedRoom n) w′ ≡ drop (usedRoom n) w
+
+-- a refutation written from walks keeps what lies behind them
+written-scratch : (n kind : ℕ) (L : List ℤ) (R R′ : List ℕ) (w w′ : List ℤ) → RefutationWritten n L kind R w R′ w′ → Scratch 0 (usedRoom n) w w′
+written-scratch n kind L R R′ w w′ k =
+    let s : Scratch 0 (rowAt n) w w′ = record { same-length = k .same-length; front = refl; behind = k .behind } in
+    scratch-wider (omega arith) (omega arith) s
 
 -- ---- the verdict, by its parts
 module _ (n : ℕ) (ls : List Line) where
@@ -75,6 +87,19 @@ module _ (n : ℕ) (ls : List Line) where
   pub yes-by-all : hasFalse ls ≡ false → noNegative (stepsOf ls) (2 * n) ≡ true → consistentHalves n ls ≡ true → verdictOf n ls ≡ true
   unfolding verdictOf
   yes-by-all e f g = rw (e, f, g)
+
+-- ---- no variable
+empty-clear : (n : ℕ) (E : List Step) → n ≡ 0 → noNegative E (2 * n) ≡ true
+unfolding noNegative
+empty-clear n E e = rw e
+
+empty-consistent : (n : ℕ) (ls : List Line) → n ≡ 0 → consistentHalves n ls ≡ true
+unfolding consistentHalves
+empty-consistent n ls e = rw e
+
+empty-table : (n : ℕ) (E : List Step) (w : List ℤ) → n ≡ 0 → tableIn n w ≡ storedTable E (2 * n) (2 * n)
+unfolding storedTable
+empty-table n E w e = rw e
 
 -- ---- a written refutation of the due kind
 module _ (n : ℕ) (L : List ℤ) (R : List ℕ) (w : List ℤ) (R′ : List ℕ) (w′ : List ℤ) where
@@ -102,9 +127,6 @@ module _ (n : ℕ) (L : List ℤ) (R : List ℕ) (w : List ℤ) (a : SearchReady
   ok : ListOk n L
   ok = valid-list n L (a .valid)
 
-  pub table-ready : TableReady n L w
-  table-ready = record { few = ok .variables; valid = ok .lines; few-lines = ok .count; room = omega (arith, a .work-room) }
-
   -- a false line
   pub by-false : (k : ℕ) → k ≡ firstFalse 0 (linesOf L) → k < lineCount L → (R′ : List ℕ) → R′ ≡ 3 ∷ 1 ∷ 0 ∷ 2 * k ∷ drop (headSize + 1) R → Searched n L R w R′ w true
   by-false k e h R′ i =
@@ -123,33 +145,87 @@ module _ (n : ℕ) (L : List ℤ) (R : List ℕ) (w : List ℤ) (a : SearchReady
           go true z = refl
           go false z = absurd (omega (arith, false-none L z, e))
 
-  pub at-once-ready : AtOnceReady n L R w
-  at-once-ready = record { few = ok .variables; valid = ok .lines; lines = ok .count; room = omega (arith, a .room); work-room = a .work-room }
+  -- what stands in the work area is kept behind its used room
+  scratched : {place end : ℕ} {w₁ w₂ : List ℤ} → end ≤ usedRoom n → Scratch place end w₁ w₂ → Scratch 0 (usedRoom n) w₁ w₂
+  scratched h k = scratch-wider (omega arith) h k
 
-  -- refuted at once
-  pub by-at-once : hasFalse (linesOf L) ≡ false → (R′ : List ℕ) (w₁ : List ℤ) → RefutedAtOnce n L R w R′ w₁ → Searched n L R w R′ w₁ true
-  by-at-once clear R′ w₁ f =
+  pub refuted-by : (kind : ℕ) → (kind ≡ 3 → ⊥) → dueKind n (linesOf L) ≡ kind → verdictOf n (linesOf L) ≡ false → (R′ : List ℕ) (w₁ w₂ : List ℤ) → RefutationWritten n L kind R w₁ R′ w₂ → Scratch 0 (usedRoom n) w w₂ → Searched n L R w R′ w₂ true
+  refuted-by kind other due verdict R′ w₁ w₂ k s =
       record {
-        verdict = no-by-walk n (linesOf L) clear (f .negative);
-        on-no = λ _. due-written n L R w R′ w₁ 1 (λ z. omega arith) (kind-negative n (linesOf L) clear (f .negative)) (f .written);
+        verdict = verdict;
+        on-no = λ _. due-written n L R w₁ R′ w₂ kind other due k;
         on-yes = λ z. never (cc);
-        same-length = f .written .same-length;
-        behind = f .written .behind;
+        same-length = s .same-length;
+        behind = s .behind;
       }
 
-  -- not at once: what the search leaves from there on
-  module _ (R₁ : List ℕ) (w₁ : List ℤ) (k : (R₁ ≡ R) × Scratch 0 (usedRoom n) w w₁) where
-    pub search-after : SearchReady n L R₁ w₁
-    search-after = record { valid = a .valid; room = rw (k .0) (a .room); work-room = omega (arith, a .work-room, k .1 .same-length) }
+  -- no variable, no point, no walk
+  pub by-empty : n ≡ 0 → hasFalse (linesOf L) ≡ false → Searched n L R w R w false
+  by-empty e clear =
+      record {
+        verdict = yes-by-all n (linesOf L) clear (empty-clear n E e) (empty-consistent n (linesOf L) e);
+        on-no = λ z. never (cc);
+        on-yes = λ _. (refl, empty-table n E w e);
+        same-length = refl;
+        behind = refl;
+      }
 
-    pub searched-after : (R′ : List ℕ) (w′ : List ℤ) (r : Bool) → Searched n L R₁ w₁ R′ w′ r → Searched n L R w R′ w′ r
-    searched-after R′ w′ r f =
-        let g : Searched n L R w₁ R′ w′ r = subst (λ (x : List ℕ). Searched n L x w₁ R′ w′ r) (k .0) f in
-        record { verdict = g .verdict; on-no = g .on-no; on-yes = g .on-yes; same-length = g .same-length ∙ k .1 .same-length; behind = g .behind ∙ k .1 .behind }
+  pub lay-ready : LayReady n L w
+  lay-ready = record { few = ok .variables; valid = ok .lines; few-lines = ok .count; room = omega (arith, a .work-room) }
 
-  module _ (clear : hasFalse (linesOf L) ≡ false) (w₁ : List ℤ) (u : ℕ) (d : TableMade E m w w₁ u) where
-    behind-table : drop (usedRoom n) w₁ ≡ drop (usedRoom n) w
-    behind-table = sym (drop-drop m (tableStart m + m * m) w₁) ∙ ap (drop m) (d .behind) ∙ drop-drop m (tableStart m + m * m) w
+  -- the steps are laid
+  module _ (w₁ : List ℤ) (count : ℕ) (d : Laid n L w w₁ count) where
+    most : count ≤ maxSteps
+    most =
+        let b : 2 * n * (2 * n) ≤ 2 * maxVariables * (2 * n) = mul-le-mul-right (2 * n) (omega (arith, ok .variables)) in
+        omega (arith, d .no-more, b, ok .variables)
+
+    pub at-once-ready : AtOnceReady n L count R w₁
+    at-once-ready =
+        record {
+          few = ok .variables;
+          valid = ok .lines;
+          lines = ok .count;
+          room = omega (arith, a .room);
+          work-room = omega (arith, a .work-room, d .scratch .same-length);
+          steps = record { few = most; before = omega (arith, d .no-more); room = omega (arith, a .work-room, d .scratch .same-length); ok = d .ok };
+        }
+
+    module _ (R₁ : List ℕ) (w₂ : List ℤ) (r : Bool) (f : AtOnce n L R w₁ R₁ w₂ r) where
+      since : Scratch 0 (usedRoom n) w w₂
+      since = scratch-trans (scratched (omega arith) (d .scratch)) (scratched (omega arith) (f .scratch))
+
+      -- refuted at once
+      pub by-at-once : hasFalse (linesOf L) ≡ false → r ≡ true → Searched n L R w R₁ w₂ true
+      by-at-once clear e =
+          let g = f .on-yes e in
+          refuted-by 1 (λ z. omega arith) (kind-negative n (linesOf L) clear (g .negative)) (no-by-walk n (linesOf L) clear (g .negative)) R₁ (g .between) w₂ (g .written) since
+
+      -- not at once: what the search leaves from there on
+      module _ (e : r ≡ false) where
+        pub search-after : SearchReady n L R₁ w₂
+        search-after = record { valid = a .valid; room = rw (f .on-no e .0) (a .room); work-room = omega (arith, a .work-room, since .same-length) }
+
+        pub asked-after : TableAsked n L count w₂
+        asked-after =
+            record {
+              few = ok .variables;
+              valid = ok .lines;
+              few-lines = ok .count;
+              standing = standing-kept (laid-standing d) (f .scratch);
+              small = f .on-no e .1;
+              room = search-after .work-room;
+            }
+
+        pub searched-after : (R′ : List ℕ) (w′ : List ℤ) (q : Bool) → Searched n L R₁ w₂ R′ w′ q → Searched n L R w R′ w′ q
+        searched-after R′ w′ q k =
+            let g : Searched n L R w₂ R′ w′ q = subst (λ (x : List ℕ). Searched n L x w₂ R′ w′ q) (f .on-no e .0) k in
+            record { verdict = g .verdict; on-no = g .on-no; on-yes = g .on-yes; same-length = g .same-length ∙ since .same-length; behind = g .behind ∙ since .behind }
+
+  module _ (clear : hasFalse (linesOf L) ≡ false) (w₁ : List ℤ) (u : ℕ) (d : TableFound n L w w₁ u) where
+    -- what a refutation from there leaves
+    written-since : (kind : ℕ) (R′ : List ℕ) (w₂ : List ℤ) → RefutationWritten n L kind R w₁ R′ w₂ → Scratch 0 (usedRoom n) w w₂
+    written-since kind R′ w₂ k = scratch-trans (d .scratch) (written-scratch n kind L R R′ w₁ w₂ k)
 
     -- a closed walk of negative sum
     module _ (h : u < m) where
@@ -164,7 +240,7 @@ module _ (n : ℕ) (L : List ℤ) (R : List ℕ) (w : List ℤ) (a : SearchReady
           record {
             ready =
                 record {
-                  ready = record { few = ok .variables; valid = ok .lines; within = h; room = omega (arith, a .work-room, d .same-length); value = low .0; reached = low .1; wanted = inl refl };
+                  ready = record { few = ok .variables; valid = ok .lines; within = h; room = omega (arith, a .work-room, d .scratch .same-length); value = low .0; reached = low .1; wanted = inl refl };
                   lines = ok .count;
                   room = omega (arith, a .room);
                 };
@@ -172,14 +248,7 @@ module _ (n : ℕ) (L : List ℤ) (R : List ℕ) (w : List ℤ) (a : SearchReady
           }
 
       pub by-walk : (R′ : List ℕ) (w₂ : List ℤ) → RefutationWritten n L 1 R w₁ R′ w₂ → Searched n L R w R′ w₂ true
-      by-walk R′ w₂ k =
-          record {
-            verdict = no-by-walk n (linesOf L) clear negative;
-            on-no = λ _. due-written n L R w₁ R′ w₂ 1 (λ z. omega arith) (kind-negative n (linesOf L) clear negative) k;
-            on-yes = λ z. never (cc);
-            same-length = k .same-length ∙ d .same-length;
-            behind = k .behind ∙ behind-table;
-          }
+      by-walk R′ w₂ k = refuted-by 1 (λ z. omega arith) (kind-negative n (linesOf L) clear negative) (no-by-walk n (linesOf L) clear negative) R′ w₁ w₂ k (written-since 1 R′ w₂ k)
 
     -- no such walk: the table is whole
     module _ (h : m ≤ u) where
@@ -211,7 +280,7 @@ module _ (n : ℕ) (L : List ℤ) (R : List ℕ) (w : List ℤ) (a : SearchReady
               let f = first-bad m (tableOf m (tableIn n w₁)) (consistent ∙ bad) in
               subst (λ (x : ℕ). halvesOk (distances n (linesOf L)) x ≡ false) (sym q) (sym (ok-same n _ _ same _ (f .below)) ∙ f .bad)
 
-          pub halves-ready : HalvesReady n L p R w₁
+          halves-ready : HalvesReady n L p R w₁
           halves-ready = go (best E m p (opposite p)) refl (best E m (opposite p) p) refl low-halves
             where
               go : (x : Distance) → best E m p (opposite p) ≡ x → (y : Distance) → best E m (opposite p) p ≡ y → notBelow0 (halfD x ⊞ halfD y) ≡ false → HalvesReady n L p R w₁
@@ -224,7 +293,7 @@ module _ (n : ℕ) (L : List ℤ) (R : List ℕ) (w : List ℤ) (a : SearchReady
                     valid = ok .lines;
                     lines = ok .count;
                     within = l;
-                    work-room = omega (arith, a .work-room, d .same-length);
+                    work-room = omega (arith, a .work-room, d .scratch .same-length);
                     room = omega (arith, a .room);
                     there = x;
                     back = y;
@@ -234,15 +303,17 @@ module _ (n : ℕ) (L : List ℤ) (R : List ℕ) (w : List ℤ) (a : SearchReady
                     clear = d .clear whole;
                   }
 
-          pub by-halves : (R′ : List ℕ) (w₂ : List ℤ) → RefutationWritten n L 2 R w₁ R′ w₂ → Searched n L R w R′ w₂ true
-          by-halves R′ w₂ k =
-              record {
-                verdict = no-by-halves n (linesOf L) clear (d .clear whole) bad;
-                on-no = λ _. due-written n L R w₁ R′ w₂ 2 (λ z. omega arith) (kind-halves n (linesOf L) clear (d .clear whole)) k;
-                on-yes = λ z. never (cc);
-                same-length = k .same-length ∙ d .same-length;
-                behind = k .behind ∙ behind-table;
-              }
+          verdict-no : verdictOf n (linesOf L) ≡ false
+          verdict-no = no-by-halves n (linesOf L) clear (d .clear whole) bad
+
+          due : dueKind n (linesOf L) ≡ 2
+          due = kind-halves n (linesOf L) clear (d .clear whole)
+
+          pub halves-search : HalvesReady n L p R w₁ × (placesAt n ≤ length w₁)
+          halves-search = (halves-ready, omega (arith, a .work-room, d .scratch .same-length))
+
+          pub by-halves : (R′ : List ℕ) (w₂ : List ℤ) → HalvesAtOnce n L R w₁ R′ w₂ true → Searched n L R w R′ w₂ true
+          by-halves R′ w₂ k = refuted-by 2 (λ z. omega arith) due verdict-no R′ w₂ w₂ (k .on-yes refl) (scratch-trans (d .scratch) (scratched (omega arith) (k .scratch)))
 
         pub by-none : m ≤ p → Searched n L R w R w₁ false
         by-none l =
@@ -250,8 +321,8 @@ module _ (n : ℕ) (L : List ℤ) (R : List ℕ) (w : List ℤ) (a : SearchReady
               verdict = yes-by-all n (linesOf L) clear (d .clear whole) good;
               on-no = λ z. never (cc);
               on-yes = λ _. (refl, d .table whole);
-              same-length = d .same-length;
-              behind = behind-table;
+              same-length = d .scratch .same-length;
+              behind = d .scratch .behind;
             }
           where
             good : consistentHalves n (linesOf L) ≡ true

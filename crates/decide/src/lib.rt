@@ -4,9 +4,11 @@ use buffers::clear;
 use buffers::decide_validity;
 use buffers::work_room;
 use closed_refutation::refuted_at_once;
+use halves_refutation::halves_at_once;
 use lines::Refusal;
 use lines::Validity;
 use lines::limits::LINE_SIZE;
+use merged_steps::lay_steps;
 use outputs::first_bad;
 use refuting::write_closed;
 use refuting::write_false;
@@ -14,9 +16,15 @@ use refuting::write_halves;
 use searching::first_false;
 use table_by_elimination::table_by_elimination;
 ghost use mathlib.Core.Path.{_≡_};
-ghost use mathlib.Core.Bool.{false};
+ghost use mathlib.Core.Bool.{true, false};
+ghost use Prim.Native.Nat.{_≤_};
+ghost use lib.ListN.{length};
+ghost use Rattle.refuting.specs.Refutation.{HalvesReady};
+ghost use Rattle.packed_steps.specs.Layout.{placesAt};
+ghost use Rattle.halves_refutation.specs.Halves.{HalvesAtOnce};
 ghost use Rattle.lines.specs.Line.{linesOf};
 ghost use Rattle.answers.specs.Verdict.{hasFalse};
+ghost use Rattle.table_by_elimination.specs.Found.{TableAsked};
 ghost use Rattle.decide.specs.Searched.{SearchReady, Searched};
 ghost use Rattle.decide.specs.Decided.{Decided};
 
@@ -27,36 +35,58 @@ pub enum Answer {
     Refused(Refusal),
 }
 
+// The refutation by two walks between the point p and its opposite: at once, or else from rows.
+fn refute_by_halves(list: &[i32], n: usize, p: usize, refutation: &mut [u32], work: &mut [i64])
+    requires { ⌜ HalvesReady n (now list) p (now refutation) (now work) × (placesAt n ≤ length (now work)) ⌝ }
+    ensures { λ _. ⌜ HalvesAtOnce n (now (list .entry)) (now (refutation .entry)) (now (work .entry)) (now (refutation .exit)) (now (work .exit)) true ⌝ }
+{
+    if halves_at_once(list, n, p, refutation, work) {
+        return;
+    }
+    write_halves(list, n, p, refutation, work);
+}
+
 // Whether the table refutes the list: a closed walk of negative sum, else two walks between a point and its opposite. If
 // so, the refutation is written; else the table of distances stands in the work area.
-fn refuted_by_table(list: &[i32], n: usize, refutation: &mut [u32], work: &mut [i64]) -> bool
-    requires { ⌜ SearchReady n (now list) (now refutation) (now work) × (hasFalse (linesOf (now list)) ≡ false) ⌝ }
+fn refuted_by_table(
+    list: &[i32],
+    n: usize,
+    count: usize,
+    refutation: &mut [u32],
+    work: &mut [i64],
+) -> bool
+    requires { ⌜ SearchReady n (now list) (now refutation) (now work) × TableAsked n (now list) count (now work) × (hasFalse (linesOf (now list)) ≡ false) ⌝ }
     ensures { λ r. ⌜ Searched n (now (list .entry)) (now (refutation .entry)) (now (work .entry)) (now (refutation .exit)) (now (work .exit)) r ⌝ }
 {
     let size = 2 * n;
     let start = (size + 1) * size;
-    let u = table_by_elimination(list, n, work);
+    let u = table_by_elimination(list, n, count, work);
     if u < size {
         write_closed(list, n, u, refutation, work);
         return true;
     }
     let p = first_bad(&work[start..start + size * size], n);
     if p < size {
-        write_halves(list, n, p, refutation, work);
+        refute_by_halves(list, n, p, refutation, work);
         return true;
     }
     false
 }
 
-// Whether walks refute the list: at once by a closed walk of negative sum that a few passes show, else by the table.
+// Whether walks refute the list: at once by a closed walk of negative sum that passes over its steps show, else by the
+// table.
 fn refuted_by_walks(list: &[i32], n: usize, refutation: &mut [u32], work: &mut [i64]) -> bool
     requires { ⌜ SearchReady n (now list) (now refutation) (now work) × (hasFalse (linesOf (now list)) ≡ false) ⌝ }
     ensures { λ r. ⌜ Searched n (now (list .entry)) (now (refutation .entry)) (now (work .entry)) (now (refutation .exit)) (now (work .exit)) r ⌝ }
 {
-    if refuted_at_once(list, n, refutation, work) {
+    if n == 0 {
+        return false;
+    }
+    let count = lay_steps(list, n, work);
+    if refuted_at_once(list, n, count, refutation, work) {
         return true;
     }
-    refuted_by_table(list, n, refutation, work)
+    refuted_by_table(list, n, count, refutation, work)
 }
 
 // Whether the list is refuted: by its lowest false line, else by walks.

@@ -1,5 +1,2 @@
-pub mod Exact
-pub mod Finish
-pub mod Fill
+pub mod Kept
 pub mod Rows
-pub mod ExactRows

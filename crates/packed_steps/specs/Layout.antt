@@ -26,9 +26,9 @@ pointsAt n = placesAt n + 3 * n
 abbrev pub rowWidth : ℕ → ℕ
 rowWidth size = size + 8
 
--- where all of it ends
+-- where all of it ends: behind that table two rows more, for the order of rounds
 abbrev pub engineEnd : ℕ → ℕ
-engineEnd n = pointsAt n + 2 * (2 * n) + 2 * n * rowWidth (2 * n)
+engineEnd n = pointsAt n + 2 * (2 * n) + 2 * n * rowWidth (2 * n) + 2 * (2 * n)
 
 -- none of these comes near 64 bits
 pub square-small : (n : ℕ) → n ≤ maxVariables → n * n ≤ maxVariables * maxVariables

@@ -2,7 +2,7 @@
 -- then the steps.
 use mathlib.Core.Path.{_≡_, refl, sym, ap, subst, _∙_}
 use mathlib.Core.List.{List, []}
-use Prim.Native.Nat.{ℕ, _+_, _*_, _%_, _≤_, _<_}
+use Prim.Native.Nat.{ℕ, _+_, _*_, _/_, _%_, _≤_, _<_}
 use native.Mathlib.Decide.{ℕ-discrete, decLt}
 use native.Mathlib.Omega.{arith}
 use lib.IntN.{ℤ, pos, negℤ, _+ℤ_, _-ℤ_}
@@ -18,9 +18,10 @@ use Rattle.steps.specs.declared.Step.{Step}
 use Rattle.steps.specs.Point.{opposite}
 use Rattle.walks.specs.Row.{In}
 use Rattle.walks.specs.Mirror.{Mirrored, opposite-lt}
-use Rattle.flat_steps.specs.Steps.{stepIn, stepsIn, StepsReady, step-in}
-use Rattle.flat_steps.specs.Scratch.{Scratch, scratch-none, scratch-trans, scratch-set, scratch-at, scratch-ready, scratch-steps}
-use Rattle.reduced_table.specs.Reduced.{far, maxPotential, cell, tableEnd, Reduced, asked, LowerReady, entry-far, entry-step, cell-lt, from-lt, to-lt}
+use Rattle.packed_steps.specs.Steps.{stepIn, stepsIn, StepsReady, step-in}
+use Rattle.packed_steps.specs.Layout.{rowWidth}
+use Rattle.packed_steps.specs.Scratch.{Scratch, scratch-none, scratch-trans, scratch-set, scratch-at, scratch-ready, scratch-steps, scratch-wider}
+use Rattle.reduced_table.specs.Reduced.{far, maxPotential, cell, tableEnd, Reduced, asked, LowerReady, entry-far, entry-step, cell-lt, from-lt, to-lt, Kept, reduced-again}
 use Rattle.walks.specs.Reach.{walk-none}
 
 -- a potential that is larger is not used
@@ -28,13 +29,15 @@ abbrev pub maxRead : ℕ
 maxRead = 5_000_000_000_000
 
 -- ---- numbers of points
-pub record PointsReady (count pot size : ℕ) (w : List ℤ) : Type 0 where
+-- the row and the order may stand anywhere, and hold any numbers
+pub record PointsReady (count pot size row order : ℕ) (w : List ℤ) : Type 0 where
   pub steps : StepsReady count pot size w
   pub mirrored : Mirrored (stepsIn count w)
   pub even : size % 2 ≡ 0
   pub points : size ≤ 2 * maxVariables
   pub room : tableEnd pot size ≤ length w
-  pub first-row : pot + 2 * size + size ≤ length w
+  pub row-room : row + size ≤ length w
+  pub order-room : order + size / 2 ≤ length w
 
 -- the first k points have their numbers
 pub record Pointed (pot size : ℕ) (w₀ w : List ℤ) (k : ℕ) : Type 0 where
@@ -143,14 +146,14 @@ module _ (pot size : ℕ) (w₀ w : List ℤ) (k : ℕ) (p : Pointed pot size w�
 
 -- ---- far everywhere
 pub record AllFar (pot size : ℕ) (w₀ w : List ℤ) (k : ℕ) : Type 0 where
-  pub at-most : k ≤ size * size
+  pub at-most : k ≤ size * rowWidth size
   pub scratch : Scratch (pot + 2 * size) (tableEnd pot size) w₀ w
   pub all : (c : ℕ) → c < k → number w (pot + 2 * size + c) ≡ pos far
 
 pub filled-start : (pot size : ℕ) (w : List ℤ) → AllFar pot size w w 0
 filled-start pot size w = record { at-most = omega arith; scratch = scratch-none (pot + 2 * size) (tableEnd pot size) w; all = λ c h. absurd (omega arith) }
 
-pub filled-more : {pot size k : ℕ} {w₀ w : List ℤ} → AllFar pot size w₀ w k → tableEnd pot size ≤ length w → k < size * size → AllFar pot size w₀ (set w (pot + 2 * size + k) (pos far)) (k + 1)
+pub filled-more : {pot size k : ℕ} {w₀ w : List ℤ} → AllFar pot size w₀ w k → tableEnd pot size ≤ length w → k < size * rowWidth size → AllFar pot size w₀ (set w (pot + 2 * size + k) (pos far)) (k + 1)
 filled-more {pot} {size} {k} {w₀} {w} f room h = record {
   at-most = omega arith;
   scratch = scratch-trans (f .scratch) (scratch-set (pot + 2 * size) (tableEnd pot size) w (pot + 2 * size + k) (pos far) (omega arith) (omega arith));
@@ -162,7 +165,7 @@ filled-more {pot} {size} {k} {w₀} {w} f room h = record {
     each c l (no n) = getD-set-other w (pot + 2 * size + k) (pot + 2 * size + c) (pos far) (pos 0) (λ x. n (omega (arith, x))) ∙ f .all c (omega arith)
 
 -- both: nothing but entries
-module _ {count pot size : ℕ} {w : List ℤ} (r : PointsReady count pot size w) (w₁ : List ℤ) (p : Pointed pot size w w₁ size) (w₂ : List ℤ) (f : AllFar pot size w₁ w₂ (size * size)) where
+module _ {count pot size row order : ℕ} {w : List ℤ} (r : PointsReady count pot size row order w) (w₁ : List ℤ) (p : Pointed pot size w w₁ size) (w₂ : List ℤ) (f : AllFar pot size w₁ w₂ (size * rowWidth size)) where
   steps-before : StepsReady count pot size w₁
   steps-before = scratch-ready (r .steps) (p .scratch)
 
@@ -170,10 +173,8 @@ module _ {count pot size : ℕ} {w : List ℤ} (r : PointsReady count pot size w
   wider = record {
     few = steps-before .few;
     before = omega (arith, steps-before .before);
-    room = omega (arith, r .first-row, p .scratch .same-length);
-    from-ok = steps-before .from-ok;
-    to-ok = steps-before .to-ok;
-    weight-ok = steps-before .weight-ok;
+    room = omega (arith, r .room, p .scratch .same-length);
+    ok = steps-before .ok;
   }
 
   after : StepsReady count (pot + 2 * size) size w₂
@@ -191,9 +192,7 @@ module _ {count pot size : ℕ} {w : List ℤ} (r : PointsReady count pot size w
       few = after .few;
       before = omega (arith, steps-before .before);
       room = omega (arith, after .room);
-      from-ok = after .from-ok;
-      to-ok = after .to-ok;
-      weight-ok = after .weight-ok;
+      ok = after .ok;
     };
     mirrored = subst Mirrored (sym same) (r .mirrored);
     even = r .even;
@@ -206,8 +205,18 @@ module _ {count pot size : ℕ} {w : List ℤ} (r : PointsReady count pot size w
     where
       is-far : (i j : ℕ) → i < size → j < size → number w₂ (cell pot size i j) ≡ pos far
       is-far i j hi hj =
-          let e : cell pot size i j ≡ pot + 2 * size + (i * size + j) = omega arith in
-          ap (number w₂) e ∙ f .all (i * size + j) (cell-lt size i j hi hj)
+          let e : cell pot size i j ≡ pot + 2 * size + (i * rowWidth size + j) = omega arith in
+          ap (number w₂) e ∙ f .all (i * rowWidth size + j) (cell-lt size i j hi hj)
+
+-- far everywhere once more
+pub far-kept : {count pot size : ℕ} {w : List ℤ} → Reduced count pot size w → (w′ : List ℤ) → AllFar pot size w w′ (size * rowWidth size) → Kept count pot size w w′
+far-kept {count} {pot} {size} {w} r w′ f =
+    reduced-again r w′ (scratch-wider (omega arith) (omega arith) (f .scratch)) (λ i j hi hj. rw (is-far i j hi hj) (entry-far (stepsIn count w) (number w (pot + i)) (number w (pot + j)) i j))
+  where
+    is-far : (i j : ℕ) → i < size → j < size → number w′ (cell pot size i j) ≡ pos far
+    is-far i j hi hj =
+        let e : cell pot size i j ≡ pot + 2 * size + (i * rowWidth size + j) = omega arith in
+        ap (number w′) e ∙ f .all (i * rowWidth size + j) (cell-lt size i j hi hj)
 
 -- ---- a step is put: its reduced weight is an entry
 module _ {count pot size : ℕ} {w : List ℤ} (r : Reduced count pot size w) (i : ℕ) (h : i < count) (t : Step) (e : t ≡ stepIn w i) where

@@ -1,12 +1,14 @@
 // The table before anything leaves: the numbers of points, FAR everywhere, 0 on the diagonal, and the reduced weights of the steps.
-use flat_steps::read_step;
+use packed_steps::read_step;
 use reduced_table::FAR;
+use reduced_table::SPARE;
 use reduced_table::lower_entry;
 ghost use Prim.Native.Nat.{_<_, _≤_, _+_, _*_};
 ghost use lib.ListN.{length};
 ghost use Rattle.integers.specs.Integer.{Within};
 ghost use Rattle.reduced_start.specs.Start.{maxRead, PointsReady, Pointed, AllFar};
-ghost use Rattle.reduced_table.specs.Reduced.{Reduced, Kept};
+ghost use Rattle.packed_steps.specs.Layout.{rowWidth};
+ghost use Rattle.reduced_table.specs.Reduced.{tableEnd, Reduced, Kept};
 
 // A potential that is larger is not used.
 const LARGE: i64 = 5_000_000_000_000;
@@ -26,16 +28,43 @@ fn not_large(z: i64) -> i64
     z
 }
 
-// The numbers of points, from the row that stands first in the table: the difference of a point's number and its opposite's.
-pub fn write_points(work: &mut [i64], count: usize, pot: usize, size: usize)
-    requires { ⌜ PointsReady count pot size (now work) ⌝ }
+// The variable at a place of an order of `half` variables: what stands there if it is one, else 0.
+fn variable_at(work: &[i64], order: usize, half: usize, place: usize) -> usize
+    requires { ⌜ (order + half ≤ length (now work)) × (place < half) ⌝ }
+    ensures { λ r. ⌜ r < half ⌝ }
+{
+    let z = work[order + place];
+    let below = z < 0;
+    if below {
+        return 0;
+    }
+    let x = z as usize;
+    if x < half {
+        return x;
+    }
+    0
+}
+
+// The numbers of points, in an order of the variables: of the two numbers that a row holds for the points of the variable
+// at a place, the difference and its negative. Nothing is asked of the row's numbers and the order's.
+pub fn write_points(
+    work: &mut [i64],
+    count: usize,
+    pot: usize,
+    size: usize,
+    row: usize,
+    order: usize,
+)
+    requires { ⌜ PointsReady count pot size row order (now work) ⌝ }
     ensures { λ _. ⌜ Pointed pot size (now (work .entry)) (now (work .exit)) size ⌝ }
 {
-    let row = pot + 2 * size;
+    let half = size / 2;
     let mut k = 0;
     while k < size {
-        let own = not_large(work[row + k]);
-        let other = not_large(work[row + k + 1]);
+        let x = variable_at(work, order, half, k / 2);
+        let at = row + 2 * x;
+        let own = not_large(work[at]);
+        let other = not_large(work[at + 1]);
         let number = own - other;
         work[pot + k] = number;
         work[pot + k + 1] = 0 - number;
@@ -45,11 +74,11 @@ pub fn write_points(work: &mut [i64], count: usize, pot: usize, size: usize)
 
 // Far everywhere.
 pub fn fill_far(work: &mut [i64], pot: usize, size: usize)
-    requires { ⌜ pot + 2 * size + size * size ≤ length (now work) ⌝ }
-    ensures { λ _. ⌜ AllFar pot size (now (work .entry)) (now (work .exit)) (size * size) ⌝ }
+    requires { ⌜ tableEnd pot size ≤ length (now work) ⌝ }
+    ensures { λ _. ⌜ AllFar pot size (now (work .entry)) (now (work .exit)) (size * rowWidth size) ⌝ }
 {
     let start = pot + 2 * size;
-    let cells = size * size;
+    let cells = size * (size + SPARE);
     let mut k = 0;
     while k < cells {
         work[start + k] = FAR;

@@ -16,8 +16,6 @@ use lib.Seq.{getD-set-same, getD-set-other, getD-drop, drop-drop, take-at, drop-
 use Rattle.integers.specs.Integer.{_⩽_, _⋖_, Within}
 use Rattle.integers.specs.Linear.{ints, zs}
 use Rattle.steps.specs.Step.{maxWeight}
-use Rattle.flat_steps.specs.Steps.{stepIn}
-use Rattle.flat_steps.specs.Read.{ReadReady, read-ready}
 use Rattle.lines.specs.Limits.{maxVariables}
 use Rattle.lines.specs.Line.{number}
 use Rattle.steps.specs.declared.Step.{Step}
@@ -26,8 +24,9 @@ use Rattle.steps.specs.Walk.{total, total-append}
 use Rattle.walks.specs.Row.{In}
 use Rattle.walks.specs.Reach.{Walk, walk-one, walk-append}
 use Rattle.walks.specs.Mirror.{Mirrored, mirrorSteps, mirror-walk, mirror-total, opposite-lt}
-use Rattle.flat_steps.specs.Steps.{stepsIn, StepsReady}
-use Rattle.flat_steps.specs.Scratch.{Scratch, scratch-none, scratch-trans, scratch-set, scratch-at, scratch-ready, scratch-steps}
+use Rattle.packed_steps.specs.Steps.{stepIn, stepsIn, StepsReady, ReadReady, read-ready}
+use Rattle.packed_steps.specs.Layout.{rowWidth}
+use Rattle.packed_steps.specs.Scratch.{Scratch, scratch-none, scratch-trans, scratch-set, scratch-at, scratch-ready, scratch-steps}
 
 -- stands for no walk
 abbrev pub far : ℕ
@@ -118,10 +117,10 @@ entry-step {E} {a} {b} {z} s i e l h = record {
 
 -- ---- the table in the work area: the steps, behind them a number of each point at `pot`, then a row to copy to, then the table
 abbrev pub cell : ℕ → ℕ → ℕ → ℕ → ℕ
-cell pot size i j = pot + 2 * size + i * size + j
+cell pot size i j = pot + 2 * size + i * rowWidth size + j
 
 abbrev pub tableEnd : ℕ → ℕ → ℕ
-tableEnd pot size = pot + 2 * size + size * size
+tableEnd pot size = pot + 2 * size + size * rowWidth size
 
 abbrev pub EntryIn : ℕ → ℕ → List ℤ → ℕ → ℕ → ℤ → Type 0
 EntryIn count pot w i j z = Entry (stepsIn count w) (number w (pot + i)) (number w (pot + j)) i j z
@@ -141,15 +140,15 @@ pub record Kept (count pot size : ℕ) (w w′ : List ℤ) : Type 0 where
   pub scratch : Scratch (pot + size) (tableEnd pot size) w w′
 
 -- ---- cells
-pub cell-lt : (size i j : ℕ) → i < size → j < size → i * size + j < size * size
-cell-lt size i j h l = omega (arith, mul-le-mul-right size h)
+pub cell-lt : (size i j : ℕ) → i < size → j < size → i * rowWidth size + j < size * rowWidth size
+cell-lt size i j h l = omega (arith, mul-le-mul-right (rowWidth size) h)
 
-row-same : (size i j k l : ℕ) → j < size → l < size → i * size + j ≡ k * size + l → i ≡ k
+row-same : (size i j k l : ℕ) → j < size → l < size → i * rowWidth size + j ≡ k * rowWidth size + l → i ≡ k
 row-same size i j k l hj hl e = go (decLt i k) (decLt k i)
   where
     go : Dec (i < k) → Dec (k < i) → i ≡ k
-    go (yes h) d = absurd (omega (arith, mul-le-mul-right size h))
-    go (no h) (yes g) = absurd (omega (arith, mul-le-mul-right size g))
+    go (yes h) d = absurd (omega (arith, mul-le-mul-right (rowWidth size) h))
+    go (no h) (yes g) = absurd (omega (arith, mul-le-mul-right (rowWidth size) g))
     go (no h) (no g) = omega arith
 
 module _ {count pot size : ℕ} {w : List ℤ} (r : Reduced count pot size w) where
@@ -176,7 +175,7 @@ module _ {count pot size : ℕ} {w : List ℤ} (r : Reduced count pot size w) wh
     entry-same : (i j : ℕ) → i < size → j < size → {z : ℤ} → EntryIn count pot w i j z → EntryIn count pot w′ i j z
     entry-same i j hi hj {z} e = rw (same-steps, same-point i hi, same-point j hj) e
 
-    reduced-again : ((i j : ℕ) → i < size → j < size → EntryIn count pot w i j (number w′ (cell pot size i j))) → Kept count pot size w w′
+    pub reduced-again : ((i j : ℕ) → i < size → j < size → EntryIn count pot w i j (number w′ (cell pot size i j))) → Kept count pot size w w′
     reduced-again f = record {
       reduced = record {
         steps = scratch-ready (r .steps) s;
@@ -195,12 +194,12 @@ module _ {count pot size : ℕ} {w : List ℤ} (r : Reduced count pot size w) wh
   pub kept-set : (i j : ℕ) → i < size → j < size → (z : ℤ) → EntryIn count pot w i j z → Kept count pot size w (set w (cell pot size i j) z)
   kept-set i j hi hj z e =
       reduced-again (set w (cell pot size i j) z) (scratch-set (pot + size) (tableEnd pot size) w (cell pot size i j) z (omega arith) (omega (arith, cell-lt size i j hi hj)))
-      (λ k l hk hl. each k l hk hl (ℕ-discrete (k * size + l) (i * size + j)))
+      (λ k l hk hl. each k l hk hl (ℕ-discrete (k * rowWidth size + l) (i * rowWidth size + j)))
     where
-      each : (k l : ℕ) → k < size → l < size → Dec (k * size + l ≡ i * size + j) → EntryIn count pot w k l (number (set w (cell pot size i j) z) (cell pot size k l))
+      each : (k l : ℕ) → k < size → l < size → Dec (k * rowWidth size + l ≡ i * rowWidth size + j) → EntryIn count pot w k l (number (set w (cell pot size i j) z) (cell pot size k l))
       each k l hk hl (yes q) =
           let g : k ≡ i = row-same size k l i j hl hj q in
-          let f : l ≡ j = omega (arith, q, ap (λ (x : ℕ). x * size) g) in
+          let f : l ≡ j = omega (arith, q, ap (λ (x : ℕ). x * rowWidth size) g) in
           subst (λ (x : ℕ). EntryIn count pot w x l (number (set w (cell pot size i j) z) (cell pot size x l))) (sym g)
           (subst (λ (x : ℕ). EntryIn count pot w i x (number (set w (cell pot size i j) z) (cell pot size i x))) (sym f)
           (rw (getD-set-same w (cell pot size i j) z (pos 0) (omega (arith, r .room, cell-lt size i j hi hj))) e))
@@ -211,15 +210,15 @@ module _ {count pot size : ℕ} {w : List ℤ} (r : Reduced count pot size w) wh
   kept-copy w′ s = reduced-again w′ (record { same-length = s .same-length; front = s .front; behind = behind }) (λ i j hi hj. rw (same-cell i j) (r .entry i j hi hj))
     where
       behind : drop (tableEnd pot size) w′ ≡ drop (tableEnd pot size) w
-      behind = sym (drop-drop (size * size) (pot + 2 * size) w′) ∙ ap (drop (size * size)) (s .behind) ∙ drop-drop (size * size) (pot + 2 * size) w
+      behind = sym (drop-drop (size * rowWidth size) (pot + 2 * size) w′) ∙ ap (drop (size * rowWidth size)) (s .behind) ∙ drop-drop (size * rowWidth size) (pot + 2 * size) w
 
       same-cell : (i j : ℕ) → number w′ (cell pot size i j) ≡ number w (cell pot size i j)
       same-cell i j =
-          let e : cell pot size i j ≡ (pot + 2 * size) + (i * size + j) = omega arith in
+          let e : cell pot size i j ≡ (pot + 2 * size) + (i * rowWidth size + j) = omega arith in
           ap (number w′) e
-          ∙ sym (getD-drop (pot + 2 * size) w′ (i * size + j) (pos 0))
-          ∙ ap (λ (l : List ℤ). number l (i * size + j)) (s .behind)
-          ∙ getD-drop (pot + 2 * size) w (i * size + j) (pos 0)
+          ∙ sym (getD-drop (pot + 2 * size) w′ (i * rowWidth size + j) (pos 0))
+          ∙ ap (λ (l : List ℤ). number l (i * rowWidth size + j)) (s .behind)
+          ∙ getD-drop (pot + 2 * size) w (i * rowWidth size + j) (pos 0)
           ∙ ap (number w) (sym e)
 
 pub kept-trans : {count pot size : ℕ} {w w′ w″ : List ℤ} → Kept count pot size w w′ → Kept count pot size w′ w″ → Kept count pot size w w″
@@ -230,11 +229,11 @@ pub record Asked (count pot size i k : ℕ) (w : List ℤ) : Type 0 where
   pub reduced : Reduced count pot size w
   pub i-lt : i < size
   pub k-lt : k < size
-  pub i-row : i * size + size ≤ size * size
-  pub k-row : k * size + size ≤ size * size
+  pub i-row : i * rowWidth size + rowWidth size ≤ size * rowWidth size
+  pub k-row : k * rowWidth size + rowWidth size ≤ size * rowWidth size
 
 pub asked : {count pot size : ℕ} {w : List ℤ} → Reduced count pot size w → (i k : ℕ) → i < size → k < size → Asked count pot size i k w
-asked {size} r i k h l = record { reduced = r; i-lt = h; k-lt = l; i-row = omega (arith, mul-le-mul-right size h); k-row = omega (arith, mul-le-mul-right size l) }
+asked {size} r i k h l = record { reduced = r; i-lt = h; k-lt = l; i-row = omega (arith, mul-le-mul-right (rowWidth size) h); k-row = omega (arith, mul-le-mul-right (rowWidth size) l) }
 
 pub record LowerReady (count pot size i k : ℕ) (a : ℤ) (w : List ℤ) : Type 0 where
   pub ask : Asked count pot size i k w
@@ -371,13 +370,13 @@ module _ {count pot size : ℕ} {w : List ℤ} (r : Reduced count pot size w) (i
   -- the step as it was read
   module _ (t : Step) (e : t ≡ stepIn w i) where
     pub from-lt : t .from < size
-    from-lt = rw e (r .steps .from-ok i h .high)
+    from-lt = rw e (r .steps .ok i h .from-lt)
 
     pub to-lt : t .to < size
-    to-lt = rw e (r .steps .to-ok i h .high)
+    to-lt = rw e (r .steps .ok i h .to-lt)
 
     pub light : Within maxWeight (t .weight)
-    light = rw e (r .steps .weight-ok i h)
+    light = rw e (r .steps .ok i h .light)
 
 pub twice-fits : (v : ℤ) → Within maxWeight v → SFits w64 (v +ℤ v)
 twice-fits v h = simp ints (omega zs)

@@ -8,6 +8,9 @@ ghost use Rattle.reduced_table.specs.Reduced.{cell, Kept, Asked, LowerRe
 // Stands for no walk while the table is made.
 pub const FAR: i64 = 100_000_000_000_000;
 
+// A row of the table has so many numbers more than points: the entries of a column then do not meet in one set of the cache.
+pub const SPARE: usize = 8;
+
 // A number below 0, or 0. With this instead of the smaller of two numbers a loop over a row is compiled to about half the time.
 pub fn negative_part(d: i64) -> i64
     ensures { λ r. ⌜ NegativePart d r ⌝ }
@@ -29,8 +32,8 @@ pub fn lower(
     requires { ⌜ LowerReady count pot size i k a (now work) ⌝ }
     ensures { λ _. ⌜ Kept count pot size (now (work .entry)) (now (work .exit)) ⌝ }
 {
-    let to = pot + 2 * size + i * size;
-    let by = pot + 2 * size + k * size;
+    let to = pot + 2 * size + i * (size + SPARE);
+    let by = pot + 2 * size + k * (size + SPARE);
     let mut t = from;
     while t < size {
         let sum = work[by + t] + a;
@@ -46,7 +49,7 @@ pub fn entry_at(work: &[i64], count: usize, pot: usize, size: usize, i: usize, j
     requires { ⌜ Asked count pot size i j (now work) ⌝ }
     ensures { λ r. ⌜ r ≡ number (now (work .entry)) (cell pot size i j) ⌝ }
 {
-    let at = pot + 2 * size + i * size;
+    let at = pot + 2 * size + i * (size + SPARE);
     work[at + j]
 }
 
@@ -63,7 +66,7 @@ pub fn lower_entry(
     requires { ⌜ LowerReady count pot size i j z (now work) ⌝ }
     ensures { λ _. ⌜ Kept count pot size (now (work .entry)) (now (work .exit)) ⌝ }
 {
-    let at = pot + 2 * size + i * size;
+    let at = pot + 2 * size + i * (size + SPARE);
     let old = work[at + j];
     if z < old {
         work[at + j] = z;

@@ -4,6 +4,7 @@
 use distances::copy_row;
 use elimination::eliminate_all;
 use reduced_table::FAR;
+use reduced_table::SPARE;
 use reduced_table::entry_at;
 use reduced_table::lower;
 use reduced_table::lower_entry;
@@ -25,9 +26,9 @@ fn lower_copied(
     ensures { λ _. ⌜ Kept count pot size (now (work .entry)) (now (work .exit)) ⌝ }
 {
     let a = entry_at(work, count, pot, size, k, j);
-    let copied = work[pot + size + j];
-    if a == copied {
-        if a < FAR {
+    if a < FAR {
+        let copied = work[pot + size + j];
+        if a == copied {
             lower(work, count, pot, size, k, j, from, a);
         }
     }
@@ -38,7 +39,7 @@ fn restore_row(work: &mut [i64], count: usize, pot: usize, size: usize, k: usize
     requires { ⌜ Asked count pot size k k (now work) ⌝ }
     ensures { λ _. ⌜ Kept count pot size (now (work .entry)) (now (work .exit)) ⌝ }
 {
-    let at = pot + 2 * size + k * size;
+    let at = pot + 2 * size + k * (size + SPARE);
     let copy = pot + size;
     copy_row(work, at, copy, size);
     let mut j = from;
@@ -63,7 +64,7 @@ fn lower_own(work: &mut [i64], count: usize, pot: usize, size: usize, k: usize, 
     }
 }
 
-// The entry from j to c lowered to that of the mirror image.
+// The entry from j to c lowered to that of the mirror image, if there is one: a column's entries are far apart in memory.
 fn take(work: &mut [i64], count: usize, pot: usize, size: usize, j: usize, c: usize)
     requires { ⌜ Asked count pot size j c (now work) ⌝ }
     ensures { λ _. ⌜ Kept count pot size (now (work .entry)) (now (work .exit)) ⌝ }
@@ -71,7 +72,9 @@ fn take(work: &mut [i64], count: usize, pot: usize, size: usize, j: usize, c: us
     let row = opposite_of(c);
     let column = opposite_of(j);
     let z = entry_at(work, count, pot, size, row, column);
-    lower_entry(work, count, pot, size, j, c, z);
+    if z < FAR {
+        lower_entry(work, count, pot, size, j, c, z);
+    }
 }
 
 // A variable's two points come back: their rows, the entries between them, and their columns.
@@ -94,23 +97,23 @@ fn restore(work: &mut [i64], count: usize, pot: usize, size: usize, v: usize)
     }
 }
 
-// All variables come back, the last one first.
-fn restore_all(work: &mut [i64], count: usize, pot: usize, size: usize)
+// All variables come back, the last one first, down to a first one.
+fn restore_all(work: &mut [i64], count: usize, pot: usize, size: usize, first: usize)
     requires { ⌜ Reduced count pot size (now work) ⌝ }
     ensures { λ _. ⌜ Kept count pot size (now (work .entry)) (now (work .exit)) ⌝ }
 {
     let mut left = size / 2;
-    while left > 0 {
+    while left > first {
         left -= 1;
         restore(work, count, pot, size, left);
     }
 }
 
-// The table closed: all variables leave, and come back in the opposite order.
-pub fn close(work: &mut [i64], count: usize, pot: usize, size: usize)
+// The table closed: all variables from a first one on leave, and come back in the opposite order.
+pub fn close(work: &mut [i64], count: usize, pot: usize, size: usize, first: usize)
     requires { ⌜ Reduced count pot size (now work) ⌝ }
     ensures { λ _. ⌜ Kept count pot size (now (work .entry)) (now (work .exit)) ⌝ }
 {
-    eliminate_all(work, count, pot, size);
-    restore_all(work, count, pot, size);
+    eliminate_all(work, count, pot, size, first);
+    restore_all(work, count, pot, size, first);
 }

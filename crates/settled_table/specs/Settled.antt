@@ -16,7 +16,7 @@ use Rattle.lines.specs.Limits.{maxVariables}
 use Rattle.lines.specs.Line.{number}
 use Rattle.steps.specs.declared.Step.{Step}
 use Rattle.walks.specs.Distance.{none}
-use Rattle.flat_steps.specs.Steps.{stepIn, stepsIn}
+use Rattle.packed_steps.specs.Steps.{stepIn, stepsIn}
 use Rattle.reduced_table.specs.Reduced.{far, cell, Entry, Asked, NegativePart}
 
 -- ---- the sum of what row s is above row u and a weight, over the first t columns

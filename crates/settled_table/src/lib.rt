@@ -1,10 +1,17 @@
-// Whether the table is settled: the diagonal is 0, and no step lowers an entry. Then it holds the distances.
-use flat_steps::read_step;
+// Whether the table is settled: the diagonal is 0, and no step lowers an entry. Then it holds the distances, each turned
+// back by the numbers of its two points.
+use distances::NO_WALK;
+use integers::halved;
+use packed_steps::read_step;
 use reduced_table::FAR;
+use reduced_table::SPARE;
 use reduced_table::entry_at;
 use reduced_table::negative_part;
+ghost use mathlib.Core.Path.{_≡_};
 ghost use Prim.Native.Nat.{_<_};
+ghost use Rattle.distances.specs.Stored.{stored};
 ghost use Rattle.settled_table.specs.Settled.{SumReady, SettledIf, StepIf, DiagonalIf, StepsIf, TableIf};
+ghost use Rattle.settled_table.specs.Out.{outOf, OutReady};
 ghost use Rattle.reduced_table.specs.Reduced.{Reduced};
 
 // Whether row s is nowhere above row u and the weight r.
@@ -20,8 +27,8 @@ fn row_settled(
     requires { ⌜ SumReady count pot size s u r (now work) ⌝ }
     ensures { λ b. ⌜ SettledIf pot size s u r (now (work .entry)) b ⌝ }
 {
-    let own = pot + 2 * size + s * size;
-    let other = pot + 2 * size + u * size;
+    let own = pot + 2 * size + s * (size + SPARE);
+    let other = pot + 2 * size + u * (size + SPARE);
     let mut sum: i64 = 0;
     let mut t = 0;
     while t < size {
@@ -98,4 +105,15 @@ pub fn table_settled(work: &[i64], count: usize, pot: usize, size: usize) -> boo
         return steps_settled(work, count, pot, size);
     }
     false
+}
+
+// An entry as a distance: turned back by the numbers of its start and its end, and halved.
+pub fn distance_of(z: i64, own: i64, other: i64) -> i64
+    requires { ⌜ OutReady z own other ⌝ }
+    ensures { λ r. ⌜ r ≡ stored (outOf own other z) ⌝ }
+{
+    if z < FAR {
+        return halved(z + other - own);
+    }
+    NO_WALK
 }

@@ -1,2 +1,4 @@
-pub mod Eliminated
-pub mod Laid
+pub mod Placed
+pub mod Settling
+pub mod Made
+pub mod Found

@@ -1,97 +1,136 @@
-// The table of distances by elimination. The steps of the list are laid at the front of the work area, turned round; a
-// few passes over the row of 0s settle most lists that can hold, and the row is a potential then. Then elimination on
-// reduced weights.
-use closed_walks::negative_point;
+// The table of distances by elimination of variables on reduced weights, over the steps that stand at the front of the work
+// area. A potential shows that no closed walk is negative; variables get places, those with few steps first, and the steps
+// are renamed; the table on reduced weights is closed, and if it is settled, its rows are the distances. Each of these is
+// looked at, so that nothing is asked of the way; where one look fails, the table is made in rounds.
+use closed_refutation::is_potential;
 use distance_table::distance_table;
-use finished_rows::all_rows;
-use flat_steps::write_steps;
+use finished_rows::write_rows;
 use lines::limits::LINE_SIZE;
-use passing::no_negative;
+use merged_steps::merge_steps;
+use ordered_rounds::ordered_rounds;
+use packed_steps::layout::places_at;
+use packed_steps::layout::points_at;
+use packed_steps::layout::row_at;
 use reduced_start::fill_far;
 use reduced_start::put_all;
 use reduced_start::write_points;
+use renaming::alone;
+use renaming::is_renaming;
+use renaming::order_variables;
+use renaming::rename_steps;
 use restoring::close;
-ghost use Prim.Native.Nat.{_*_, _≤_};
-ghost use Rattle.lines.specs.Line.{linesOf};
-ghost use Rattle.steps.specs.Step.{stepsOf};
-ghost use Rattle.distances.specs.Table.{TableReady};
-ghost use Rattle.distance_table.specs.Made.{TableMade};
-ghost use Rattle.table_by_elimination.specs.Eliminated.{MakeReady, Eliminated};
-ghost use Rattle.table_by_elimination.specs.Laid.{RoomReady, Laid};
+use settled_table::table_settled;
+ghost use Rattle.packed_steps.specs.Layout.{placesAt};
+ghost use Rattle.table_by_elimination.specs.Placed.{PlaceReady, Placed};
+ghost use Rattle.table_by_elimination.specs.Settling.{SettleReady, Settling, StartReady, Started};
+ghost use Rattle.table_by_elimination.specs.Made.{MadeReady, Made};
+ghost use Rattle.table_by_elimination.specs.Found.{TableAsked, StandingAgain, TableFound};
 
-// So many passes are a few.
-const SOON: usize = 8;
+// Rounds are tried where the steps are so many times the points, and the square of the points is so many times the steps.
+const MANY: usize = 8;
 
-// The rows of all points by elimination, where no closed walk is negative. The potential stands first in the table.
-fn make(work: &mut [i64], count: usize, pot: usize, size: usize)
-    requires { ⌜ MakeReady count pot size (now work) ⌝ }
-    ensures { λ _. ⌜ Eliminated count pot size (now (work .entry)) (now (work .exit)) ⌝ }
+// Whether the variables have places; the steps are renamed then.
+fn placed(work: &mut [i64], count: usize, n: usize, at: usize) -> bool
+    requires { ⌜ PlaceReady count n at (now work) ⌝ }
+    ensures { λ r. ⌜ Placed count n at (now (work .entry)) (now (work .exit)) r ⌝ }
 {
-    write_points(work, count, pot, size);
+    order_variables(work, count, n, at);
+    if !is_renaming(work, n, at) {
+        return false;
+    }
+    rename_steps(work, count, n, at);
+    true
+}
+
+// The table on reduced weights as it begins: single steps.
+fn start_table(work: &mut [i64], count: usize, n: usize)
+    requires { ⌜ StartReady count n (now work) ⌝ }
+    ensures { λ _. ⌜ Started count n (now (work .entry)) (now (work .exit)) ⌝ }
+{
+    let size = 2 * n;
+    let pot = points_at(n);
+    write_points(work, count, pot, size, row_at(n), places_at(n) + n);
     fill_far(work, pot, size);
     put_all(work, count, pot, size);
-    close(work, count, pot, size);
-    all_rows(work, count, pot, size);
 }
 
-// The table over the steps laid, decided for certain. The marks of as many passes as points find a negative closed walk;
-// if ever they do not, the rounds are asked.
-fn table_late(list: &[i32], n: usize, work: &mut [i64], count: usize) -> usize
-    requires { ⌜ Laid n count (now list) (now work) ⌝ }
-    ensures { λ r. ⌜ TableMade (stepsOf (linesOf (now (list .entry)))) (2 * n) (now (work .entry)) (now (work .exit)) r ⌝ }
+// Whether a few rounds settle the table, where there are many steps; else it is as it began.
+fn settled_by_rounds(work: &mut [i64], count: usize, pot: usize, size: usize) -> bool
+    requires { ⌜ SettleReady count pot size (now work) ⌝ }
+    ensures { λ r. ⌜ Settling count pot size (now (work .entry)) (now (work .exit)) r ⌝ }
+{
+    if count < MANY * size {
+        return false;
+    }
+    if size * size < MANY * count {
+        return false;
+    }
+    if ordered_rounds(work, count, pot, size) {
+        if table_settled(work, count, pot, size) {
+            return true;
+        }
+    }
+    fill_far(work, pot, size);
+    put_all(work, count, pot, size);
+    false
+}
+
+// Whether the table is settled, by rounds or by elimination from a first variable on.
+fn settled(work: &mut [i64], count: usize, pot: usize, size: usize, first: usize) -> bool
+    requires { ⌜ SettleReady count pot size (now work) ⌝ }
+    ensures { λ r. ⌜ Settling count pot size (now (work .entry)) (now (work .exit)) r ⌝ }
+{
+    if settled_by_rounds(work, count, pot, size) {
+        return true;
+    }
+    close(work, count, pot, size, first);
+    table_settled(work, count, pot, size)
+}
+
+// Whether the table of distances is made.
+fn made(work: &mut [i64], count: usize, n: usize) -> bool
+    requires { ⌜ MadeReady count n (now work) ⌝ }
+    ensures { λ r. ⌜ Made count n (now (work .entry)) (now (work .exit)) r ⌝ }
 {
     let size = 2 * n;
-    let start = (size + 1) * size;
-    let pot = start - 2 * size;
-    if no_negative(work, count, start, size, size) {
-        make(work, count, pot, size);
-        return size;
+    if !is_potential(work, count, row_at(n), size) {
+        return false;
     }
-    let p = negative_point(work, count, start, size, size);
-    if p < size {
-        return p;
+    let at = places_at(n);
+    if !placed(work, count, n, at) {
+        return false;
     }
-    distance_table(list, n, work)
+    start_table(work, count, n);
+    let pot = points_at(n);
+    let first = alone(work, n, at);
+    if !settled(work, count, pot, size, first) {
+        return false;
+    }
+    write_rows(work, count, n, at, pot);
+    true
 }
 
-// A few passes, at most as many as points.
-fn few(size: usize) -> usize
-    ensures { λ r. ⌜ r ≤ size ⌝ }
+// Where there are many lines, their steps once more, of those between the same points only the lightest.
+fn fewer_steps(list: &[i32], n: usize, count: usize, work: &mut [i64]) -> usize
+    requires { ⌜ TableAsked n (now list) count (now work) ⌝ }
+    ensures { λ r. ⌜ StandingAgain n (now (list .entry)) (now (work .entry)) (now (work .exit)) r ⌝ }
 {
-    if SOON < size { SOON } else { size }
-}
-
-// The table where there is room before it for the steps, a number of each point and a row: decided soon if it can be.
-fn table_in_room(list: &[i32], n: usize, work: &mut [i64]) -> usize
-    requires { ⌜ RoomReady n (now list) (now work) ⌝ }
-    ensures { λ r. ⌜ TableMade (stepsOf (linesOf (now (list .entry)))) (2 * n) (now (work .entry)) (now (work .exit)) r ⌝ }
-{
-    let size = 2 * n;
-    let start = (size + 1) * size;
-    let pot = start - 2 * size;
-    let count = write_steps(list, n, work);
-    let passes = few(size);
-    if no_negative(work, count, start, size, passes) {
-        make(work, count, pot, size);
-        return size;
+    if list.len() / LINE_SIZE <= 4 * n {
+        return count;
     }
-    table_late(list, n, work, count)
+    merge_steps(list, n, work)
 }
 
 // The distances between all points, behind the place that the rows of one source take: 2n. Or a point whose distance to
-// itself is below 0. Where there are many lines on few variables, so that the steps have no room, the rounds make it.
-pub fn table_by_elimination(list: &[i32], n: usize, work: &mut [i64]) -> usize
-    requires { ⌜ TableReady n (now list) (now work) ⌝ }
-    ensures { λ r. ⌜ TableMade (stepsOf (linesOf (now (list .entry)))) (2 * n) (now (work .entry)) (now (work .exit)) r ⌝ }
+// itself is below 0. The steps stand at the front, and a row that is a potential if no closed walk is negative behind the
+// walks.
+pub fn table_by_elimination(list: &[i32], n: usize, count: usize, work: &mut [i64]) -> usize
+    requires { ⌜ TableAsked n (now list) count (now work) ⌝ }
+    ensures { λ r. ⌜ TableFound n (now (list .entry)) (now (work .entry)) (now (work .exit)) r ⌝ }
 {
-    if n == 0 {
-        return 0;
+    let kept = fewer_steps(list, n, count, work);
+    if made(work, kept, n) {
+        return 2 * n;
     }
-    let size = 2 * n;
-    let lines = list.len() / LINE_SIZE;
-    // two steps of three numbers for each line
-    if 6 * lines + 2 * size > (size + 1) * size {
-        return distance_table(list, n, work);
-    }
-    table_in_room(list, n, work)
+    distance_table(list, n, work)
 }

@@ -1,23 +1,26 @@
 -- `closed_refutation::far_back` meets its contract.
-use Prim.Native.Nat.{_*_, _-_, _≤_}
-use native.Mathlib.Omega.{arith}
+use Prim.Native.Nat.{_+_, _-_, _<_}
 use borrow.Author.Needs.{needs}
+use denote.Ref.{now}
+use mir.Syntax.{w64}
+use mir.Facts.{toZ-ofZ}
+use Rattle.lines.specs.Line.{number}
+use Rattle.closed_refutation.specs.Back.{not-below}
 use Rattle.closed_refutation.proofs.far_back.Statement.{statement}
 use Rattle.closed_refutation.proofs.far_back.Tie as tie
 
 abbrev Inv-loop : tie.InvT-loop
-Inv-loop list n work p size at₀ k₀ at k = at ≤ 2 * n
+Inv-loop work marks size p at₀ k₀ at k = at < size
 
 abbrev μ-loop : tie.MeasureT-loop
-μ-loop list n work p size at₀ k₀ at k = size - k
+μ-loop work marks size p at₀ k₀ at k = size - k
 
-loop-holds : tie.Need-loop-holds Inv-loop μ-loop
-loop-holds c = omega (arith, c .pre .within)
-
-point-back-requires : tie.Need-point-back-requires Inv-loop μ-loop
-point-back-requires c κs =
-    let r = c .before .before .before .pre in
-    record { few = r .few; valid = r .valid; room = r .room; within = omega (arith, c .if1 .left) }
+from-in-requires : tie.Need-from-in-requires Inv-loop μ-loop
+from-in-requires c κs =
+    let a = c .before in
+    let z = number (now (a .before .before .before .args .work)) (a .before .before .before .args .marks + a .before .before .loop .at) in
+    let e = toZ-ofZ {w = w64} {z = z} (record { sfits = a .mark .given }) in
+    rw e (not-below z (rw e at (c .if1 .left)))
 
 pub far-back-spec : {M : Type 1} → statement M
 far-back-spec =
@@ -26,9 +29,12 @@ far-back-spec =
     Inv-loop
     μ-loop
     (search needs)
-    loop-holds
     (search needs)
-    point-back-requires
+    (search needs)
+    (search needs)
+    (search needs)
+    from-in-requires
+    (search needs)
     (search needs)
     (search needs)
     (search needs)

@@ -1,123 +1,111 @@
 -- `closed_refutation::refuted_at_once` meets its contract. The invariant: the row is small, and nothing is written to the refutation.
 use mathlib.Core.Path.{_≡_, refl, _∙_}
-use mathlib.Core.List.{List, _++_}
-use Prim.Native.Nat.{ℕ, _*_, _-_, _<_}
+use mathlib.Core.List.{List}
+use Prim.Native.Nat.{ℕ, _+_, _*_, _-_, _≤_}
 use native.Mathlib.Omega.{arith}
 use borrow.Author.Needs.{needs}
 use denote.Ref.{now}
 use lib.IntN.{ℤ}
-use lib.ListN.{length, take, drop}
-use Rattle.flat_steps.specs.Scratch.{Scratch, scratch-none, scratch-trans}
-use Rattle.closed_walks.specs.Back.{zeroed}
-use Rattle.closed_refutation.specs.Collected.{walkEnd}
-use Rattle.closed_refutation.specs.AtOnce.{OnTheWay, marks-before, way-zero, way-more, way-kept, not-at-once, at-once-after}
+use lib.ListN.{length}
+use Rattle.packed_steps.specs.Layout.{walksAt, rowAt, placesAt}
+use Rattle.packed_steps.specs.Scratch.{scratch-none}
+use Rattle.closed_refutation.specs.AtOnce.{OnTheWay, way-filled, way-on, way-ready, way-more, way-kept, way-none, way-refuted}
 use Rattle.closed_refutation.proofs.refuted_at_once.Statement.{statement}
 use Rattle.closed_refutation.proofs.refuted_at_once.Tie as tie
 
 abbrev Inv-loop : tie.InvT-loop
-Inv-loop list n refutation₀ work₀ size marks left₀ refutation work left = (length refutation ≡ length refutation₀) × (length work ≡ length work₀) × (refutation ≡ refutation₀) × OnTheWay n work₀ work
+Inv-loop list n count refutation₀ work₀ size row marks turn₀ refutation work turn = (length refutation ≡ length refutation₀) × (length work ≡ length work₀) × (refutation ≡ refutation₀) × OnTheWay n work₀ work
 
 abbrev μ-loop : tie.MeasureT-loop
-μ-loop list n refutation₀ work₀ size marks left₀ refutation work left = left
+μ-loop list n count refutation₀ work₀ size row marks turn₀ refutation work turn = size + 1 - turn
 
-returns : tie.Need-returns Inv-loop μ-loop
-returns c = let s = c .before .before in not-at-once _ _ _ _ _ _ _ refl (scratch-none 0 (walkEnd (s .args .n)) (now (s .args .work)))
-
--- there are points
-positive : (c : tie.Else1 Inv-loop μ-loop) → 0 < c .before .before .args .n
-positive c = omega (arith, c .if1 .left)
-
-part-zero-row-end : tie.Need-part-zero-row-end Inv-loop μ-loop
-part-zero-row-end c = let s = c .before .before in omega (arith, marks-before (s .args .n) (positive c), s .pre .work-room)
-
-zero-row-requires : tie.Need-zero-row-requires Inv-loop μ-loop
-zero-row-requires c κs = search needs
-
--- the row and the marks are 0
-module _ (c : tie.After-zero-row Inv-loop μ-loop) where
-  abbrev e : tie.Else1 Inv-loop μ-loop
-  e = c .before .before
-
+-- the row's place
+module _ (r : tie.After-row-at Inv-loop μ-loop) where
   abbrev s : tie.Start Inv-loop μ-loop
-  s = e .before .before
+  s = r .before .before
 
   abbrev n : ℕ
   n = s .args .n
 
-  abbrev lent : ℕ
-  lent = 2 * (2 * n) - 0
+  abbrev row-is : r .row-at .result ≡ rowAt n
+  row-is = r .row-at .ensures
+
+  marks-in : r .row-at .result + 2 * n + 2 * n ≤ length (now (s .args .work))
+  marks-in = omega (arith, row-is, s .pre .work-room)
+
+add-marks : tie.Need-add-marks Inv-loop μ-loop
+add-marks c = let h = marks-in c in search needs
+
+fill-requires : tie.Need-fill-requires Inv-loop μ-loop
+fill-requires c κs = let h = marks-in (c .before) in (omega arith, omega (arith, h))
+
+add-fill : tie.Need-add-fill Inv-loop μ-loop
+add-fill c = let h = marks-in (c .before .before .before .before) in search needs
+
+fill-requires-2 : tie.Need-fill-requires-2 Inv-loop μ-loop
+fill-requires-2 c κs =
+    let f = c .before .before in
+    (omega arith, omega (arith, f .fill .ensures .scratch .same-length, marks-in (f .before .before)))
+
+-- the row is 0, and the marks are below 0
+module _ (c : tie.After-fill2 Inv-loop μ-loop) where
+  abbrev f : tie.After-fill Inv-loop μ-loop
+  f = c .before .before .before
+
+  abbrev r : tie.After-row-at Inv-loop μ-loop
+  r = f .before .before
 
   abbrev begun : List ℤ
-  begun = take 0 (now (s .args .work)) ++ (c .zero-row .last .0 ++ drop lent (drop 0 (now (s .args .work))))
+  begun = c .fill2 .last .0
 
-  some-points : 0 < n
-  some-points = positive e
-
-  first : OnTheWay n (now (s .args .work)) begun
-  first = way-zero some-points (zeroed 0 (2 * (2 * n)) (now (s .args .work)) (omega (arith, marks-before n some-points, s .pre .work-room)) lent (omega arith) (c .zero-row .last .0) (c .zero-row .ensures))
+  first : OnTheWay (n r) (now (s r .args .work)) begun
+  first = way-filled (row-is r) (f .fill .ensures) (c .fill2 .ensures)
 
 loop-holds : tie.Need-loop-holds Inv-loop μ-loop
-loop-holds c = let z = c .before in (refl, refl, refl, record { scratch = scratch-none 0 (walkEnd (n z)) (begun z); small = first z .small })
+loop-holds c = let z = c .before in (refl, refl, refl, record { scratch = scratch-none (walksAt (n (r z))) (placesAt (n (r z))) (begun z); small = first z .small })
 
-mark-list-requires : tie.Need-mark-list-requires Inv-loop μ-loop
-mark-list-requires c κs =
+-- before one pass more
+module _ (l : tie.At-loop Inv-loop μ-loop) where
+  abbrev z : tie.After-fill2 Inv-loop μ-loop
+  z = l .before .before
+
+  way : OnTheWay (n (r z)) (now (s (r z) .args .work)) (l .loop .work)
+  way = way-on (first z) (l .loop .inv .3)
+
+mark-turn-requires : tie.Need-mark-turn-requires Inv-loop μ-loop
+mark-turn-requires c κs =
     let l = c .before .before in
-    let z = l .before .before in
-    let r = s z .pre in
-    record {
-      few = r .few;
-      valid = r .valid;
-      lines = r .lines;
-      room = omega (arith, marks-before (n z) (some-points z), r .work-room, l .loop .inv .1, first z .scratch .same-length);
-      small = l .loop .inv .3 .small;
-    }
+    let p = s (r (z l)) .pre in
+    way-ready (way l) (row-is (r (z l))) (p .steps) (p .work-room)
 
--- after one pass more
-module _ (c : tie.After-mark-list Inv-loop μ-loop) where
+-- after it
+module _ (c : tie.After-mark-turn Inv-loop μ-loop) where
   abbrev l : tie.At-loop Inv-loop μ-loop
   l = c .before .before .before
 
-  abbrev z : tie.After-zero-row Inv-loop μ-loop
-  z = l .before .before
+  abbrev start : tie.Start Inv-loop μ-loop
+  start = s (r (z l))
 
-  passed : OnTheWay (n z) (begun z) (c .mark-list .last .1 .1 .0)
-  passed = way-more (some-points z) (l .loop .inv .3) (c .mark-list .ensures .marked)
+  passed : OnTheWay (n (r (z l))) (begun (z l)) (c .mark-turn .last .0)
+  passed = way-more (l .loop .inv .3) (row-is (r (z l))) (c .mark-turn .ensures)
 
-  kept : Scratch 0 (walkEnd (n z)) (now (s z .args .work)) (c .mark-list .last .1 .1 .0)
-  kept = scratch-trans (first z .scratch) (passed .scratch)
-
-same-length : tie.Need-same-length Inv-loop μ-loop
-same-length c = search needs
+  since : OnTheWay (n (r (z l))) (now (start .args .work)) (c .mark-turn .last .0)
+  since = way-on (first (z l)) passed
 
 same-length-2 : tie.Need-same-length-2 Inv-loop μ-loop
-same-length-2 c = kept (c .before .before) .same-length
+same-length-2 c = since (c .before .before) .scratch .same-length
 
-returns-2 : tie.Need-returns-2 Inv-loop μ-loop
-returns-2 c = let m = c .before .before in not-at-once _ _ _ _ _ _ _ (l m .loop .inv .2) (kept m)
+returns : tie.Need-returns Inv-loop μ-loop
+returns c = let m = c .before .before in way-none (since m) _ _ _ (l m .loop .inv .2)
 
 refuted-from-requires : tie.Need-refuted-from-requires Inv-loop μ-loop
 refuted-from-requires c κs =
     let t = c .before .before in
     let m = t .before .before in
-    let r = s (z m) .pre in (
-      record { few = r .few; valid = r .valid; lines = r .lines; room = omega (arith, r .room, l m .loop .inv .0); work-room = omega (arith, r .work-room, kept m .same-length) },
-      omega (arith, t .if2 .left),
+    let r = start m .pre in (
+      record { few = r .few; valid = r .valid; lines = r .lines; room = omega (arith, r .room, l m .loop .inv .0); work-room = omega (arith, r .work-room, since m .scratch .same-length) },
+      omega (arith, t .if1 .left),
     )
-
-returns-3 : tie.Need-returns-3 Inv-loop μ-loop
-returns-3 c =
-    let f = c .before .before .before .before in
-    let m = f .before .before .before .before .before in
-    at-once-after _ _ _ _ _ _ _ _ _ (l m .loop .inv .2) (kept m) (f .refuted-from .ensures .on-yes (c .if3 .taken))
-
-loop-again : tie.Need-loop-again Inv-loop μ-loop
-loop-again c =
-    let f = c .before .before .before .before in
-    let m = f .before .before .before .before .before in
-    let k = f .refuted-from .ensures .on-no (c .if3 .left) in
-    let way = way-kept (some-points (z m)) (passed m) (k .1) in
-    let same = k .0 ∙ l m .loop .inv .2 in
-    (search needs, way .scratch .same-length, same, way)
 
 same-length-3 : tie.Need-same-length-3 Inv-loop μ-loop
 same-length-3 c = search needs
@@ -125,17 +113,26 @@ same-length-3 c = search needs
 same-length-4 : tie.Need-same-length-4 Inv-loop μ-loop
 same-length-4 c = search needs
 
-same-length-6 : tie.Need-same-length-6 Inv-loop μ-loop
-same-length-6 c =
-    let l = c .before in
-    let z = l .before .before in
-    l .loop .inv .1 ∙ first z .scratch .same-length
+returns-2 : tie.Need-returns-2 Inv-loop μ-loop
+returns-2 c =
+    let f = c .before .before .before .before in
+    let m = f .before .before .before .before .before in
+    let e = f .refuted-from .ensures in
+    way-refuted (since m) _ _ _ _ (l m .loop .inv .2) (e .scratch) (e .on-yes (c .if2 .taken))
 
-returns-4 : tie.Need-returns-4 Inv-loop μ-loop
-returns-4 c =
-    let l = c .before in
-    let z = l .before .before in
-    not-at-once _ _ _ _ _ _ _ (l .loop .inv .2) (scratch-trans (first z .scratch) (l .loop .inv .3 .scratch))
+loop-again : tie.Need-loop-again Inv-loop μ-loop
+loop-again c =
+    let f = c .before .before .before .before in
+    let m = f .before .before .before .before .before in
+    let e = f .refuted-from .ensures in
+    let kept = way-kept (passed m) (e .scratch) in
+    (search needs, kept .scratch .same-length, e .on-no (c .if2 .left) ∙ l m .loop .inv .2, kept)
+
+same-length-6 : tie.Need-same-length-6 Inv-loop μ-loop
+same-length-6 c = way (c .before) .scratch .same-length
+
+returns-3 : tie.Need-returns-3 Inv-loop μ-loop
+returns-3 c = let l = c .before in way-none (way l) _ _ _ (l .loop .inv .2)
 
 pub refuted-at-once-spec : {M : Type 1} → statement M
 refuted-at-once-spec =
@@ -143,25 +140,24 @@ refuted-at-once-spec =
     (tie.spec
     Inv-loop
     μ-loop
-    returns
     (search needs)
     (search needs)
-    (search needs)
-    (search needs)
-    part-zero-row-end
-    zero-row-requires
+    add-marks
+    fill-requires
+    add-fill
+    fill-requires-2
     loop-holds
-    mark-list-requires
-    same-length
+    mark-turn-requires
+    (search needs)
     same-length-2
-    returns-2
+    returns
     refuted-from-requires
     same-length-3
     same-length-4
-    returns-3
+    returns-2
     (search needs)
     (search needs)
     loop-again
     (search needs)
     same-length-6
-    returns-4)
+    returns-3)

@@ -9,10 +9,10 @@ use Rattle.elimination.proofs.eliminate_all.Statement.{statement}
 use Rattle.elimination.proofs.eliminate_all.Tie as tie
 
 abbrev Inv-loop : tie.InvT-loop
-Inv-loop work₀ count pot size n v₀ work v = (length work ≡ length work₀) × Kept count pot size work₀ work
+Inv-loop work₀ count pot size first n v₀ work v = (length work ≡ length work₀) × Kept count pot size work₀ work
 
 abbrev μ-loop : tie.MeasureT-loop
-μ-loop work₀ count pot size n v₀ work v = n - v
+μ-loop work₀ count pot size first n v₀ work v = n - v
 
 loop-holds : tie.Need-loop-holds Inv-loop μ-loop
 loop-holds start = (refl, kept-none (start .pre))

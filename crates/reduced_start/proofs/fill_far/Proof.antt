@@ -21,6 +21,9 @@ mul-start c = search needs
 add-start : tie.Need-add-start Inv-loop μ-loop
 add-start c = search needs
 
+add-cells : tie.Need-add-cells Inv-loop μ-loop
+add-cells c = search needs
+
 mul-cells : tie.Need-mul-cells Inv-loop μ-loop
 mul-cells c = search needs
 
@@ -65,6 +68,7 @@ fill-far-spec =
     μ-loop
     mul-start
     add-start
+    add-cells
     mul-cells
     loop-holds
     add-work

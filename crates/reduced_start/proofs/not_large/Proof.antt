@@ -1,3 +1,4 @@
+-- `reduced_start::not_large` meets its contract.
 use mathlib.Core.Path.{_≡_}
 use mathlib.Core.Bool.{false}
 use native.Mathlib.Omega.{arith}
@@ -7,7 +8,6 @@ use mir.Facts.{toZ-ofZ}
 use Rattle.integers.specs.Integer.{_⩽_}
 use Rattle.integers.specs.Linear.{ints}
 use Rattle.reduced_start.specs.Start.{maxRead}
--- `reduced_start::not_large` meets its contract.
 use borrow.Author.Needs.{needs}
 use Rattle.reduced_start.proofs.not_large.Statement.{statement}
 use Rattle.reduced_start.proofs.not_large.Tie as tie

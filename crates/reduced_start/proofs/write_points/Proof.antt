@@ -16,10 +16,21 @@ use Rattle.reduced_start.proofs.write_points.Statement.{statement}
 use Rattle.reduced_start.proofs.write_points.Tie as tie
 
 abbrev Inv-loop : tie.InvT-loop
-Inv-loop work₀ count pot size row k₀ work k = (length work ≡ length work₀) × Pointed pot size work₀ work k × (size % 2 ≡ 0)
+Inv-loop work₀ count pot size row order half k₀ work k = (length work ≡ length work₀) × Pointed pot size work₀ work k × (size % 2 ≡ 0)
 
 abbrev μ-loop : tie.MeasureT-loop
-μ-loop work₀ count pot size row k₀ work k = size - k
+μ-loop work₀ count pot size row order half k₀ work k = size - k
+
+-- the variable that was read
+module _ (c : tie.After-variable-at Inv-loop μ-loop) where
+  abbrev turn : tie.In-loop Inv-loop μ-loop
+  turn = c .before .before
+
+  abbrev loop : tie.At-loop Inv-loop μ-loop
+  loop = turn .before
+
+  abbrev start : tie.Start Inv-loop μ-loop
+  start = loop .before
 
 -- the two numbers that were read
 module _ (c : tie.After-not-large2 Inv-loop μ-loop) where
@@ -44,17 +55,17 @@ module _ (c : tie.After-not-large2 Inv-loop μ-loop) where
   small : Within maxPotential (x -ℤ y)
   small = difference-small x y (c .before .before .not-large .ensures) (c .not-large2 .ensures)
 
-mul-row : tie.Need-mul-row Inv-loop μ-loop
-mul-row c = search needs
-
-add-row : tie.Need-add-row Inv-loop μ-loop
-add-row c = search needs
-
 loop-holds : tie.Need-loop-holds Inv-loop μ-loop
 loop-holds c = (refl, pointed-start (c .args .pot) (c .args .size) (now (c .args .work)), c .pre .even)
 
-add-not-large : tie.Need-add-not-large Inv-loop μ-loop
-add-not-large c = search needs
+variable-at-requires : tie.Need-variable-at-requires Inv-loop μ-loop
+variable-at-requires c κs = let l = c .before .before in (omega (arith, l .loop .inv .0, l .before .pre .order-room), omega (arith, l .loop .inv .1 .even, l .loop .inv .2, c .before .loop-test .taken))
+
+mul-at : tie.Need-mul-at Inv-loop μ-loop
+mul-at c = search needs
+
+add-at : tie.Need-add-at Inv-loop μ-loop
+add-at c = search needs
 
 mul-not-large : tie.Need-mul-not-large Inv-loop μ-loop
 mul-not-large c = search needs
@@ -65,20 +76,17 @@ slice-copy-out-not-large c = search needs
 not-large-requires : tie.Need-not-large-requires Inv-loop μ-loop
 not-large-requires c κs = search needs
 
-add-not-large-2 : tie.Need-add-not-large-2 Inv-loop μ-loop
-add-not-large-2 c = search needs
-
-add-not-large-3 : tie.Need-add-not-large-3 Inv-loop μ-loop
-add-not-large-3 c = search needs
+add-not-large : tie.Need-add-not-large Inv-loop μ-loop
+add-not-large c = search needs
 
 mul-not-large-2 : tie.Need-mul-not-large-2 Inv-loop μ-loop
 mul-not-large-2 c = search needs
 
 slice-copy-out-not-large-2 : tie.Need-slice-copy-out-not-large-2 Inv-loop μ-loop
 slice-copy-out-not-large-2 c =
-    let i = c .before .before in
-    let l = i .before in
-    omega (arith, l .loop .inv .0, l .loop .inv .1 .even, l .loop .inv .2, i .loop-test .taken, l .before .pre .first-row)
+    let v = c .before .before in
+    let l = loop v in
+    omega (arith, l .loop .inv .0, l .loop .inv .2, v .variable-at .ensures, start v .pre .row-room)
 
 not-large-requires-2 : tie.Need-not-large-requires-2 Inv-loop μ-loop
 not-large-requires-2 c κs = search needs
@@ -98,19 +106,20 @@ slice-set-from-number c = search needs
 sub-work : tie.Need-sub-work Inv-loop μ-loop
 sub-work c = rw (x-is c, y-is c, d-is c) (negative-fits _ (small c))
 
-add-t13 : tie.Need-add-t13 Inv-loop μ-loop
-add-t13 c = search needs
+add-t20 : tie.Need-add-t20 Inv-loop μ-loop
+add-t20 c = search needs
 
-add-t12 : tie.Need-add-t12 Inv-loop μ-loop
-add-t12 c = search needs
+add-t17 : tie.Need-add-t17 Inv-loop μ-loop
+add-t17 c = search needs
 
-mul-t16 : tie.Need-mul-t16 Inv-loop μ-loop
-mul-t16 c = search needs
+mul-t23 : tie.Need-mul-t23 Inv-loop μ-loop
+mul-t23 c = search needs
 
 slice-set-from-work : tie.Need-slice-set-from-work Inv-loop μ-loop
 slice-set-from-work c =
-    let i = c .before .before .before .before in
-    let l = i .before in
+    let v = c .before .before .before .before in
+    let i = turn v in
+    let l = loop v in
     simp length-set (omega (arith, l .loop .inv .0, l .loop .inv .1 .even, l .loop .inv .2, i .loop-test .taken, l .before .pre .room))
 
 add-k : tie.Need-add-k Inv-loop μ-loop
@@ -121,9 +130,10 @@ loop-less c = search needs
 
 loop-again : tie.Need-loop-again Inv-loop μ-loop
 loop-again c =
-    let i = c .before .before .before .before in
-    let l = i .before in
-    let q = l .before in (
+    let v = c .before .before .before .before in
+    let i = turn v in
+    let l = loop v in
+    let q = start v in (
       search needs,
       rw (x-is c, y-is c, d-is c, toZ-ofZ (negative-fits _ (small c)))
           (pointed-more (q .args .pot) (q .args .size) (now (q .args .work)) (l .loop .work) (l .loop .k) (l .loop .inv .1) (l .loop .inv .2) (omega (arith, q .pre .room, l .loop .inv .0)) (i .loop-test .taken) (x c -ℤ y c) (small c)),
@@ -145,15 +155,14 @@ write-points-spec =
     (tie.spec
     Inv-loop
     μ-loop
-    mul-row
-    add-row
     loop-holds
-    add-not-large
+    variable-at-requires
+    mul-at
+    add-at
     mul-not-large
     slice-copy-out-not-large
     not-large-requires
-    add-not-large-2
-    add-not-large-3
+    add-not-large
     mul-not-large-2
     slice-copy-out-not-large-2
     not-large-requires-2
@@ -162,9 +171,9 @@ write-points-spec =
     mul-number
     slice-set-from-number
     sub-work
-    add-t13
-    add-t12
-    mul-t16
+    add-t20
+    add-t17
+    mul-t23
     slice-set-from-work
     add-k
     loop-less

@@ -24,11 +24,14 @@ mul-to c = search needs
 add-to : tie.Need-add-to Inv-loop μ-loop
 add-to c = search needs
 
+add-to-2 : tie.Need-add-to-2 Inv-loop μ-loop
+add-to-2 c = search needs
+
 mul-to-2 : tie.Need-mul-to-2 Inv-loop μ-loop
 mul-to-2 c = search needs
 
-add-to-2 : tie.Need-add-to-2 Inv-loop μ-loop
-add-to-2 c = search needs
+add-to-3 : tie.Need-add-to-3 Inv-loop μ-loop
+add-to-3 c = search needs
 
 mul-by : tie.Need-mul-by Inv-loop μ-loop
 mul-by c = search needs
@@ -36,11 +39,14 @@ mul-by c = search needs
 add-by : tie.Need-add-by Inv-loop μ-loop
 add-by c = search needs
 
+add-by-2 : tie.Need-add-by-2 Inv-loop μ-loop
+add-by-2 c = search needs
+
 mul-by-2 : tie.Need-mul-by-2 Inv-loop μ-loop
 mul-by-2 c = search needs
 
-add-by-2 : tie.Need-add-by-2 Inv-loop μ-loop
-add-by-2 c = search needs
+add-by-3 : tie.Need-add-by-3 Inv-loop μ-loop
+add-by-3 c = search needs
 
 loop-holds : tie.Need-loop-holds Inv-loop μ-loop
 loop-holds c = search needs
@@ -135,11 +141,11 @@ negative-part-requires c κs = search needs
 add-work : tie.Need-add-work Inv-loop μ-loop
 add-work c = rw (old-is (o c), less-is c) (smaller-fits c)
 
-add-t19 : tie.Need-add-t19 Inv-loop μ-loop
-add-t19 c = search needs
+add-t20 : tie.Need-add-t20 Inv-loop μ-loop
+add-t20 c = search needs
 
-mul-t20 : tie.Need-mul-t20 Inv-loop μ-loop
-mul-t20 c = search needs
+mul-t21 : tie.Need-mul-t21 Inv-loop μ-loop
+mul-t21 c = search needs
 
 slice-set-from-work : tie.Need-slice-set-from-work Inv-loop μ-loop
 slice-set-from-work c = search needs
@@ -174,12 +180,14 @@ lower-spec =
     μ-loop
     mul-to
     add-to
-    mul-to-2
     add-to-2
+    mul-to-2
+    add-to-3
     mul-by
     add-by
-    mul-by-2
     add-by-2
+    mul-by-2
+    add-by-3
     loop-holds
     add-sum
     mul-sum
@@ -191,8 +199,8 @@ lower-spec =
     sub-negative-part
     negative-part-requires
     add-work
-    add-t19
-    mul-t20
+    add-t20
+    mul-t21
     slice-set-from-work
     add-t
     loop-less

@@ -11,11 +11,14 @@ mul-at c = search needs
 add-at : tie.Need-add-at
 add-at c = search needs
 
+add-at-2 : tie.Need-add-at-2
+add-at-2 c = search needs
+
 mul-at-2 : tie.Need-mul-at-2
 mul-at-2 c = search needs
 
-add-at-2 : tie.Need-add-at-2
-add-at-2 c = search needs
+add-at-3 : tie.Need-add-at-3
+add-at-3 c = search needs
 
 add-old : tie.Need-add-old
 add-old c = search needs
@@ -52,8 +55,9 @@ lower-entry-spec =
     (tie.spec
     mul-at
     add-at
-    mul-at-2
     add-at-2
+    mul-at-2
+    add-at-3
     add-old
     mul-old
     slice-copy-out-old

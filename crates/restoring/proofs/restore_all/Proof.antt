@@ -9,10 +9,10 @@ use Rattle.restoring.proofs.restore_all.Statement.{statement}
 use Rattle.restoring.proofs.restore_all.Tie as tie
 
 abbrev Inv-loop : tie.InvT-loop
-Inv-loop work₀ count pot size left₀ work left = (length work ≡ length work₀) × Kept count pot size work₀ work × (left ≤ size / 2)
+Inv-loop work₀ count pot size first left₀ work left = (length work ≡ length work₀) × Kept count pot size work₀ work × (left ≤ size / 2)
 
 abbrev μ-loop : tie.MeasureT-loop
-μ-loop work₀ count pot size left₀ work left = left
+μ-loop work₀ count pot size first left₀ work left = left
 
 loop-holds : tie.Need-loop-holds Inv-loop μ-loop
 loop-holds start = (refl, kept-none (start .pre), omega arith)

@@ -28,11 +28,14 @@ mul-own c = search needs
 add-own : tie.Need-add-own Inv-loop μ-loop
 add-own c = search needs
 
+add-own-2 : tie.Need-add-own-2 Inv-loop μ-loop
+add-own-2 c = search needs
+
 mul-own-2 : tie.Need-mul-own-2 Inv-loop μ-loop
 mul-own-2 c = search needs
 
-add-own-2 : tie.Need-add-own-2 Inv-loop μ-loop
-add-own-2 c = search needs
+add-own-3 : tie.Need-add-own-3 Inv-loop μ-loop
+add-own-3 c = search needs
 
 mul-other : tie.Need-mul-other Inv-loop μ-loop
 mul-other c = search needs
@@ -40,11 +43,14 @@ mul-other c = search needs
 add-other : tie.Need-add-other Inv-loop μ-loop
 add-other c = search needs
 
+add-other-2 : tie.Need-add-other-2 Inv-loop μ-loop
+add-other-2 c = search needs
+
 mul-other-2 : tie.Need-mul-other-2 Inv-loop μ-loop
 mul-other-2 c = search needs
 
-add-other-2 : tie.Need-add-other-2 Inv-loop μ-loop
-add-other-2 c = search needs
+add-other-3 : tie.Need-add-other-3 Inv-loop μ-loop
+add-other-3 c = search needs
 
 loop-holds : tie.Need-loop-holds Inv-loop μ-loop
 loop-holds c = summed-start _ _ _ _ _ _
@@ -164,12 +170,14 @@ row-settled-spec =
     μ-loop
     mul-own
     add-own
-    mul-own-2
     add-own-2
+    mul-own-2
+    add-own-3
     mul-other
     add-other
-    mul-other-2
     add-other-2
+    mul-other-2
+    add-other-3
     loop-holds
     add-reach
     mul-reach

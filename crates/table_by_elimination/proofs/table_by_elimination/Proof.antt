@@ -1,48 +1,58 @@
--- `table_by_elimination::table_by_elimination` meets its contract.
-use mathlib.Core.Path.{_≡_, subst}
-use Prim.Native.Nat.{ℕ, _*_}
-use native.Mathlib.Omega.{arith}
+-- `table_by_elimination::table_by_elimination` meets its contract: the table is made over the steps, or else in rounds.
 use borrow.Author.Needs.{needs}
-use denote.Ref.{now}
-use Rattle.lines.specs.Line.{linesOf}
-use Rattle.steps.specs.Step.{stepsOf}
-use Rattle.distance_table.specs.Made.{TableMade}
-use Rattle.table_by_elimination.specs.Laid.{made-empty}
+use Rattle.table_by_elimination.specs.Found.{made-ready, found-made, table-ready, found-rounds}
 use Rattle.table_by_elimination.proofs.table_by_elimination.Statement.{statement}
 use Rattle.table_by_elimination.proofs.table_by_elimination.Tie as tie
 
+fewer-steps-requires : tie.Need-fewer-steps-requires
+fewer-steps-requires c κs = search needs
+
+made-requires : tie.Need-made-requires
+made-requires c κs =
+    let fewer = c .before .before in
+    made-ready (fewer .before .before .pre) _ _ (fewer .fewer-steps .ensures)
+
+same-length : tie.Need-same-length
+same-length c = search needs
+
+-- the table is tried
+module _ (tried : tie.After-made) where
+  abbrev fewer : tie.After-fewer-steps
+  fewer = tried .before .before .before
+
+  abbrev start : tie.Start
+  start = fewer .before .before
+
 returns : tie.Need-returns
-returns exit =
-    let start = exit .before in
-    let none : 0 ≡ 2 * start .args .n = omega (arith, exit .if1 .taken) in
-    subst (λ (m : ℕ). TableMade (stepsOf (linesOf (now (start .args .list)))) m (now (start .args .work)) (now (start .args .work)) 0) none (made-empty _ _)
+returns c =
+    let tried = c .before .before in
+    found-made (start tried .pre) _ _ (fewer tried .fewer-steps .ensures) _ (rw (c .if1 .taken) at (tried .made .ensures))
 
 distance-table-requires : tie.Need-distance-table-requires
-distance-table-requires call κs = search needs
+distance-table-requires c κs =
+    let not = c .before in
+    let tried = not .before .before in
+    table-ready (start tried .pre) _ _ (fewer tried .fewer-steps .ensures) _ (rw (not .if1 .left) at (tried .made .ensures))
+
+same-length-2 : tie.Need-same-length-2
+same-length-2 c = search needs
 
 returns-2 : tie.Need-returns-2
-returns-2 exit = search needs
-
-table-in-room-requires : tie.Need-table-in-room-requires
-table-in-room-requires call κs = search needs
-
-returns-3 : tie.Need-returns-3
-returns-3 exit = search needs
+returns-2 c =
+    let rounds = c .before in
+    let not = rounds .before .before in
+    let tried = not .before .before in
+    found-rounds (start tried .pre) _ _ (fewer tried .fewer-steps .ensures) _ (rw (not .if1 .left) at (tried .made .ensures)) _ _ (rounds .distance-table .ensures)
 
 pub table-by-elimination-spec : {M : Type 1} → statement M
 table-by-elimination-spec =
     tie.close
     (tie.spec
+    fewer-steps-requires
+    made-requires
+    (search needs)
+    same-length
     returns
-    (search needs)
-    (search needs)
-    (search needs)
-    (search needs)
-    (search needs)
-    (search needs)
     distance-table-requires
-    (search needs)
-    returns-2
-    table-in-room-requires
-    (search needs)
-    returns-3)
+    same-length-2
+    returns-2)

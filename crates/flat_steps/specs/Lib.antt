@@ -1,4 +1,0 @@
-pub mod Steps
-pub mod Scratch
-pub mod Read
-pub mod Flat

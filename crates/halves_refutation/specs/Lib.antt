@@ -1,0 +1,4 @@
+pub mod Stretch
+pub mod Back
+pub mod Between
+pub mod Halves

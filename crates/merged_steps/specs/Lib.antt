@@ -1,0 +1,3 @@
+pub mod Cells
+pub mod Keep
+pub mod Merge
