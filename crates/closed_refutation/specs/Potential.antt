@@ -12,7 +12,7 @@ use Rattle.integers.specs.Linear.{ints}
 use Rattle.lines.specs.Line.{number}
 use Rattle.steps.specs.declared.Step.{Step}
 use Rattle.walks.specs.Negative.{noNegative}
-use Rattle.relaxing.specs.Potential.{Potential, potential-clear}
+use Rattle.covering.specs.Potential.{Potential, potential-clear}
 use Rattle.packed_steps.specs.Steps.{stepIn, stepsIn, StepsReady, tabulate-all}
 use Rattle.closed_refutation.specs.Passes.{SmallRow}
 

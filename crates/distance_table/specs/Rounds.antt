@@ -283,7 +283,7 @@ module _ (n : ℕ) (L w : List ℤ) (a : TableReady n L w) (w₀ : List ℤ) (e 
   started-length = ap length is ∙ length-append (head ++ first) tail ∙ omega (arith, length-append head first, head-length, first-length, length-drop (tableStart N + N * N) w, a .room)
 
   pub started-ready : TableReady n L w₀
-  started-ready = record { few = a .few; valid = a .valid; few-lines = a .few-lines; room = omega (arith, a .room, started-length) }
+  started-ready = record { few = a .few; valid = a .valid; room = omega (arith, a .room, started-length) }
 
   pub turn-start : Turn G N w₀ w₀ 0
   turn-start =

@@ -9,8 +9,8 @@ use lib.IntN.{ℤ, pos}
 use lib.ListN.{length, length-append, List·getD-append}
 use lib.Seq.{getD-append-add}
 use Rattle.integers.specs.Sequence.{tabulate, length-tabulate, getD-tabulate}
-use Rattle.lines.specs.Limits.{maxVariables, maxLines}
-use Rattle.lines.specs.Line.{number, lineCount, linesOf}
+use Rattle.lines.specs.Limits.{maxVariables}
+use Rattle.lines.specs.Line.{number, linesOf}
 use Rattle.lines.specs.Valid.{LinesOk}
 use Rattle.steps.specs.declared.Step.{Step}
 use Rattle.steps.specs.Step.{stepsOf}
@@ -35,7 +35,6 @@ tableStart m = (m + 1) * m
 pub record TableReady (n : ℕ) (L w : List ℤ) : Type 0 where
   pub few : n ≤ maxVariables
   pub valid : LinesOk n L
-  pub few-lines : lineCount L ≤ maxLines
   pub room : tableStart (2 * n) + (2 * n) * (2 * n) ≤ length w
 
 pub table-length : (E : List Step) (m k : ℕ) → length (storedTable E m k) ≡ k * m

@@ -13,7 +13,7 @@ use Rattle.steps.specs.declared.Step.{Step}
 use Rattle.steps.specs.Step.{stepsOf}
 use Rattle.walks.specs.Row.{In}
 use Rattle.walks.specs.Mirror.{Mirrored}
-use Rattle.relaxing.specs.Covers.{Merged, Lighter, merged-same, least-mirrored}
+use Rattle.covering.specs.Covers.{Merged, Lighter, merged-same, least-mirrored}
 use Rattle.answers.specs.Graph.{steps-mirrored}
 use Rattle.distances.specs.Numbers.{stepsBefore, before-all}
 use Rattle.packed_steps.specs.Steps.{StepOk, stepIn, stepsIn, step-in, tabulate-all}

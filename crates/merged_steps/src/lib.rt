@@ -5,8 +5,11 @@ use packed_steps::packed;
 use packed_steps::write_steps;
 use steps::NamedStep;
 use steps::step_numbered;
+ghost use mathlib.Core.Path.{_≡_};
+ghost use mathlib.Core.Bool.{true};
 ghost use Prim.Native.Nat.{_+_, _*_, _≤_, _<_};
 ghost use lib.ListN.{length};
+ghost use Rattle.lines.specs.Limits.{maxVariables};
 ghost use Rattle.lines.specs.Line.{lineCount};
 ghost use Rattle.steps.specs.Step.{stepNumbered};
 ghost use Rattle.packed_steps.specs.Laid.{LayReady, Laid};
@@ -93,12 +96,23 @@ pub fn merge_steps(list: &[i32], n: usize, work: &mut [i64]) -> usize
     keep_steps(work, start, cells)
 }
 
-// All steps where there is room for them, or else the lightest between each two points. How many.
+// Whether all steps of a list are laid: there is room for them, and not many go between the same points.
+pub fn all_laid(list: &[i32], n: usize) -> bool
+    requires { ⌜ n ≤ maxVariables ⌝ }
+    ensures { λ r. ⌜ (r ≡ true → 2 * lineCount (now (list .entry)) ≤ 2 * n * (2 * n)) ⌝ }
+{
+    if 8 * (list.len() / LINE_SIZE) <= 2 * n * (2 * n) {
+        return true;
+    }
+    false
+}
+
+// All steps, or else the lightest between each two points. How many.
 pub fn lay_steps(list: &[i32], n: usize, work: &mut [i64]) -> usize
     requires { ⌜ LayReady n (now list) (now work) ⌝ }
     ensures { λ r. ⌜ Laid n (now (list .entry)) (now (work .entry)) (now (work .exit)) r ⌝ }
 {
-    if 8 * (list.len() / LINE_SIZE) <= 2 * n * (2 * n) {
+    if all_laid(list, n) {
         write_steps(list, n, work)
     } else {
         merge_steps(list, n, work)

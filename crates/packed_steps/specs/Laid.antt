@@ -9,7 +9,7 @@ use Rattle.lines.specs.Line.{number, lineCount, linesOf}
 use Rattle.lines.specs.Valid.{LinesOk}
 use Rattle.steps.specs.Step.{stepsOf}
 use Rattle.walks.specs.Mirror.{Mirrored}
-use Rattle.relaxing.specs.Covers.{Merged}
+use Rattle.covering.specs.Covers.{Merged}
 use Rattle.packed_steps.specs.Steps.{StepOk, stepsIn}
 use Rattle.packed_steps.specs.Scratch.{Scratch}
 use Rattle.packed_steps.specs.Layout.{walksAt}

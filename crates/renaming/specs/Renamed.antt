@@ -11,7 +11,7 @@ use Rattle.integers.specs.Sequence.{tabulate, tabulate-cong}
 use Rattle.lines.specs.Limits.{maxVariables}
 use Rattle.lines.specs.Line.{number}
 use Rattle.steps.specs.declared.Step.{Step}
-use Rattle.relaxing.specs.Covers.{renamedStep}
+use Rattle.covering.specs.Covers.{renamedStep}
 use Rattle.packed_steps.specs.Packed.{unpacked, Packs}
 use Rattle.packed_steps.specs.Steps.{stepIn, stepsIn, StepOk, StepsReady}
 use Rattle.packed_steps.specs.Scratch.{Scratch, scratch-none, scratch-trans, scratch-set}

@@ -19,7 +19,7 @@ use Rattle.walks.specs.Row.{WithinPoints, best}
 use Rattle.walks.specs.Negative.{notBelow0, noNegative}
 use Rattle.walks.specs.Mirror.{Mirrored, opposite-lt, best-mirror}
 use Rattle.answers.specs.Graph.{ends-points, steps-mirrored}
-use Rattle.relaxing.specs.Covers.{Merged, merged-best, merged-clear}
+use Rattle.covering.specs.Covers.{Merged, merged-best, merged-clear}
 use Rattle.distances.specs.Table.{storedTable, tableStart, TableReady}
 use Rattle.distance_table.specs.Made.{TableMade}
 use Rattle.packed_steps.specs.Steps.{StepOk, stepsIn, steps-same, maxSteps}
@@ -131,7 +131,7 @@ module _ {n count : ℕ} {L w : List ℤ} (a : TableAsked n L count w) where
       front = scratch-trans (scratch-wider (omega arith) (omega arith) (s .scratch)) (m .scratch)
 
       pub table-ready : TableReady n L w₂
-      table-ready = record { few = a .few; valid = a .valid; few-lines = a .few-lines; room = omega (arith, a .room, front .same-length) }
+      table-ready = record { few = a .few; valid = a .valid; room = omega (arith, a .room, front .same-length) }
 
       pub found-rounds : (w₃ : List ℤ) (r : ℕ) → TableMade E (2 * n) w₂ w₃ r → TableFound n L w w₃ r
       found-rounds w₃ r t = record {

@@ -13,7 +13,7 @@ use Rattle.steps.specs.Point.{opposite}
 use Rattle.walks.specs.Row.{WithinPoints, best}
 use Rattle.walks.specs.Negative.{noNegative}
 use Rattle.walks.specs.Mirror.{Mirrored, opposite-lt}
-use Rattle.relaxing.specs.Covers.{renamedStep, renamed-mirrored, renamed-steps-best, renamed-steps-clear-back}
+use Rattle.covering.specs.Covers.{renamedStep, renamed-mirrored, renamed-steps-best, renamed-steps-clear-back}
 use Rattle.distances.specs.Table.{storedTable, tableStart}
 use Rattle.packed_steps.specs.Steps.{StepOk, stepsIn, StepsReady, within-all}
 use Rattle.packed_steps.specs.Scratch.{Scratch, scratch-none, scratch-trans, scratch-wider, scratch-steps}

@@ -9,7 +9,7 @@ use lib.ListN.{length}
 use Rattle.integers.specs.Laws.{never}
 use Rattle.lines.specs.Limits.{maxVariables}
 use Rattle.steps.specs.declared.Step.{Step}
-use Rattle.relaxing.specs.Covers.{renamedStep}
+use Rattle.covering.specs.Covers.{renamedStep}
 use Rattle.packed_steps.specs.Steps.{stepsIn, StepsReady}
 use Rattle.packed_steps.specs.Scratch.{Scratch, scratch-trans, scratch-wider, scratch-ready, scratch-steps}
 use Rattle.renaming.specs.Inverse.{Inverse, renamedPoint, same-behind, inverse-kept}

@@ -6,6 +6,7 @@ use closed_refutation::is_potential;
 use distance_table::distance_table;
 use finished_rows::write_rows;
 use lines::limits::LINE_SIZE;
+use merged_steps::all_laid;
 use merged_steps::merge_steps;
 use ordered_rounds::ordered_rounds;
 use packed_steps::layout::places_at;
@@ -110,12 +111,16 @@ fn made(work: &mut [i64], count: usize, n: usize) -> bool
     true
 }
 
-// Where there are many lines, their steps once more, of those between the same points only the lightest.
+// Where there are many lines and all their steps stand, these once more, of those between the same points only the
+// lightest.
 fn fewer_steps(list: &[i32], n: usize, count: usize, work: &mut [i64]) -> usize
     requires { ⌜ TableAsked n (now list) count (now work) ⌝ }
     ensures { λ r. ⌜ StandingAgain n (now (list .entry)) (now (work .entry)) (now (work .exit)) r ⌝ }
 {
     if list.len() / LINE_SIZE <= 4 * n {
+        return count;
+    }
+    if !all_laid(list, n) {
         return count;
     }
     merge_steps(list, n, work)

@@ -3,7 +3,7 @@ use Prim.Native.Nat.{_-_, _≤_}
 use native.Mathlib.Omega.{arith}
 use borrow.Author.Needs.{needs}
 use Rattle.integers.specs.Laws.{never}
-use Rattle.relaxing.specs.Change.{not-false}
+use borrow.Author.Tests.{not-false}
 use Rattle.settled_table.specs.Settled.{StepsTo, steps-more}
 use Rattle.settled_table.proofs.steps_settled.Statement.{statement}
 use Rattle.settled_table.proofs.steps_settled.Tie as tie
