@@ -7,7 +7,7 @@ use std::thread;
 use utvpi_tests::bytes::{self, Line};
 use utvpi_tests::chance::Chance;
 use utvpi_tests::decision::{decide, Decision, Reason, Solved, Verdict};
-use utvpi_tests::limits::SMALL_VARIABLES;
+use utvpi_tests::limits::{LARGEST_BOUND, MOST_LINES, SMALL_VARIABLES};
 use utvpi_tests::make_lists::{small, Shape};
 use utvpi_tests::second::{self, Answer};
 use utvpi_tests::{brute, closure};
@@ -177,6 +177,34 @@ fn larger_lists_by_another_method() {
     let seen = in_two_threads(|thread| compare_large(50 + thread, &sizes));
     assert!(seen.lists() >= 500);
     seen.must_have(20, 5);
+}
+
+/// Many lines on few variables, up to the most: where steps between the same points
+/// are merged, where rounds go before elimination, and one line to each side of both.
+#[test]
+fn many_lines_by_another_method() {
+    let seen = in_two_threads(|thread| {
+        let mut chance = Chance::new(60 + thread);
+        let mut seen = Seen::default();
+        for _ in 0..300 {
+            let n = chance.pick(&[1, 2, 3, 5, 8, 16, 31, 32, 45, 46, 64]) as u64;
+            let points = n as usize;
+            let near = chance.pick(&[4 * points, 8 * points, points * points / 2, MOST_LINES]);
+            let count = (near + chance.below(3))
+                .saturating_sub(1)
+                .clamp(1, MOST_LINES - 1);
+            let largest = chance.pick(&[1, 20, 1_000, LARGEST_BOUND]);
+            let mut list = Shape { n, count, largest }.list(&mut chance);
+            list.truncate(MOST_LINES);
+            let due = closure::verdict(points, &list);
+            let decision = decide(&mut chance, n, &list);
+            assert_eq!(decision.verdict, due, "n: {n}\nlines: {list:?}");
+            seen.count(&due);
+        }
+        seen
+    });
+    assert!(seen.lists() >= 600);
+    seen.must_have(20, 0);
 }
 
 /// What must hold of a list's decision and a longer list's that begins with it.

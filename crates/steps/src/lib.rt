@@ -3,7 +3,7 @@ use lines::Line;
 use lines::limits::LINE_SIZE;
 use lines::line_at;
 ghost use mathlib.Core.Path.{_≡_};
-ghost use Prim.Native.Nat.{_<_};
+ghost use Prim.Native.Nat.{_+_, _<_};
 ghost use lib.IntN.{pos, natAbs, _*ℤ_};
 ghost use Rattle.integers.specs.Integer.{Within};
 ghost use Rattle.lines.specs.Limits.{maxVariables, maxConstant};
@@ -91,11 +91,24 @@ fn number_of(entry: u8) -> usize
     entry as usize
 }
 
-fn entry_at(i: usize) -> usize
-    requires { ⌜ i < 54 ⌝ }
-    ensures { λ r. ⌜ r ≡ entry i ⌝ }
+// A side's three entries: start, end and weight factor.
+pub struct Side {
+    pub start: usize,
+    pub end: usize,
+    pub factor: usize,
+}
+
+// The three entries from i on.
+fn side_at(i: usize) -> Side
+    requires { ⌜ i + 2 < 54 ⌝ }
+    ensures { λ r. ⌜ r ≡ record { start = entry i; end = entry (i + 1); factor = entry (i + 2) } ⌝ }
 {
-    number_of(STEP_TABLE[i])
+    let table = STEP_TABLE;
+    Side {
+        start: number_of(table[i]),
+        end: number_of(table[i + 1]),
+        factor: number_of(table[i + 2]),
+    }
 }
 
 // A coefficient's row or column in the table.
@@ -142,12 +155,13 @@ fn line_step(line: Line, side: usize) -> NamedStep
     ensures { λ r. ⌜ r ≡ stepOf line side ⌝ }
 {
     let at = 6 * (3 * digit_of(line.a) + digit_of(line.b)) + 3 * side;
-    let factor = entry_at(at + 2);
+    let entries = side_at(at);
+    let factor = entries.factor;
     if factor == 0 {
         return NamedStep::Nothing;
     }
-    let from = end_point(line, entry_at(at));
-    let to = end_point(line, entry_at(at + 1));
+    let from = end_point(line, entries.start);
+    let to = end_point(line, entries.end);
     let weight = weight_of(factor, line.d);
     NamedStep::Found(Step { from, to, weight })
 }

@@ -9,6 +9,7 @@ use Rattle.integers.specs.Bits.{kept}
 use Rattle.lines.specs.declared.Line.{Line}
 use Rattle.lines.specs.Limits.{maxVariables}
 use Rattle.lines.specs.Valid.{LineOk}
+use Rattle.steps.specs.declared.Side.{Side}
 use Rattle.steps.specs.declared.NamedStep.the-variants.{Found}
 use Rattle.steps.specs.Table.{entry, cell, digit, CellRule}
 use Rattle.steps.specs.Step.{endPoint}
@@ -33,8 +34,16 @@ module _ (c : tie.After-digit-of2) where
       (c .before .before .digit-of .ensures .0 ∙ ap digit (kept w32 (l .a) (c .before .before .before .struct-told .given .0 .1)))
       (c .digit-of2 .ensures .0 ∙ ap digit (kept w32 (l .b) (c .before .struct-told2 .given .1 .1 .0 .1)))
 
-factor-is : (c : tie.After-entry-at) → c .entry-at .result ≡ entry (at (c .before) + 2)
-factor-is c = c .entry-at .ensures ∙ ap (λ (i : ℕ). entry (i + 2)) (at-is (c .before))
+-- what is read
+module _ (c : tie.After-side-at) where
+  from-is : c .side-at .result .start ≡ entry (at (c .before))
+  from-is = ap (λ (s : Side). s .start) (c .side-at .ensures) ∙ ap entry (at-is (c .before))
+
+  to-is : c .side-at .result .end ≡ entry (at (c .before) + 1)
+  to-is = ap (λ (s : Side). s .end) (c .side-at .ensures) ∙ ap (λ (i : ℕ). entry (i + 1)) (at-is (c .before))
+
+  factor-is : c .side-at .result .factor ≡ entry (at (c .before) + 2)
+  factor-is = ap (λ (s : Side). s .factor) (c .side-at .ensures) ∙ ap (λ (i : ℕ). entry (i + 2)) (at-is (c .before))
 
 -- there is a step, so that the rule says what its ends are
 module _ (c : tie.Else1) where
@@ -53,25 +62,17 @@ module _ (c : tie.Else1) where
 returns : tie.Need-returns
 returns c = step-none (l (c .before .before)) _ (sym (factor-is (c .before)) ∙ c .if1 .taken)
 
-from-is : (c : tie.After-entry-at2) → c .entry-at2 .result ≡ entry (at (d (c .before)))
-from-is c = c .entry-at2 .ensures ∙ ap entry (at-is (d (c .before)))
-
 end-point-requires : tie.Need-end-point-requires
-end-point-requires c κs =
-    let e = c .before in
-    rw (from-is c) (end-ok maxVariables (l (d e)) (ok e) (entry (at (d e))) (rule e .start (some-factor e)))
-
-to-is : (c : tie.After-entry-at3) → c .entry-at3 .result ≡ entry (at (d (c .before .before .before)) + 1)
-to-is c = c .entry-at3 .ensures ∙ ap (λ (i : ℕ). entry (i + 1)) (at-is (d (c .before .before .before)))
+end-point-requires e κs = rw (from-is (e .before)) (end-ok maxVariables (l (d e)) (ok e) (entry (at (d e))) (rule e .start (some-factor e)))
 
 end-point-requires-2 : tie.Need-end-point-requires-2
 end-point-requires-2 c κs =
-    let e = c .before .before .before in
-    rw (to-is c) (end-ok maxVariables (l (d e)) (ok e) (entry (at (d e) + 1)) (rule e .end (some-factor e)))
+    let e = c .before in
+    rw (to-is (e .before)) (end-ok maxVariables (l (d e)) (ok e) (entry (at (d e) + 1)) (rule e .end (some-factor e)))
 
 module _ (c : tie.After-struct-told3) where
   abbrev e : tie.Else1
-  e = c .before .before .before .before .before
+  e = c .before .before .before
 
   d-is : toZ w32 (ofZ w32 (l (d e) .d)) ≡ l (d e) .d
   d-is = kept w32 (l (d e) .d) (c .struct-told3 .given .1 .1 .1 .1 .0 .1)
@@ -84,11 +85,12 @@ weight-of-requires c κs =
 returns-2 : tie.Need-returns-2
 returns-2 c =
     let g = c .before in
+    let s = e g .before in
     let x = l (d (e g)) in
-    let f : c .before .before .before .before .end-point .result ≡ endPoint x (entry (at (d (e g)))) = g .before .before .before .end-point .ensures ∙ ap (endPoint x) (from-is (g .before .before .before .before)) in
-    let t : c .before .before .end-point2 .result ≡ endPoint x (entry (at (d (e g)) + 1)) = g .before .end-point2 .ensures ∙ ap (endPoint x) (to-is (g .before .before)) in
+    let f : c .before .before .before .end-point .result ≡ endPoint x (entry (at (d (e g)))) = g .before .before .end-point .ensures ∙ ap (endPoint x) (from-is s) in
+    let t : c .before .before .end-point2 .result ≡ endPoint x (entry (at (d (e g)) + 1)) = g .before .end-point2 .ensures ∙ ap (endPoint x) (to-is s) in
     let w : toZ w64 (ofZ w64 (c .weight-of .result)) ≡ pos (entry (at (d (e g)) + 2)) *ℤ x .d =
-    kept w64 (c .weight-of .result) (c .weight-of .ok) ∙ c .weight-of .ensures ∙ ap₂ (λ (k : ℕ) (z : ℤ). pos k *ℤ z) (factor-is (e g .before)) (d-is g) in
+    kept w64 (c .weight-of .result) (c .weight-of .ok) ∙ c .weight-of .ensures ∙ ap₂ (λ (k : ℕ) (z : ℤ). pos k *ℤ z) (factor-is s) (d-is g) in
     ap Found (λ i. record { from = f i; to = t i; weight = w i }) ∙ step-found x _ (some-factor (e g))
 
 pub line-step-spec : {M : Type 1} → statement M
@@ -103,12 +105,8 @@ line-step-spec =
     (search needs)
     (search needs)
     (search needs)
-    (search needs)
     returns
-    (search needs)
     end-point-requires
-    (search needs)
-    (search needs)
     end-point-requires-2
     weight-of-requires
     returns-2)
