@@ -1,7 +1,7 @@
 -- The rows of distances: the numbers of a row one after another, and the rows one behind the other.
 use mathlib.Core.Path.{_≡_, sym, ap, ap₂, _∙_}
 use mathlib.Core.List.{List, _++_}
-use Prim.Native.Nat.{ℕ, zero, suc, _+_, _*_, _≤_, _<_}
+use Prim.Native.Nat.{ℕ, zero, suc, _+_, _*_, _%_, _≤_, _<_}
 use native.Mathlib.Decide.{ℕ-discrete}
 use native.Mathlib.Nat.{mul-le-mul-right}
 use native.Mathlib.Omega.{arith}
@@ -18,7 +18,7 @@ use Rattle.distances.specs.Table.{tableStart, bestRow, storedTable}
 use Rattle.packed_steps.specs.Layout.{rowWidth}
 use Rattle.packed_steps.specs.Steps.{stepsIn}
 use Rattle.packed_steps.specs.Scratch.{Scratch, scratch-none, scratch-trans, scratch-set, scratch-at, scratch-wider}
-use Rattle.renaming.specs.Inverse.{renamedPoint, renamed-low, PointReady}
+use Rattle.renaming.specs.Inverse.{renamedPoint, renamed-low, renamed-opposite, PointReady}
 use Rattle.reduced_table.specs.Reduced.{cell}
 use Rattle.settled_table.specs.Out.{outOf, OutReady}
 use Rattle.settled_table.specs.Exact.{exact-entry, out-ready}
@@ -46,12 +46,28 @@ pub record RowTo (count n at place v : ℕ) (w w′ : List ℤ) (u : ℕ) : Type
 abbrev pub RowWritten : ℕ → ℕ → ℕ → ℕ → ℕ → List ℤ → List ℤ → Type 0
 RowWritten count n at place v w w′ = RowTo count n at place v w w′ (2 * n)
 
+-- the entry of column j in the row of the table that begins at `row`, to be turned back
+pub record ColumnReady (pot row j : ℕ) (own : ℤ) (w : List ℤ) : Type 0 where
+  pub entry-room : row + j < length w
+  pub other-room : pot + j < length w
+  pub turn : OutReady (number w (row + j)) own (number w (pot + j))
+
 -- ---- one row
-pub point-ready : {count n at pot : ℕ} {w : List ℤ} → RowsReady count n at pot w → (p q : ℕ) → p < 2 * n → q ≡ opposite p → PointReady n at q w
-point-ready {n} r p q h e = record { inverse = r .inverse; low = rw e (opposite-low n p h); room = omega (arith, r .behind, r .reduced .room) }
+pub point-ready : {count n at pot : ℕ} {w : List ℤ} → RowsReady count n at pot w → (p : ℕ) → p < 2 * n → PointReady n at p w
+point-ready {n} r p h = record { inverse = r .inverse; low = h; room = omega (arith, r .behind, r .reduced .room) }
 
 pub point-low : {count n at pot : ℕ} {w : List ℤ} → RowsReady count n at pot w → (p i : ℕ) → p < 2 * n → i ≡ renamedPoint at w (opposite p) → i < 2 * n
 point-low {n} r p i h e = rw e (renamed-low (r .inverse) (opposite p) (opposite-low n p h))
+
+-- the two points of a variable, the first of them even: the renamed opposite of the one is behind the renamed first, and that
+-- of the other the renamed first itself
+pub opposite-first : (at : ℕ) (w : List ℤ) (u j : ℕ) → u % 2 ≡ 0 → j ≡ renamedPoint at w u → j + 1 ≡ renamedPoint at w (opposite u)
+unfolding opposite
+opposite-first at w u j even e = rw (renamed-opposite at w u) (omega (arith, e, even))
+
+pub opposite-second : (at : ℕ) (w : List ℤ) (u j : ℕ) → u % 2 ≡ 0 → j ≡ renamedPoint at w u → j ≡ renamedPoint at w (opposite (u + 1))
+unfolding opposite
+opposite-second at w u j even e = let f : opposite (u + 1) ≡ u = omega (arith, even) in rw f e
 
 -- the row of a point below `size` ends where the table does, or before
 pub row-room : (size i : ℕ) → i < size → i * rowWidth size + rowWidth size ≤ size * rowWidth size
@@ -61,7 +77,6 @@ module _ {count n at pot place v : ℕ} {w₀ : List ℤ} (r : RowReady count n 
   pub row-start : RowTo count n at place v w₀ w₀ 0
   row-start = record { at-most = omega arith; scratch = scratch-none place (place + 2 * n) w₀; done = λ k h. absurd (omega arith) }
 
-  -- the points i of v and j of u, as they were read: the one before the loop, the other in it
   module _ (w : List ℤ) (u : ℕ) (p : RowTo count n at place v w₀ w u) where
     wide : Scratch (tableStart (2 * n)) (tableStart (2 * n) + 2 * n * (2 * n)) w₀ w
     wide = scratch-wider (omega (arith, r .place-is)) (r .in-table) (p .scratch)
@@ -69,37 +84,50 @@ module _ {count n at pot place v : ℕ} {w₀ : List ℤ} (r : RowReady count n 
     pub ready : RowsReady count n at pot w
     ready = rows-kept (r .rows) wide
 
-    module _ (h : u < 2 * n) (i j : ℕ) (i-is : i ≡ renamedPoint at w₀ (opposite v)) (j-is : j ≡ renamedPoint at w (opposite u)) where
+    -- the points i of v and j of a point x, as they were read: the one before the loop, the other in it
+    module _ (x : ℕ) (h : x < 2 * n) (i j : ℕ) (i-is : i ≡ renamedPoint at w₀ (opposite v)) (j-is : j ≡ renamedPoint at w (opposite x)) where
       i-low : i < 2 * n
       i-low = point-low (r .rows) v i (r .low) i-is
 
       j-low : j < 2 * n
-      j-low = point-low ready u j h j-is
+      j-low = point-low ready x j h j-is
 
       -- the table and the numbers of points are as before the row, so that an entry turned back is the distance; and the
       -- points are renamed as before it, so that it is the one to be written
-      pub turn-ready : OutReady (number w (cell pot (2 * n) i j)) (number w₀ (pot + i)) (number w (pot + j))
-      turn-ready = rw (sym (own-kept (r .rows) wide i i-low)) (out-ready (ready .reduced) i j i-low j-low)
+      pub column-ready : ColumnReady pot (pot + 2 * (2 * n) + i * rowWidth (2 * n)) j (number w₀ (pot + i)) w
+      column-ready = record {
+        entry-room = omega (arith, row-room (2 * n) i i-low, j-low, ready .reduced .room);
+        other-room = omega (arith, j-low, ready .reduced .room);
+        turn = rw (sym (own-kept (r .rows) wide i i-low)) (out-ready (ready .reduced) i j i-low j-low);
+      }
 
-      turned : stored (outOf (number w₀ (pot + i)) (number w (pot + j)) (number w (cell pot (2 * n) i j))) ≡ distanceAt count n at w₀ v u
+      pub turned : stored (outOf (number w₀ (pot + i)) (number w (pot + j)) (number w (cell pot (2 * n) i j))) ≡ distanceAt count n at w₀ v x
       turned =
           rw (sym (own-kept (r .rows) wide i i-low)) (exact-entry (ready .reduced) (ready .clear) (ready .settled) i j i-low j-low)
-          ∙ ap₂ (λ (x y : ℕ). stored (best (stepsIn count w) (2 * n) x y)) (i-is ∙ sym (point-kept (r .rows) wide (opposite v) (opposite-low n v (r .low)))) j-is
-          ∙ distance-kept (r .rows) wide v u (r .low) h
+          ∙ ap₂ (λ (a b : ℕ). stored (best (stepsIn count w) (2 * n) a b)) (i-is ∙ sym (point-kept (r .rows) wide (opposite v) (opposite-low n v (r .low)))) j-is
+          ∙ distance-kept (r .rows) wide v x (r .low) h
 
-      pub row-more : (z : ℤ) → z ≡ stored (outOf (number w₀ (pot + i)) (number w (pot + j)) (number w (cell pot (2 * n) i j))) → RowTo count n at place v w₀ (set w (place + u) z) (u + 1)
-      row-more z e = record {
-        at-most = omega (arith, h);
-        scratch = scratch-trans (p .scratch) (scratch-set place (place + 2 * n) w (place + u) z (omega arith) (omega (arith, h)));
-        done = λ k l. each k l (ℕ-discrete k u);
-      }
-        where
-          room : place + u < length w
-          room = omega (arith, h, r .in-table, r .rows .after, r .rows .behind, r .rows .reduced .room, p .scratch .same-length)
+    row-more : u < 2 * n → (z : ℤ) → z ≡ distanceAt count n at w₀ v u → RowTo count n at place v w₀ (set w (place + u) z) (u + 1)
+    row-more h z e = record {
+      at-most = omega (arith, h);
+      scratch = scratch-trans (p .scratch) (scratch-set place (place + 2 * n) w (place + u) z (omega arith) (omega (arith, h)));
+      done = λ k l. each k l (ℕ-discrete k u);
+    }
+      where
+        room : place + u < length w
+        room = omega (arith, h, r .in-table, r .rows .after, r .rows .behind, r .rows .reduced .room, p .scratch .same-length)
 
-          each : (k : ℕ) → k < u + 1 → Dec (k ≡ u) → number (set w (place + u) z) (place + k) ≡ distanceAt count n at w₀ v k
-          each k l (yes f) = rw f (getD-set-same w (place + u) z (pos 0) room ∙ e ∙ turned)
-          each k l (no d) = getD-set-other w (place + u) (place + k) z (pos 0) (λ f. d (omega (arith, f))) ∙ p .done k (omega (arith, l, d))
+        each : (k : ℕ) → k < u + 1 → Dec (k ≡ u) → number (set w (place + u) z) (place + k) ≡ distanceAt count n at w₀ v k
+        each k l (yes f) = rw f (getD-set-same w (place + u) z (pos 0) room ∙ e)
+        each k l (no d) = getD-set-other w (place + u) (place + k) z (pos 0) (λ f. d (omega (arith, f))) ∙ p .done k (omega (arith, l, d))
+
+  -- two numbers more
+  pub row-two : (w : List ℤ) (u : ℕ) → RowTo count n at place v w₀ w u → u + 1 < 2 * n → (y z : ℤ) → y ≡ distanceAt count n at w₀ v u → z ≡ distanceAt count n at w₀ v (u + 1)
+      → RowTo count n at place v w₀ (set (set w (place + u) y) (place + u + 1) z) (u + 2)
+  row-two w u p h y z e f =
+      let a : place + u + 1 ≡ place + (u + 1) = omega arith in
+      let b : u + 2 ≡ u + 1 + 1 = omega arith in
+      rw (a, b) (row-more (set w (place + u) y) (u + 1) (row-more w u p (omega (arith, h)) y e) h z f)
 
   pub row-end : (w : List ℤ) (u : ℕ) → RowTo count n at place v w₀ w u → 2 * n ≤ u → RowWritten count n at place v w₀ w
   row-end w u p h = record { at-most = omega arith; scratch = p .scratch; done = λ k l. p .done k (omega (arith, h, l)) }

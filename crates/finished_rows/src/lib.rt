@@ -4,10 +4,25 @@ use reduced_table::SPARE;
 use renaming::renamed_point;
 use settled_table::distance_of;
 use steps::opposite_of;
+ghost use mathlib.Core.Path.{_≡_};
+ghost use Prim.Native.Nat.{_+_};
+ghost use Rattle.lines.specs.Line.{number};
+ghost use Rattle.distances.specs.Stored.{stored};
+ghost use Rattle.settled_table.specs.Out.{outOf};
 ghost use Rattle.finished_rows.specs.Kept.{RowsReady};
-ghost use Rattle.finished_rows.specs.Rows.{RowReady, RowWritten, RowsWritten};
+ghost use Rattle.finished_rows.specs.Rows.{ColumnReady, RowReady, RowWritten, RowsWritten};
 
-// The row of v, at a place.
+// The entry of column j in a row of the table, turned back.
+fn turned_back(work: &[i64], pot: usize, row: usize, own: i64, j: usize) -> i64
+    requires { ⌜ ColumnReady pot row j own (now work) ⌝ }
+    ensures { λ r. ⌜ r ≡ stored (outOf own (number (now (work .entry)) (pot + j)) (number (now (work .entry)) (row + j))) ⌝ }
+{
+    let z = work[row + j];
+    let other = work[pot + j];
+    distance_of(z, own, other)
+}
+
+// The row of v, at a place: the two points of a variable at once, whose renamed points are side by side.
 fn write_row(
     work: &mut [i64],
     count: usize,
@@ -26,11 +41,12 @@ fn write_row(
     let row = pot + 2 * size + i * (size + SPARE);
     let mut u = 0;
     while u < size {
-        let j = renamed_point(work, n, at, opposite_of(u));
-        let z = work[row + j];
-        let other = work[pot + j];
-        work[place + u] = distance_of(z, own, other);
-        u += 1;
+        let j = renamed_point(work, n, at, u);
+        let first = turned_back(work, pot, row, own, j + 1);
+        let second = turned_back(work, pot, row, own, j);
+        work[place + u] = first;
+        work[place + u + 1] = second;
+        u += 2;
     }
 }
 

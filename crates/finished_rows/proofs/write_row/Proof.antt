@@ -1,30 +1,27 @@
--- `finished_rows::write_row` meets its contract. The invariant: the first u numbers of the row are written, and nothing else
--- is changed. What a turn reads lies elsewhere, so that it is as it was before the row.
+-- `finished_rows::write_row` meets its contract. The invariant: the first u numbers of the row are written, u is even, and
+-- nothing else is changed. What a turn reads lies elsewhere, so that it is as it was before the row.
 use mathlib.Core.Path.{_≡_, refl, ap, _∙_}
 use mathlib.Core.List.{List}
-use Prim.Native.Nat.{ℕ, _+_, _*_, _-_, _≤_, _<_}
+use Prim.Native.Nat.{ℕ, _+_, _*_, _-_, _%_, _≤_, _<_}
 use native.Mathlib.Omega.{arith}
 use borrow.Author.Needs.{needs}
 use denote.Ref.{now}
 use lib.IntN.{ℤ}
-use lib.ListN.{length}
+use lib.ListN.{length, length-set}
 use mir.Syntax.{w64}
 use mir.Val.{toZ, ofZ}
 use mir.Facts.{toZ-ofZ}
 use Rattle.lines.specs.Line.{number}
 use Rattle.steps.specs.Point.{opposite}
-use Rattle.distances.specs.Stored.{stored}
 use Rattle.packed_steps.specs.Layout.{rowWidth}
 use Rattle.renaming.specs.Inverse.{renamedPoint}
-use Rattle.reduced_table.specs.Reduced.{cell}
-use Rattle.settled_table.specs.Out.{outOf}
-use Rattle.finished_rows.specs.Kept.{RowsReady}
-use Rattle.finished_rows.specs.Rows.{RowTo, point-ready, point-low, row-room, row-start, ready, turn-ready, row-more, row-end}
+use Rattle.finished_rows.specs.Kept.{RowsReady, opposite-low, distanceAt}
+use Rattle.finished_rows.specs.Rows.{RowTo, point-ready, point-low, opposite-first, opposite-second, row-room, row-start, ready, column-ready, turned, row-two, row-end}
 use Rattle.finished_rows.proofs.write_row.Statement.{statement}
 use Rattle.finished_rows.proofs.write_row.Tie as tie
 
 abbrev Inv-loop : tie.InvT-loop
-Inv-loop work₀ count n at pot place v size i own row u₀ work u = (length work ≡ length work₀) × RowTo count n at place v work₀ work u
+Inv-loop work₀ count n at pot place v size i own row u₀ work u = (length work ≡ length work₀) × (u % 2 ≡ 0) × RowTo count n at place v work₀ work u
 
 abbrev μ-loop : tie.MeasureT-loop
 μ-loop work₀ count n at pot place v size i own row u₀ work u = size - u
@@ -38,7 +35,7 @@ opposite-of-requires c κs = search needs
 renamed-point-requires : tie.Need-renamed-point-requires Inv-loop μ-loop
 renamed-point-requires c κs =
     let s = c .before .before in
-    point-ready (s .pre .rows) (s .args .v) (c .opposite-of .result) (s .pre .low) (c .opposite-of .ensures)
+    point-ready (s .pre .rows) (c .opposite-of .result) (rw (c .opposite-of .ensures) (opposite-low (s .args .n) (s .args .v) (s .pre .low)))
 
 -- the point of v
 module _ (c : tie.After-renamed-point Inv-loop μ-loop) where
@@ -85,10 +82,7 @@ add-row-3 : tie.Need-add-row-3 Inv-loop μ-loop
 add-row-3 c = record { fits = omega (arith, i-row (c .before), s (c .before) .pre .rows .reduced .room, s (c .before) .good .0 .0) }
 
 loop-holds : tie.Need-loop-holds Inv-loop μ-loop
-loop-holds c = (refl, row-start (s (c .before) .pre))
-
-opposite-of-requires-2 : tie.Need-opposite-of-requires-2 Inv-loop μ-loop
-opposite-of-requires-2 c κs = search needs
+loop-holds c = (refl, refl, row-start (s (c .before) .pre))
 
 -- what is read from holds in a turn
 module _ (t : tie.In-loop Inv-loop μ-loop) where
@@ -102,17 +96,28 @@ module _ (t : tie.In-loop Inv-loop μ-loop) where
   g = s b
 
   now-ready : RowsReady (g .args .count) (g .args .n) (g .args .at) (g .args .pot) (l .loop .work)
-  now-ready = ready (g .pre) (l .loop .work) (l .loop .u) (l .loop .inv .1)
+  now-ready = ready (g .pre) (l .loop .work) (l .loop .u) (l .loop .inv .2)
+
+  -- u is even, so that its opposite is there too
+  two : l .loop .u + 1 < 2 * g .args .n
+  two = omega (arith, t .loop-test .taken, l .loop .inv .1)
+
+  in-row : g .args .place + 2 * g .args .n ≤ length (w₀ b)
+  in-row = let p = g .pre in omega (arith, p .in-table, p .rows .after, p .rows .behind, p .rows .reduced .room)
+
+  abbrev own : ℤ
+  own = number (w₀ b) (g .args .pot + i b)
+
+  own-is : toZ w64 (ofZ w64 own) ≡ own
+  own-is = toZ-ofZ (record { sfits = l .before .own .given })
 
 renamed-point-requires-2 : tie.Need-renamed-point-requires-2 Inv-loop μ-loop
-renamed-point-requires-2 c κs =
-    let t = c .before .before in
-    point-ready (now-ready t) (t .before .loop .u) (c .opposite-of2 .result) (t .loop-test .taken) (c .opposite-of2 .ensures)
+renamed-point-requires-2 c κs = let t = c .before in point-ready (now-ready t) (l t .loop .u) (t .loop-test .taken)
 
 -- the point of u
 module _ (c : tie.After-renamed-point2 Inv-loop μ-loop) where
   abbrev t : tie.In-loop Inv-loop μ-loop
-  t = c .before .before .before
+  t = c .before .before
 
   abbrev w : List ℤ
   w = l t .loop .work
@@ -120,91 +125,80 @@ module _ (c : tie.After-renamed-point2 Inv-loop μ-loop) where
   abbrev j : ℕ
   j = c .renamed-point2 .result
 
-  j-is : j ≡ renamedPoint (g t .args .at) w (opposite (l t .loop .u))
-  j-is = c .renamed-point2 .ensures ∙ ap (renamedPoint (g t .args .at) w) (c .before .opposite-of2 .ensures)
+  first-is : j + 1 ≡ renamedPoint (g t .args .at) w (opposite (l t .loop .u))
+  first-is = opposite-first (g t .args .at) w (l t .loop .u) j (l t .loop .inv .1) (c .renamed-point2 .ensures)
 
-  j-low : j < 2 * g t .args .n
-  j-low = point-low (now-ready t) (l t .loop .u) j (t .loop-test .taken) j-is
+  second-is : j ≡ renamedPoint (g t .args .at) w (opposite (l t .loop .u + 1))
+  second-is = opposite-second (g t .args .at) w (l t .loop .u) j (l t .loop .inv .1) (c .renamed-point2 .ensures)
 
-add-z : tie.Need-add-z Inv-loop μ-loop
-add-z c = record { fits = omega (arith, i-row (b (t c)), j-low c, g (t c) .pre .rows .reduced .room, g (t c) .good .0 .0) }
+  first-low : j + 1 < 2 * g t .args .n
+  first-low = point-low (now-ready t) (l t .loop .u) (j + 1) (t .loop-test .taken) first-is
 
-mul-z : tie.Need-mul-z Inv-loop μ-loop
-mul-z c = record { fits = omega (arith, i-row (b (t c)), j-low c, g (t c) .pre .rows .reduced .room, g (t c) .good .0 .0) }
+add-turned-back : tie.Need-add-turned-back Inv-loop μ-loop
+add-turned-back c = let o = c .before in record { fits = omega (arith, first-low o, g (t o) .pre .rows .reduced .room, g (t o) .good .0 .0) }
 
-slice-copy-out-z : tie.Need-slice-copy-out-z Inv-loop μ-loop
-slice-copy-out-z c = omega (arith, i-row (b (t c)), j-low c, now-ready (t c) .reduced .room)
+turned-back-requires : tie.Need-turned-back-requires Inv-loop μ-loop
+turned-back-requires c κs =
+    let o = c .before in
+    let t′ = t o in
+    rw (own-is t′) (column-ready (g t′ .pre) (w o) (l t′ .loop .u) (l t′ .loop .inv .2) (l t′ .loop .u) (t′ .loop-test .taken) (i (b t′)) (j o + 1) (i-is (b t′)) (first-is o))
 
-add-other : tie.Need-add-other Inv-loop μ-loop
-add-other c = let d = c .before in record { fits = omega (arith, j-low d, g (t d) .pre .rows .reduced .room, g (t d) .good .0 .0) }
+turned-back-requires-2 : tie.Need-turned-back-requires-2 Inv-loop μ-loop
+turned-back-requires-2 c κs =
+    let o = c .before .before .before in
+    let t′ = t o in
+    rw (own-is t′) (column-ready (g t′ .pre) (w o) (l t′ .loop .u) (l t′ .loop .inv .2) (l t′ .loop .u + 1) (two t′) (i (b t′)) (j o) (i-is (b t′)) (second-is o))
 
-mul-other : tie.Need-mul-other Inv-loop μ-loop
-mul-other c = let d = c .before in record { fits = omega (arith, j-low d, g (t d) .pre .rows .reduced .room, g (t d) .good .0 .0) }
+-- the two entries that were read
+module _ (c : tie.After-turned-back2 Inv-loop μ-loop) where
+  abbrev o : tie.After-renamed-point2 Inv-loop μ-loop
+  o = c .before .before .before .before
 
-slice-copy-out-other : tie.Need-slice-copy-out-other Inv-loop μ-loop
-slice-copy-out-other c = let d = c .before in omega (arith, j-low d, now-ready (t d) .reduced .room)
-
--- the numbers that were read
-module _ (c : tie.After-other Inv-loop μ-loop) where
-  abbrev d : tie.After-renamed-point2 Inv-loop μ-loop
-  d = c .before .before
+  abbrev k : tie.In-loop Inv-loop μ-loop
+  k = t o
 
   abbrev q : tie.Start Inv-loop μ-loop
-  q = g (t d)
+  q = g k
 
-  abbrev z : ℤ
-  z = number (w d) (cell (q .args .pot) (2 * q .args .n) (i (b (t d))) (j d))
+  first-turned : c .before .before .turned-back .result ≡ distanceAt (q .args .count) (q .args .n) (q .args .at) (w₀ (b k)) (q .args .v) (l k .loop .u)
+  first-turned = rw (own-is k) at (c .before .before .turned-back .ensures) ∙ turned (q .pre) (w o) (l k .loop .u) (l k .loop .inv .2) (l k .loop .u) (k .loop-test .taken) (i (b k)) (j o + 1) (i-is (b k)) (first-is o)
 
-  abbrev own : ℤ
-  own = number (w₀ (b (t d))) (q .args .pot + i (b (t d)))
+  second-turned : c .turned-back2 .result ≡ distanceAt (q .args .count) (q .args .n) (q .args .at) (w₀ (b k)) (q .args .v) (l k .loop .u + 1)
+  second-turned = rw (own-is k) at (c .turned-back2 .ensures) ∙ turned (q .pre) (w o) (l k .loop .u) (l k .loop .inv .2) (l k .loop .u + 1) (two k) (i (b k)) (j o) (i-is (b k)) (second-is o)
 
-  abbrev other : ℤ
-  other = number (w d) (q .args .pot + j d)
+add-first : tie.Need-add-first Inv-loop μ-loop
+add-first c = record { fits = omega (arith, in-row (k c), two (k c), q c .good .0 .0) }
 
-  z-is : toZ w64 (ofZ w64 z) ≡ z
-  z-is = toZ-ofZ (record { sfits = c .before .z .given })
+mul-first : tie.Need-mul-first Inv-loop μ-loop
+mul-first c = record { fits = omega (arith, in-row (k c), two (k c), q c .good .0 .0) }
 
-  own-is : toZ w64 (ofZ w64 own) ≡ own
-  own-is = toZ-ofZ (record { sfits = l (t d) .before .own .given })
+slice-set-from-first : tie.Need-slice-set-from-first Inv-loop μ-loop
+slice-set-from-first c = omega (arith, in-row (k c), two (k c), l (k c) .loop .inv .0)
 
-  other-is : toZ w64 (ofZ w64 other) ≡ other
-  other-is = toZ-ofZ (record { sfits = c .other .given })
+add-second : tie.Need-add-second Inv-loop μ-loop
+add-second c = record { fits = omega (arith, in-row (k c), two (k c), q c .good .0 .0) }
 
-distance-of-requires : tie.Need-distance-of-requires Inv-loop μ-loop
-distance-of-requires c κs =
-    let t′ = t (d c) in
-    rw (z-is c, own-is c, other-is c) (turn-ready (q c .pre) (w (d c)) (l t′ .loop .u) (l t′ .loop .inv .1) (t′ .loop-test .taken) (i (b t′)) (j (d c)) (i-is (b t′)) (j-is (d c)))
+add-second-2 : tie.Need-add-second-2 Inv-loop μ-loop
+add-second-2 c = record { fits = omega (arith, in-row (k c), two (k c), q c .good .0 .0) }
 
--- the place of u's number
-module _ (c : tie.After-distance-of Inv-loop μ-loop) where
-  abbrev e : tie.After-renamed-point2 Inv-loop μ-loop
-  e = d (c .before)
+mul-second : tie.Need-mul-second Inv-loop μ-loop
+mul-second c = record { fits = omega (arith, in-row (k c), two (k c), q c .good .0 .0) }
 
-  in-row : q (c .before) .args .place + 2 * q (c .before) .args .n ≤ length (w₀ (b (t e)))
-  in-row = let p = q (c .before) .pre in omega (arith, p .in-table, p .rows .after, p .rows .behind, p .rows .reduced .room)
-
-add-t27 : tie.Need-add-t27 Inv-loop μ-loop
-add-t27 c = record { fits = omega (arith, in-row c, t (e c) .loop-test .taken, q (c .before) .good .0 .0) }
-
-mul-t28 : tie.Need-mul-t28 Inv-loop μ-loop
-mul-t28 c = record { fits = omega (arith, in-row c, t (e c) .loop-test .taken, q (c .before) .good .0 .0) }
-
-slice-set-from-work : tie.Need-slice-set-from-work Inv-loop μ-loop
-slice-set-from-work c = omega (arith, in-row c, t (e c) .loop-test .taken, l (t (e c)) .loop .inv .0)
+slice-set-from-second : tie.Need-slice-set-from-second Inv-loop μ-loop
+slice-set-from-second c = simp length-set (omega (arith, in-row (k c), two (k c), l (k c) .loop .inv .0))
 
 add-u : tie.Need-add-u Inv-loop μ-loop
-add-u c = search needs
+add-u c = record { fits = omega (arith, in-row (k c), two (k c), q c .good .0 .0) }
 
 loop-less : tie.Need-loop-less Inv-loop μ-loop
 loop-less c = search needs
 
 loop-again : tie.Need-loop-again Inv-loop μ-loop
 loop-again c =
-    let o = c .before in
-    let t′ = t (e c) in
-    let is : c .distance-of .result ≡ stored (outOf (own o) (other o) (z o)) = rw (z-is o, own-is o, other-is o) at (c .distance-of .ensures) in (
+    let k′ = k c in (
       search needs,
-      row-more (q o .pre) (w (e c)) (l t′ .loop .u) (l t′ .loop .inv .1) (t′ .loop-test .taken) (i (b t′)) (j (e c)) (i-is (b t′)) (j-is (e c)) _ (toZ-ofZ (record { sfits = c .distance-of .ok }) ∙ is),
+      omega (arith, l k′ .loop .inv .1),
+      row-two (q c .pre) (w (o c)) (l k′ .loop .u) (l k′ .loop .inv .2) (two k′) _ _ (toZ-ofZ (record { sfits = c .before .before .turned-back .ok }) ∙ first-turned c) (toZ-ofZ (record { sfits = c .turned-back2 .ok }) ∙ second-turned c),
     )
 
 same-length : tie.Need-same-length Inv-loop μ-loop
@@ -213,7 +207,7 @@ same-length c = search needs
 returns : tie.Need-returns Inv-loop μ-loop
 returns c =
     let m = c .before in
-    row-end (s (m .before .before) .pre) (m .loop .work) (m .loop .u) (m .loop .inv .1) (c .loop-test .left)
+    row-end (s (m .before .before) .pre) (m .loop .work) (m .loop .u) (m .loop .inv .2) (c .loop-test .left)
 
 pub write-row-spec : {M : Type 1} → statement M
 write-row-spec =
@@ -233,18 +227,17 @@ write-row-spec =
     mul-row-2
     add-row-3
     loop-holds
-    opposite-of-requires-2
     renamed-point-requires-2
-    add-z
-    mul-z
-    slice-copy-out-z
-    add-other
-    mul-other
-    slice-copy-out-other
-    distance-of-requires
-    add-t27
-    mul-t28
-    slice-set-from-work
+    add-turned-back
+    turned-back-requires
+    turned-back-requires-2
+    add-first
+    mul-first
+    slice-set-from-first
+    add-second
+    add-second-2
+    mul-second
+    slice-set-from-second
     add-u
     loop-less
     loop-again
