@@ -1,27 +1,40 @@
-/* Writes a list in another form: as text in numbers, or as records. */
+/* Writes a list in another form: as text in numbers, or as records, which the
+ * library writes. */
 #include "list.h"
 
 #include <errno.h>
 #include <string.h>
 
+/* The records, with room for those of the most lines. */
+static uint8_t records[UTVPI_FILE_SIZE(UTVPI_MOST_LINES)];
+
 /* The list's numbers: a pointer to something, even where there are none. */
 const int32_t *numbers_of(const struct list *list)
 {
-    static const int32_t empty[5] = {0, 0, 0, 0, 0};
+    static const int32_t empty[UTVPI_LINE_NUMBERS] = {0};
     return list->count > 0 ? list->numbers : empty;
 }
 
-/* Writes the list as records to a new file. What can't be written whole is taken
- * away again, which harms nobody, as the file was not there before. */
-static int write_new(const struct list *list, const char *to)
+/* Prints the list as text, five numbers to a line. */
+static void print_text(const struct list *list)
+{
+    printf("variables %" PRIu64 "\n", list->variables);
+    for (size_t line = 0; line < list->count; line++) {
+        const int32_t *n = list->numbers + UTVPI_LINE_NUMBERS * line;
+        printf(LINE_FORMAT "\n", n[0], n[1], n[2], n[3], n[4]);
+    }
+}
+
+/* Puts so many bytes of records into a new file. What can't be written whole is
+ * taken away again, which harms nobody, as the file was not there before. */
+static int write_new(const char *to, size_t bytes)
 {
     FILE *file = fopen(to, "wbx");
     if (file == NULL) {
         fprintf(stderr, "utvpi: %s can't be made: %s\n", to, strerror(errno));
         return STATUS_BAD;
     }
-    write_records(file, list);
-    bool written = fflush(file) == 0 && !ferror(file);
+    bool written = fwrite(records, 1, bytes, file) == bytes && fflush(file) == 0;
     int why = errno;
     if (fclose(file) != 0 && written) {
         why = errno;
@@ -35,23 +48,23 @@ static int write_new(const struct list *list, const char *to)
 }
 
 /* Converts the list to records in a file or, without one, to text, unless the
- * library refuses it: so it is asked about a
- * refutation without numbers, for which the list is looked at as for deciding. */
+ * library refuses it: so it is asked for the records in both cases. */
 int convert(const struct list *list, const char *to)
 {
-    int64_t result = utvpi_refutation_end(utvpi_refutation_begin(), list->variables,
-                                          numbers_of(list), 5 * list->count);
-    if (UTVPI_IS_REFUSAL(result)) {
-        print_refusal(list, list->file, result);
+    utvpi_file_written written =
+        utvpi_write_list(list->variables, numbers_of(list), UTVPI_LINE_NUMBERS * list->count,
+                         records, sizeof records);
+    if (written.refusal != 0) {
+        print_refusal(list, list->file, (int)written.refusal, (size_t)written.place);
         return STATUS_BAD;
     }
     if (to == NULL) {
-        write_text(stdout, list);
+        print_text(list);
         return STATUS_YES;
     }
     if (strcmp(to, "-") == 0) {
-        write_records(stdout, list);
+        fwrite(records, 1, (size_t)written.bytes, stdout);
         return STATUS_YES;
     }
-    return write_new(list, to);
+    return write_new(to, (size_t)written.bytes);
 }

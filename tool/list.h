@@ -29,13 +29,14 @@
 #define LINE_FORMAT "%" PRId32 " %" PRId32 " %" PRId32 " %" PRId32 " %" PRId32
 #define MOST_SHOWN_LINE 64
 
-/* The refusals of a list that is given as records. */
+/* The refusals of a list that is given as records, or that is written so. */
 enum record_refusal {
     RECORD_CUT = 20,
     RECORD_UNKNOWN = 21,
     RECORD_LENGTH = 22,
     RECORD_MISPLACED = 23,
-    RECORD_AFTER_END = 24
+    RECORD_AFTER_END = 24,
+    RECORD_NO_ROOM = 25
 };
 
 /* The exit statuses. */
@@ -161,15 +162,13 @@ bool same_point(struct point one, struct point other);
 /* faults.c: where a proposed refutation breaks, and why. */
 struct fault first_fault(const struct list *list, const struct proposal *proposal);
 
-/* records.c: a list as records, and as text in numbers. */
+/* records.c: a list that is given as records. */
 bool is_records(struct text input);
 bool read_records(struct list *list);
 size_t record_of(size_t line);
-void write_records(FILE *to, const struct list *list);
-void write_text(FILE *to, const struct list *list);
 
 /* convert.c: the list's numbers for the library, and the list in another form:
- * records where a file is named, else text. */
+ * records, by the library, where a file is named, else text. */
 const int32_t *numbers_of(const struct list *list);
 int convert(const struct list *list, const char *to);
 
@@ -183,7 +182,7 @@ int64_t bound_together(const struct list *list, const uint32_t *refutation);
 void print_walks(const struct list *list, const uint32_t *refutation);
 void print_no(const struct list *list, const uint32_t *refutation, const char *shown);
 void print_broken(const struct list *list, const struct proposal *proposal, struct fault fault);
-void print_refusal(const struct list *list, const char *file, int64_t result);
+void print_refusal(const struct list *list, const char *file, int number, size_t place);
 void print_fault(const struct list *list, int number, size_t at);
 
 #endif

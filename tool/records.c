@@ -1,6 +1,7 @@
-/* Lists as records: a two-byte length of the body, a two-byte kind, the body, the
- * lowest byte of each number first. One record of kind 1 has the number of
- * variables, each of kind 2 a line, and one of kind 3, without a body, is the end. */
+/* Reading a list that is given as records: a two-byte length of the body, a two-byte
+ * kind, the body, the lowest byte of each number first. One record of kind 1 has the
+ * number of variables, each of kind 2 a line, and one of kind 3, without a body, is
+ * the end. */
 #include "list.h"
 
 #include <string.h>
@@ -132,41 +133,4 @@ bool read_records(struct list *list)
         }
     }
     return true;
-}
-
-static void put(FILE *to, uint32_t number, size_t bytes)
-{
-    for (size_t at = 0; at < bytes; at++) {
-        fputc((int)(number >> (8 * at) & 255), to);
-    }
-}
-
-static void put_header(FILE *to, uint32_t kind)
-{
-    put(to, body_of[kind], 2);
-    put(to, kind, 2);
-}
-
-/* Writes a list that the library has accepted as records. */
-void write_records(FILE *to, const struct list *list)
-{
-    put_header(to, KIND_VARIABLES);
-    put(to, (uint32_t)list->variables, 4);
-    for (size_t line = 0; line < list->count; line++) {
-        put_header(to, KIND_LINE);
-        for (size_t part = 0; part < 5; part++) {
-            put(to, (uint32_t)list->numbers[5 * line + part], 4);
-        }
-    }
-    put_header(to, KIND_END);
-}
-
-/* Writes a list as text, five numbers to a line. */
-void write_text(FILE *to, const struct list *list)
-{
-    fprintf(to, "variables %" PRIu64 "\n", list->variables);
-    for (size_t line = 0; line < list->count; line++) {
-        const int32_t *n = list->numbers + 5 * line;
-        fprintf(to, LINE_FORMAT "\n", n[0], n[1], n[2], n[3], n[4]);
-    }
 }

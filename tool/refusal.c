@@ -39,6 +39,8 @@ static struct words words_of(int number)
         return (struct words){"a buffer for output is too short", fault};
     case UTVPI_SHORT_WORK_AREA:
         return (struct words){"the work area is too short", fault};
+    case RECORD_NO_ROOM:
+        return (struct words){"the buffer for the records is too short", fault};
     default:
         return (struct words){"this number is not known", fault};
     }
@@ -80,7 +82,7 @@ void print_fault(const struct list *list, int number, size_t at)
 }
 
 /* The rule that a refusal is about; line 0 where it is about none. */
-static struct origin offender(const struct list *list, int number, int place)
+static struct origin offender(const struct list *list, int number, size_t place)
 {
     static const struct origin none = {0, {"", 0}};
     if (number == UTVPI_TOO_MANY_VARIABLES) {
@@ -90,16 +92,15 @@ static struct origin offender(const struct list *list, int number, int place)
         return list->origins[UTVPI_MOST_LINES];
     }
     if (number >= UTVPI_BAD_COEFFICIENT && number <= UTVPI_BAD_BOUND &&
-        (size_t)place < list->count) {
+        place < list->count) {
         return list->origins[place];
     }
     return none;
 }
 
 /* Prints a refusal of what stands in this file: the list, or a refutation of it. */
-void print_refusal(const struct list *list, const char *file, int64_t result)
+void print_refusal(const struct list *list, const char *file, int number, size_t place)
 {
-    int number = UTVPI_REFUSAL_NUMBER(result), place = UTVPI_REFUSAL_PLACE(result);
     struct words words = words_of(number);
     struct origin origin = offender(list, number, place);
     fprintf(stderr, "utvpi: %s", file);
@@ -107,7 +108,7 @@ void print_refusal(const struct list *list, const char *file, int64_t result)
         fprintf(stderr, list->records ? ", byte %zu" : ", line %zu",
                 list->records ? record_of(origin.line) : origin.line);
     }
-    fprintf(stderr, ": refused with number %d, place %d: %s.\n", number, place, words.what);
+    fprintf(stderr, ": refused with number %d, place %zu: %s.\n", number, place, words.what);
     if (origin.line > 0) {
         fputs("  The rule: ", stderr);
         show(stderr, origin.rule);

@@ -127,7 +127,8 @@ static int answer(const struct list *list, bool in_numbers)
         refutation, UTVPI_REFUTATION_ROOM(UTVPI_MOST_VARIABLES), work, work_room(list));
     free(work);
     if (UTVPI_IS_REFUSAL(result)) {
-        print_refusal(list, list->file, result);
+        print_refusal(list, list->file, UTVPI_REFUSAL_NUMBER(result),
+                      (size_t)UTVPI_REFUSAL_PLACE(result));
         return STATUS_BAD;
     }
     if (!within_limits(list)) {
@@ -152,8 +153,9 @@ static int answer_check(const struct list *list, const struct proposal *proposal
     int64_t result =
         utvpi_refutation_end(kept, list->variables, numbers_of(list), 5 * list->count);
     if (UTVPI_IS_REFUSAL(result)) {
-        bool long_one = UTVPI_REFUSAL_NUMBER(result) == UTVPI_LONG_REFUTATION;
-        print_refusal(list, long_one ? proposal->file : list->file, result);
+        int number = UTVPI_REFUSAL_NUMBER(result);
+        print_refusal(list, number == UTVPI_LONG_REFUTATION ? proposal->file : list->file, number,
+                      (size_t)UTVPI_REFUSAL_PLACE(result));
         return STATUS_BAD;
     }
     if (!within_limits(list) || proposal->count > UTVPI_MOST_REFUTATION) {
