@@ -7,8 +7,14 @@
 /* The list's numbers: a pointer to something, even where there are none. */
 const int32_t *numbers_of(const struct list *list)
 {
-    static const int32_t empty[5] = {0, 0, 0, 0, 0};
+    static const int32_t empty[UTVPI_LINE_NUMBERS] = {0};
     return list->count > 0 ? list->numbers : empty;
+}
+
+/* How many they are. */
+size_t length_of(const struct list *list)
+{
+    return UTVPI_LINE_NUMBERS * list->count;
 }
 
 /* Writes the list as records to a new file. What can't be written whole is taken
@@ -40,7 +46,7 @@ static int write_new(const struct list *list, const char *to)
 int convert(const struct list *list, const char *to)
 {
     int64_t result = utvpi_refutation_end(utvpi_refutation_begin(), list->variables,
-                                          numbers_of(list), 5 * list->count);
+                                          numbers_of(list), length_of(list));
     if (UTVPI_IS_REFUSAL(result)) {
         print_refusal(list, list->file, result);
         return STATUS_BAD;
