@@ -13,9 +13,6 @@
 #include <inttypes.h>
 #include <stdio.h>
 
-/* The most lines that the lists in this example have. */
-#define MOST 5
-
 /* Writes a number's lowest `bytes` bytes, the lowest first. */
 static void pack(uint8_t *to, uint64_t number, size_t bytes)
 {
@@ -24,13 +21,18 @@ static void pack(uint8_t *to, uint64_t number, size_t bytes)
     }
 }
 
+/* A line as its numbers: those that are not written out are 0. */
+typedef int32_t line[UTVPI_LINE_NUMBERS];
+
 /* Writes a list's lines and returns how many bytes they take. */
-static size_t pack_list(uint8_t *to, const int32_t lines[][5], size_t count)
+static size_t pack_list(uint8_t *to, const line *lines, size_t count)
 {
-    for (size_t at = 0; at < 5 * count; at++) {
-        pack(to + 4 * at, (uint64_t)lines[at / 5][at % 5], 4);
+    for (size_t at = 0; at < count; at++) {
+        for (size_t part = 0; part < UTVPI_LINE_NUMBERS; part++) {
+            pack(to + UTVPI_LINE_BYTES * at + 4 * part, (uint64_t)lines[at][part], 4);
+        }
     }
-    return 20 * count;
+    return UTVPI_LINE_BYTES * count;
 }
 
 /* The first list. Variables: 0 the door opens and 1 the lamp goes on, as read by
@@ -40,7 +42,8 @@ static size_t pack_list(uint8_t *to, const int32_t lines[][5], size_t count)
 #define LAMP 1
 #define BELL 2
 
-static const int32_t merge[5][5] = {
+#define MERGE_LINES 5
+static const line merge[MERGE_LINES] = {
     /* door - lamp <= -5: the door opens 5 ticks before the lamp, or more. */
     {1, DOOR, -1, LAMP, -5},
     /* lamp <= 40: the lamp goes on at tick 40 or earlier. */
@@ -59,7 +62,8 @@ static const int32_t merge[5][5] = {
 #define UP 0
 #define DOWN 1
 
-static const int32_t flash[4][5] = {
+#define FLASH_LINES 4
+static const line flash[FLASH_LINES] = {
     /* up + down <= 101, and -up - down <= -101: together they make 101. */
     {1, UP, 1, DOWN, 101},
     {-1, UP, -1, DOWN, -101},
@@ -154,7 +158,7 @@ static void tell(enum proposal proposal, const char *asked, int64_t result, int6
 static int64_t check_model(const uint8_t *list, size_t length, int64_t door, int64_t lamp,
                            int64_t bell)
 {
-    uint8_t model[24];
+    uint8_t model[8 * 3];
     pack(model, (uint64_t)door, 8);
     pack(model + 8, (uint64_t)lamp, 8);
     pack(model + 16, (uint64_t)bell, 8);
@@ -164,8 +168,8 @@ static int64_t check_model(const uint8_t *list, size_t length, int64_t door, int
 /* Checks the refutation of the second list with the number at one index changed. */
 static int64_t check_changed(size_t index, uint32_t number)
 {
-    uint8_t list[20 * MOST], proposed[4 * NUMBERS];
-    size_t length = pack_list(list, flash, 4);
+    uint8_t list[UTVPI_LINE_BYTES * FLASH_LINES], proposed[4 * NUMBERS];
+    size_t length = pack_list(list, flash, FLASH_LINES);
     for (size_t at = 0; at < NUMBERS; at++) {
         pack(proposed + 4 * at, at == index ? number : refutation[at], 4);
     }
@@ -174,8 +178,8 @@ static int64_t check_changed(size_t index, uint32_t number)
 
 static void check_merges(void)
 {
-    uint8_t list[20 * MOST];
-    size_t length = pack_list(list, merge, 5);
+    uint8_t list[UTVPI_LINE_BYTES * MERGE_LINES];
+    size_t length = pack_list(list, merge, MERGE_LINES);
 
     tell(MODEL, "Do door 30, lamp 35 and bell 64 meet every line of the merge?",
          check_model(list, length, 30, 35, 64), 0,
@@ -212,15 +216,15 @@ static void check_refutations(void)
 
 static void check_damaged_lists(void)
 {
-    uint8_t list[20 * MOST];
-    size_t length = pack_list(list, merge, 5);
+    uint8_t list[UTVPI_LINE_BYTES * MERGE_LINES];
+    size_t length = pack_list(list, merge, MERGE_LINES);
 
     /* Damage: the last byte is missing. */
     tell(MODEL, "Do door 30, lamp 35 and bell 64 meet the merge without its last byte?",
          check_model(list, length - 1, 30, 35, 64), -(UTVPI_BROKEN_LIST_LENGTH * 100000), "");
 
     /* Damage: the second variable of line 4, at byte 12 of the line, becomes 7. */
-    list[20 * 4 + 12] = 7;
+    list[UTVPI_LINE_BYTES * 4 + 12] = 7;
     tell(MODEL, "Do door 30, lamp 35 and bell 64 meet the merge if its line 4 names a variable 7?",
          check_model(list, length, 30, 35, 64), -(UTVPI_BAD_VARIABLE * 100000 + 4), "");
 }

@@ -5,8 +5,8 @@
  * take bytes, the lowest byte of each number first.
  *
  * A LIST has n variables, numbered 0 to n-1, each standing for a whole number,
- * and lines of the form  a*x + b*y <= d.  A line is five signed 32-bit numbers,
- * for the checks each as four bytes:
+ * and lines of the form  a*x + b*y <= d.  A line is UTVPI_LINE_NUMBERS signed
+ * 32-bit numbers, for the checks each as four bytes:
  *
  *     a   the first coefficient: -1, 0 or 1
  *     x   the number of its variable; 0 where a is 0
@@ -14,10 +14,10 @@
  *     y   the number of its variable; 0 where b is 0
  *     d   the bound, from -1,000,000 to 1,000,000
  *
- * So a list of k lines is 5*k numbers, or 20*k bytes. x and y may be the same
- * variable. A line on one variable may use either place. With both coefficients
- * 0 the line says 0 <= d. At most UTVPI_MOST_VARIABLES variables and
- * UTVPI_MOST_LINES lines.
+ * So a list of k lines is UTVPI_LINE_NUMBERS*k numbers, or UTVPI_LINE_BYTES*k
+ * bytes. x and y may be the same variable. A line on one variable may use either
+ * place. With both coefficients 0 the line says 0 <= d. At most
+ * UTVPI_MOST_VARIABLES variables and UTVPI_MOST_LINES lines.
  *
  * A MODEL is one value for each variable, in order, each a signed 64-bit number,
  * for the checks as eight bytes. It is a yes if it meets every line.
@@ -88,8 +88,9 @@ extern "C" {
 #define UTVPI_MOST_LINES 4096
 #define UTVPI_MOST_REFUTATION 65536
 
-/* The numbers of a line. */
+/* The numbers of a line, and its bytes. */
 #define UTVPI_LINE_NUMBERS 5
+#define UTVPI_LINE_BYTES ((size_t)4 * UTVPI_LINE_NUMBERS)
 
 /* The most stack that a call takes, in bytes. utvpi_check_model,
  * utvpi_check_refutation and utvpi_read_list hold the longest list there, however
@@ -98,7 +99,7 @@ extern "C" {
  * them needs this much and what it takes itself. No call takes memory from the
  * heap. */
 #define UTVPI_MOST_STACK \
-    ((size_t)20 * UTVPI_MOST_LINES + (size_t)8 * UTVPI_MOST_VARIABLES + (size_t)4096)
+    (UTVPI_LINE_BYTES * UTVPI_MOST_LINES + (size_t)8 * UTVPI_MOST_VARIABLES + (size_t)4096)
 
 /* The room that deciding a list of n variables needs, in numbers, for n up to
  * UTVPI_MOST_VARIABLES. With a constant n these are constants, fit for the
@@ -240,13 +241,29 @@ int64_t utvpi_refutation_end(utvpi_progress kept, uint64_t n,
 
 /* A FILE for a list is records, each a two-byte length of its body, a two-byte
  * kind and the body, all with the lowest byte first: one of kind 1 and length 4,
- * which is n; then the lines, each of kind 2 and length 20, five signed 32-bit
- * numbers; then one of kind 3 and length 0; then nothing. Each valid list has
- * exactly one file.
- *
- * Reading writes the list's numbers to the front of the buffer: 5 for each line.
- * On a refusal the buffer is left as it was; else what lies beyond the lines is.
- * On a refusal n and lines are 0, else refusal and place are.
+ * which is n; then the lines, each of kind 2 and length UTVPI_LINE_BYTES, its
+ * signed 32-bit numbers; then one of kind 3 and length 0; then nothing. Each valid
+ * list has exactly one file. */
+
+/* The kinds. */
+#define UTVPI_KIND_VARIABLES 1
+#define UTVPI_KIND_LINE 2
+#define UTVPI_KIND_END 3
+
+/* The bytes of a record before its body, and of the body that is n; the bytes
+ * before the first line's record, and of each line's record. */
+#define UTVPI_RECORD_HEAD 4
+#define UTVPI_VARIABLES_BYTES 4
+#define UTVPI_BEFORE_LINES ((size_t)UTVPI_RECORD_HEAD + UTVPI_VARIABLES_BYTES)
+#define UTVPI_LINE_RECORD ((size_t)UTVPI_RECORD_HEAD + UTVPI_LINE_BYTES)
+
+/* The bytes of the file of a list with so many lines. */
+#define UTVPI_FILE_SIZE(lines) \
+    (UTVPI_BEFORE_LINES + UTVPI_LINE_RECORD * (size_t)(lines) + UTVPI_RECORD_HEAD)
+
+/* Reading writes the list's numbers to the front of the buffer: UTVPI_LINE_NUMBERS
+ * for each line. On a refusal the buffer is left as it was; else what lies beyond
+ * the lines is. On a refusal n and lines are 0, else refusal and place are.
  * Besides the refusals of a list below, with their places, which come last:
  *
  *     20   a record is cut: the place is its byte offset
@@ -263,9 +280,6 @@ typedef struct utvpi_file_read {
 
 utvpi_file_read utvpi_read_list(const uint8_t *bytes, size_t bytes_len,
                                 int32_t *numbers, size_t numbers_len);
-
-/* The bytes of the file of a list with so many lines. */
-#define UTVPI_FILE_SIZE(lines) ((size_t)12 + (size_t)24 * (size_t)(lines))
 
 /* Writing writes the file to the front of the buffer. It refuses what the list's
  * own refusals refuse, then 25 at place 0 where the buffer is shorter than the
@@ -302,9 +316,10 @@ enum utvpi_refusal {
     /* n is above UTVPI_MOST_VARIABLES: use fewer variables. */
     UTVPI_TOO_MANY_VARIABLES = 1,
 
-    /* The list's numbers are no multiple of 5, or its bytes no multiple of 20:
-     * look for a cut or added part, for numbers that are not four bytes each, or
-     * for a length in bytes where one in numbers is asked for. */
+    /* The list's numbers are no multiple of UTVPI_LINE_NUMBERS, or its bytes no
+     * multiple of UTVPI_LINE_BYTES: look for a cut or added part, for numbers that
+     * are not four bytes each, or for a length in bytes where one in numbers is
+     * asked for. */
     UTVPI_BROKEN_LIST_LENGTH = 2,
 
     /* The list has more than UTVPI_MOST_LINES lines: leave out lines that add

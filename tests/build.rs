@@ -1,12 +1,23 @@
 //! Tells the linker where the static library is: in the folder named by
-//! UTVPI_LIB_DIR, or else in the repository's target/staticlib. Reads the limits
-//! from the library's header, so that the tests have them from there alone.
+//! UTVPI_LIB_DIR, or else in the repository's target/staticlib. Reads the limits and
+//! lengths from the library's header, so that the tests have them from there alone.
 
 use std::path::{Path, PathBuf};
 use std::{env, fs};
 
-/// The limits that the header defines, by their names without UTVPI_.
-const LIMITS: [&str; 3] = ["MOST_VARIABLES", "MOST_LINES", "MOST_REFUTATION"];
+/// The limits, lengths and kinds that the header defines, by their names without
+/// UTVPI_.
+const LIMITS: [&str; 9] = [
+    "MOST_VARIABLES",
+    "MOST_LINES",
+    "MOST_REFUTATION",
+    "LINE_NUMBERS",
+    "RECORD_HEAD",
+    "VARIABLES_BYTES",
+    "KIND_VARIABLES",
+    "KIND_LINE",
+    "KIND_END",
+];
 
 fn main() {
     let package = PathBuf::from(env::var_os("CARGO_MANIFEST_DIR").unwrap());

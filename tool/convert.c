@@ -15,13 +15,20 @@ const int32_t *numbers_of(const struct list *list)
     return list->count > 0 ? list->numbers : empty;
 }
 
-/* Prints the list as text, five numbers to a line. */
+/* How many they are. */
+size_t length_of(const struct list *list)
+{
+    return UTVPI_LINE_NUMBERS * list->count;
+}
+
+/* Prints the list as text in numbers. */
 static void print_text(const struct list *list)
 {
+    char shown[MOST_SHOWN_LINE];
     printf("variables %" PRIu64 "\n", list->variables);
     for (size_t line = 0; line < list->count; line++) {
-        const int32_t *n = list->numbers + UTVPI_LINE_NUMBERS * line;
-        printf(LINE_FORMAT "\n", n[0], n[1], n[2], n[3], n[4]);
+        show_line(shown, list->numbers + UTVPI_LINE_NUMBERS * line);
+        printf("%s\n", shown);
     }
 }
 
@@ -51,9 +58,8 @@ static int write_new(const char *to, size_t bytes)
  * library refuses it: so it is asked for the records in both cases. */
 int convert(const struct list *list, const char *to)
 {
-    utvpi_file_written written =
-        utvpi_write_list(list->variables, numbers_of(list), UTVPI_LINE_NUMBERS * list->count,
-                         records, sizeof records);
+    utvpi_file_written written = utvpi_write_list(list->variables, numbers_of(list),
+                                                  length_of(list), records, sizeof records);
     if (written.refusal != 0) {
         print_refusal(list, list->file, (int)written.refusal, (size_t)written.place);
         return STATUS_BAD;

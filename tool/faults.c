@@ -25,7 +25,7 @@ static enum reason false_reason(const int32_t *line, uint32_t number)
     if (line[0] != 0 || line[2] != 0) {
         return HAS_EVENTS;
     }
-    if (line[4] >= 0) {
+    if (line[BOUND] >= 0) {
         return IS_TRUE;
     }
     return number % 2 == 1 ? IS_ODD : NO_FAULT;

@@ -25,9 +25,13 @@
  * library's limit, and a line has fewer names than characters. */
 #define MOST_NAMES (UTVPI_MOST_VARIABLES + MOST_RULE)
 
-/* A line as five numbers, and the most characters that it has, with its end. */
-#define LINE_FORMAT "%" PRId32 " %" PRId32 " %" PRId32 " %" PRId32 " %" PRId32
-#define MOST_SHOWN_LINE 64
+/* Where a line's bound stands: after its two terms, each a coefficient and a
+ * variable. */
+#define BOUND 4
+
+/* The most characters of a line as text: each number has eleven at most, and after
+ * it a blank or the end. */
+#define MOST_SHOWN_LINE (12 * UTVPI_LINE_NUMBERS)
 
 /* The refusals of a list that is given as records, or that is written so. */
 enum record_refusal {
@@ -61,7 +65,7 @@ struct list {
     const char *file;
     struct text input;
 
-    /* Five numbers and one origin for each line of the list. */
+    /* The numbers and one origin for each line of the list. */
     int32_t *numbers;
     struct origin *origins;
     size_t count;
@@ -141,7 +145,7 @@ bool next_line(const char *file, struct text *rest, struct origin *origin);
 /* read.c: a file's lines. The list's input and file are set before. */
 bool read_list(struct list *list);
 bool settle_form(struct list *list, struct origin origin, enum form form);
-bool add_line(struct list *list, struct origin origin, const int32_t line[5]);
+bool add_line(struct list *list, struct origin origin, const int32_t line[UTVPI_LINE_NUMBERS]);
 
 /* numbers.c and words.c: one rule, in the one form and the other. */
 bool scan_magnitude(struct text *rest, int64_t *value);
@@ -170,6 +174,8 @@ size_t record_of(size_t line);
 /* convert.c: the list's numbers for the library, and the list in another form:
  * records, by the library, where a file is named, else text. */
 const int32_t *numbers_of(const struct list *list);
+size_t length_of(const struct list *list);
+size_t show_line(char shown[MOST_SHOWN_LINE], const int32_t line[UTVPI_LINE_NUMBERS]);
 int convert(const struct list *list, const char *to);
 
 /* yes.c, no.c, broken.c and refusal.c: the answers in words. */

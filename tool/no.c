@@ -50,13 +50,13 @@ static void print_term(const struct list *list, int64_t factor, uint64_t variabl
 static void print_line(const struct list *list, const int32_t *line, int count)
 {
     bool first = true;
-    for (int at = 0; at < 4; at += 2) {
+    for (int at = 0; at < BOUND; at += 2) {
         if (line[at] != 0) {
             print_term(list, (int64_t)count * line[at], (uint64_t)line[at + 1], first);
             first = false;
         }
     }
-    printf("%s <= %" PRId64 "\n", first ? "0" : "", (int64_t)count * line[4]);
+    printf("%s <= %" PRId64 "\n", first ? "0" : "", (int64_t)count * line[BOUND]);
 }
 
 /* Prints a sum; with halved, half of each factor and of the bound, rounded down. */
@@ -98,7 +98,7 @@ static struct sum print_walk(const struct list *list, const uint32_t *steps, uin
         print_step(list, steps[at], layout);
         sum.factors[line[1]] += times(line) * line[0];
         sum.factors[line[3]] += times(line) * line[2];
-        sum.bound += (int64_t)times(line) * line[4];
+        sum.bound += (int64_t)times(line) * line[BOUND];
     }
     fputs("  Added up: ", stdout);
     print_sum(list, &sum, false);
@@ -158,7 +158,7 @@ int64_t bound_together(const struct list *list, const uint32_t *refutation)
     int64_t sums[2] = {0, 0};
     for (uint32_t at = 0; at < refutation[1] + refutation[2]; at++) {
         const int32_t *line = line_of(list, refutation[3 + (size_t)at]);
-        sums[at < refutation[1] ? 0 : 1] += (int64_t)times(line) * line[4];
+        sums[at < refutation[1] ? 0 : 1] += (int64_t)times(line) * line[BOUND];
     }
     return refutation[0] == 1 ? sums[0] : half(sums[0]) + half(sums[1]);
 }

@@ -1,9 +1,9 @@
-/* Rules as five numbers, a x b y d, and the line "variables N". */
+/* Rules in numbers, a x b y d, and the line "variables N". */
 #include "list.h"
 
 #include <string.h>
 
-static const char five_advice[] =
+static const char numbers_advice[] =
     "write five whole numbers a x b y d, such as 1 0 -1 1 5, or a rule in words, such as"
     " door - lamp <= -5";
 
@@ -45,7 +45,7 @@ static bool scan_number(const struct list *list, struct origin origin, struct te
     int64_t value;
     bool negative = part.length > 0 && part.at[0] == '-';
     if (part.length == 0) {
-        return wrong(list, origin, part, "a number is missing beside a comma", five_advice);
+        return wrong(list, origin, part, "a number is missing beside a comma", numbers_advice);
     }
     if (negative || part.at[0] == '+') {
         digits.at++;
@@ -53,7 +53,7 @@ static bool scan_number(const struct list *list, struct origin origin, struct te
     }
     if (!scan_magnitude(&digits, &value) || digits.length > 0) {
         return wrong(list, origin, part, "is no whole number, and the line has no <=, >= or =",
-                     five_advice);
+                     numbers_advice);
     }
     value = negative ? -value : value;
     if (value < INT32_MIN || value > INT32_MAX) {
@@ -94,7 +94,7 @@ bool read_numbers(struct list *list, struct origin origin)
 {
     static const struct text nothing = {"", 0};
     struct text rest = origin.rule;
-    int32_t line[5];
+    int32_t line[UTVPI_LINE_NUMBERS];
     size_t count = 0;
     bool more = true;
     while (more) {
@@ -102,17 +102,17 @@ bool read_numbers(struct list *list, struct origin origin)
         if (!scan_number(list, origin, &rest, &number)) {
             return false;
         }
-        if (count < 5) {
+        if (count < UTVPI_LINE_NUMBERS) {
             line[count] = number;
         }
         count++;
         more = skip_separator(&rest) || rest.length > 0;
     }
-    if (count != 5) {
+    if (count != UTVPI_LINE_NUMBERS) {
         return wrong(list, origin, nothing,
-                     count < 5 ? "this line has fewer than five numbers"
-                               : "this line has more than five numbers",
-                     five_advice);
+                     count < UTVPI_LINE_NUMBERS ? "this line has fewer than five numbers"
+                                                : "this line has more than five numbers",
+                     numbers_advice);
     }
     if (!settle_form(list, origin, FORM_NUMBERS)) {
         return false;

@@ -26,11 +26,11 @@ bool settle_form(struct list *list, struct origin origin, enum form form)
 }
 
 /* Adds a line to the list. */
-bool add_line(struct list *list, struct origin origin, const int32_t line[5])
+bool add_line(struct list *list, struct origin origin, const int32_t line[UTVPI_LINE_NUMBERS])
 {
     if (list->count == list->room) {
         size_t longer = list->room == 0 ? 64 : 2 * list->room;
-        int32_t *numbers = realloc(list->numbers, longer * 5 * sizeof *numbers);
+        int32_t *numbers = realloc(list->numbers, longer * UTVPI_LINE_NUMBERS * sizeof *numbers);
         if (numbers != NULL) {
             list->numbers = numbers;
         }
@@ -44,7 +44,7 @@ bool add_line(struct list *list, struct origin origin, const int32_t line[5])
         }
         list->room = longer;
     }
-    memcpy(list->numbers + 5 * list->count, line, 5 * sizeof *line);
+    memcpy(list->numbers + length_of(list), line, UTVPI_LINE_NUMBERS * sizeof *line);
     list->origins[list->count] = origin;
     list->count++;
     return true;

@@ -6,16 +6,12 @@
 
 #include <string.h>
 
-#define HEADER 4
-#define KIND_VARIABLES 1
-#define KIND_LINE 2
-#define KIND_END 3
-
-/* The length of the body for each kind, and of the records that a good file has
- * before the first line and for each line. */
-static const uint32_t body_of[] = {0, 4, 20, 0};
-#define BEFORE_LINES (HEADER + 4)
-#define LINE (HEADER + 20)
+/* The length of the body for each kind. */
+static const uint32_t body_of[] = {
+    [UTVPI_KIND_VARIABLES] = UTVPI_VARIABLES_BYTES,
+    [UTVPI_KIND_LINE] = UTVPI_LINE_BYTES,
+    [UTVPI_KIND_END] = 0,
+};
 
 /* A refusal with its place, a byte offset; number 0 where nothing is wrong. */
 struct damage {
@@ -42,8 +38,9 @@ static int32_t with_sign(uint32_t bits)
  * but its first byte is still one that no text has. */
 bool is_records(struct text input)
 {
-    static const char first[HEADER] = {4, 0, KIND_VARIABLES, 0};
-    size_t length = input.length < HEADER ? input.length : HEADER;
+    static const char first[UTVPI_RECORD_HEAD] = {UTVPI_VARIABLES_BYTES, 0,
+                                                  UTVPI_KIND_VARIABLES, 0};
+    size_t length = input.length < UTVPI_RECORD_HEAD ? input.length : UTVPI_RECORD_HEAD;
     return length > 0 && memcmp(input.at, first, length) == 0;
 }
 
@@ -53,20 +50,20 @@ bool is_records(struct text input)
 static int fault_of(struct text input, size_t at)
 {
     size_t left = input.length - at;
-    if (left < HEADER) {
+    if (left < UTVPI_RECORD_HEAD) {
         return RECORD_CUT;
     }
     uint32_t length = unpack(input.at + at, 2), kind = unpack(input.at + at + 2, 2);
-    if (kind < KIND_VARIABLES || kind > KIND_END) {
+    if (kind < UTVPI_KIND_VARIABLES || kind > UTVPI_KIND_END) {
         return RECORD_UNKNOWN;
     }
     if (length != body_of[kind]) {
         return RECORD_LENGTH;
     }
-    if (left - HEADER < length) {
+    if (left - UTVPI_RECORD_HEAD < length) {
         return RECORD_CUT;
     }
-    return (kind == KIND_VARIABLES) == (at == 0) ? 0 : RECORD_MISPLACED;
+    return (kind == UTVPI_KIND_VARIABLES) == (at == 0) ? 0 : RECORD_MISPLACED;
 }
 
 /* Looks at all records, however many: what is wrong with the last of them comes
@@ -75,13 +72,13 @@ static struct damage first_damage(struct text input)
 {
     struct damage fault = {0, 0};
     uint32_t kind = 0;
-    while (kind != KIND_END) {
+    while (kind != UTVPI_KIND_END) {
         fault.number = fault_of(input, fault.at);
         if (fault.number != 0) {
             return fault;
         }
         kind = unpack(input.at + fault.at + 2, 2);
-        fault.at += HEADER + body_of[kind];
+        fault.at += UTVPI_RECORD_HEAD + body_of[kind];
     }
     fault.number = fault.at < input.length ? RECORD_AFTER_END : 0;
     return fault;
@@ -90,7 +87,7 @@ static struct damage first_damage(struct text input)
 /* Where the record is that --text prints as this line, counted from 1. */
 size_t record_of(size_t line)
 {
-    return line <= 1 ? 0 : BEFORE_LINES + (line - 2) * LINE;
+    return line <= 1 ? 0 : UTVPI_BEFORE_LINES + (line - 2) * UTVPI_LINE_RECORD;
 }
 
 static void read_count(struct list *list)
@@ -98,21 +95,33 @@ static void read_count(struct list *list)
     char *shown = list->shown[0];
     list->form = FORM_NUMBERS;
     list->declared = true;
-    list->variables = unpack(list->input.at + HEADER, 4);
+    list->variables = unpack(list->input.at + UTVPI_RECORD_HEAD, UTVPI_VARIABLES_BYTES);
     int length = snprintf(shown, MOST_SHOWN_LINE, "variables %" PRIu64, list->variables);
     list->variables_from = (struct origin){1, {shown, (size_t)length}};
+}
+
+/* Writes a line as text, its numbers with a blank between them, and says how many
+ * characters that takes. */
+size_t show_line(char shown[MOST_SHOWN_LINE], const int32_t line[UTVPI_LINE_NUMBERS])
+{
+    size_t length = 0;
+    for (size_t part = 0; part < UTVPI_LINE_NUMBERS; part++) {
+        length += (size_t)snprintf(shown + length, MOST_SHOWN_LINE - length,
+                                   part > 0 ? " %" PRId32 : "%" PRId32, line[part]);
+    }
+    return length;
 }
 
 /* Adds the line in the record at an offset, and makes the text that it has none of. */
 static bool read_line(struct list *list, size_t at)
 {
     char *shown = list->shown[1 + list->count];
-    int32_t n[5];
-    for (size_t part = 0; part < 5; part++) {
-        n[part] = with_sign(unpack(list->input.at + at + HEADER + 4 * part, 4));
+    int32_t line[UTVPI_LINE_NUMBERS];
+    for (size_t part = 0; part < UTVPI_LINE_NUMBERS; part++) {
+        line[part] = with_sign(unpack(list->input.at + at + UTVPI_RECORD_HEAD + 4 * part, 4));
     }
-    int length = snprintf(shown, MOST_SHOWN_LINE, LINE_FORMAT, n[0], n[1], n[2], n[3], n[4]);
-    return add_line(list, (struct origin){2 + list->count, {shown, (size_t)length}}, n);
+    size_t length = show_line(shown, line);
+    return add_line(list, (struct origin){2 + list->count, {shown, length}}, line);
 }
 
 /* Reads the input, which is records. Of too many lines one is enough to be
@@ -125,9 +134,10 @@ bool read_records(struct list *list)
         print_fault(list, fault.number, fault.at);
         return false;
     }
-    size_t end = fault.at - HEADER;
+    size_t end = fault.at - UTVPI_RECORD_HEAD;
     read_count(list);
-    for (size_t at = BEFORE_LINES; at < end && list->count <= UTVPI_MOST_LINES; at += LINE) {
+    for (size_t at = UTVPI_BEFORE_LINES; at < end && list->count <= UTVPI_MOST_LINES;
+         at += UTVPI_LINE_RECORD) {
         if (!read_line(list, at)) {
             return false;
         }

@@ -50,6 +50,7 @@ static struct words words_of(int number)
 static struct words words_of_fault(int number)
 {
     static const char again[] = "look for a damaged part, or get the file again";
+    static char length[128];
     switch (number) {
     case RECORD_CUT:
         return (struct words){"the file ends before this record does, or before the record of"
@@ -59,9 +60,12 @@ static struct words words_of_fault(int number)
         return (struct words){"this record's kind, its third and fourth byte, is not 1, 2 or 3",
                               again};
     case RECORD_LENGTH:
-        return (struct words){"this record's length, its first two bytes, is not 4 for kind 1, 20"
-                              " for kind 2 or 0 for kind 3",
-                              again};
+        snprintf(length, sizeof length,
+                 "this record's length, its first two bytes, is not %d for kind %d, %zu for kind"
+                 " %d or 0 for kind %d",
+                 UTVPI_VARIABLES_BYTES, UTVPI_KIND_VARIABLES, UTVPI_LINE_BYTES, UTVPI_KIND_LINE,
+                 UTVPI_KIND_END);
+        return (struct words){length, again};
     case RECORD_MISPLACED:
         return (struct words){"this record is out of place: kind 1, the number of variables,"
                               " stands first and only there",

@@ -4,7 +4,7 @@
 /* The line of a step. */
 const int32_t *line_of(const struct list *list, uint32_t step)
 {
-    return list->numbers + 5 * (size_t)(step / 2);
+    return list->numbers + UTVPI_LINE_NUMBERS * (size_t)(step / 2);
 }
 
 /* The point with the other sign. */

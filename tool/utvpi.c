@@ -15,7 +15,7 @@ static uint32_t groups[UTVPI_GROUPS_ROOM(UTVPI_MOST_VARIABLES)];
 static uint32_t refutation[UTVPI_REFUTATION_ROOM(UTVPI_MOST_VARIABLES)];
 
 /* The list, the model and the refutation as the checkers take them. */
-static uint8_t list_bytes[20 * UTVPI_MOST_LINES];
+static uint8_t list_bytes[UTVPI_LINE_BYTES * UTVPI_MOST_LINES];
 static uint8_t model_bytes[8 * UTVPI_MOST_VARIABLES];
 static uint8_t refutation_bytes[4 * UTVPI_REFUTATION_ROOM(UTVPI_MOST_VARIABLES)];
 
@@ -29,10 +29,10 @@ static void pack(uint8_t *to, uint64_t number, size_t bytes)
 
 static size_t pack_list(const struct list *list)
 {
-    for (size_t at = 0; at < 5 * list->count; at++) {
+    for (size_t at = 0; at < length_of(list); at++) {
         pack(list_bytes + 4 * at, (uint64_t)list->numbers[at], 4);
     }
-    return 20 * list->count;
+    return UTVPI_LINE_BYTES * list->count;
 }
 
 static int disagree(const char *what)
@@ -120,7 +120,7 @@ static int answer(const struct list *list, bool in_numbers)
         return short_of_memory(list);
     }
     int64_t result = utvpi_decide(
-        list->variables, numbers_of(list), 5 * list->count,
+        list->variables, numbers_of(list), length_of(list),
         model, UTVPI_MODEL_ROOM(UTVPI_MOST_VARIABLES),
         bounds, UTVPI_BOUNDS_ROOM(UTVPI_MOST_VARIABLES),
         groups, UTVPI_GROUPS_ROOM(UTVPI_MOST_VARIABLES),
@@ -147,11 +147,11 @@ static int answer_check(const struct list *list, const struct proposal *proposal
 {
     utvpi_progress kept = utvpi_refutation_begin();
     for (size_t at = 0; at < proposal->count; at++) {
-        kept = utvpi_refutation_take(kept, numbers_of(list), 5 * list->count,
+        kept = utvpi_refutation_take(kept, numbers_of(list), length_of(list),
                                      proposal->numbers[at]);
     }
     int64_t result =
-        utvpi_refutation_end(kept, list->variables, numbers_of(list), 5 * list->count);
+        utvpi_refutation_end(kept, list->variables, numbers_of(list), length_of(list));
     if (UTVPI_IS_REFUSAL(result)) {
         int number = UTVPI_REFUSAL_NUMBER(result);
         print_refusal(list, number == UTVPI_LONG_REFUTATION ? proposal->file : list->file, number,

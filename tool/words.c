@@ -208,7 +208,7 @@ static bool reduce(struct parser *p)
 static bool add_turned(const struct parser *p, int sign)
 {
     int64_t d = sign * p->constant;
-    int32_t line[5] = {0, 0, 0, 0, 0};
+    int32_t line[UTVPI_LINE_NUMBERS] = {0};
     if (d < INT32_MIN || d > INT32_MAX) {
         return wrong(p->list, p->origin, nothing, "the bound is too large for 32 bits",
                      "choose a coarser unit; a bound is from -1,000,000 to 1,000,000");
@@ -217,7 +217,7 @@ static bool add_turned(const struct parser *p, int sign)
         line[2 * at] = sign * p->terms[at].sign;
         line[2 * at + 1] = (int32_t)p->terms[at].variable;
     }
-    line[4] = (int32_t)d;
+    line[BOUND] = (int32_t)d;
     return add_line(p->list, p->origin, line);
 }
 

@@ -4,10 +4,11 @@
 
 use std::thread;
 
-use utvpi_tests::bytes::{self, Line};
+use utvpi_tests::bytes;
 use utvpi_tests::chance::Chance;
 use utvpi_tests::decision::{decide, Decision, Reason, Solved, Verdict};
 use utvpi_tests::limits::{LARGEST_BOUND, MOST_LINES, SMALL_VARIABLES};
+use utvpi_tests::lines::{line, Line};
 use utvpi_tests::make_lists::{small, Shape};
 use utvpi_tests::second::{self, Answer};
 use utvpi_tests::{brute, closure};
@@ -102,7 +103,7 @@ fn all_lists_of_two_lines() {
         let mut all: Vec<Line> = Vec::new();
         for one in &terms {
             for two in &terms {
-                all.extend((-2..=2).map(|d| [one[0], one[1], two[0], two[1], d]));
+                all.extend((-2..=2).map(|d| line(one[0], one[1], two[0], two[1], d)));
             }
         }
         for first in &all {

@@ -6,12 +6,12 @@
 use std::thread;
 
 use utvpi_tests::buffers::{needed, Buffers};
-use utvpi_tests::bytes::Line;
 use utvpi_tests::chance::Chance;
 use utvpi_tests::closure;
 use utvpi_tests::damage::{damaged_list, refused_lists};
 use utvpi_tests::decision::{decide, decide_in, Decision, Verdict};
-use utvpi_tests::limits::{MOST_N, SMALL_VARIABLES};
+use utvpi_tests::limits::{LINE_NUMBERS, MOST_N, SMALL_VARIABLES};
+use utvpi_tests::lines::{zero, Line};
 use utvpi_tests::make_lists::{small, Shape};
 
 /// Some lists for these tests: most tiny, few larger.
@@ -34,7 +34,7 @@ fn some_list(chance: &mut Chance) -> (u64, Vec<Line>) {
 #[test]
 fn which_buffer_is_short() {
     let mut chance = Chance::new(70);
-    let lists: [&[i32]; 3] = [&[], &[0, 0, 0, 0, -1], &[0, 0, 0, 0, 1]];
+    let lists: [&[i32]; 3] = [&[], &zero(-1), &zero(1)];
     for n in [0, 1, 2, 5, MOST_N] {
         for short in 0..32 {
             let cut = |at: usize| usize::from(short >> at & 1 == 1);
@@ -107,7 +107,10 @@ fn damaged_lists() {
             Verdict::Refused(number, _) => refused[number as usize] += 1,
             verdict => {
                 decided += 1;
-                let lines: Vec<Line> = list.chunks(5).map(|l| l.try_into().unwrap()).collect();
+                let lines: Vec<Line> = list
+                    .chunks(LINE_NUMBERS)
+                    .map(|l| l.try_into().unwrap())
+                    .collect();
                 assert_eq!(
                     closure::verdict(n as usize, &lines),
                     verdict,

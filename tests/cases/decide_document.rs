@@ -2,12 +2,12 @@
 //! bounds, groups and the refutation's kind; and the limits.
 
 use utvpi_tests::buffers::{needed, Buffers};
-use utvpi_tests::bytes::Line;
 use utvpi_tests::chance::Chance;
 use utvpi_tests::decision::{decide, decide_in, Decision, Reason, Solved, Verdict};
 use utvpi_tests::document::{largest, CASE_4};
 use utvpi_tests::limits::SMALL_VARIABLES;
 use utvpi_tests::limits::{LARGEST_BOUND, LAST_VARIABLE, MOST_LINES, MOST_N, MOST_VARIABLES};
+use utvpi_tests::lines::{line, lone, zero, Line, BOUND, X, Y};
 use utvpi_tests::{brute, closure};
 
 /// The numbers that stand for no least and no greatest value.
@@ -72,16 +72,11 @@ fn case_2_nothing_asked() {
 
 #[test]
 fn case_3_a_false_line() {
-    let refutation = no(0, &[[0, 0, 0, 0, -1]], Reason::FalseLine(0));
+    let refutation = no(0, &[zero(-1)], Reason::FalseLine(0));
     assert_eq!(refutation, [3, 1, 0, 0]);
-    yes(0, &[[0, 0, 0, 0, 0]], &[], &[], &[]);
+    yes(0, &[zero(0)], &[], &[], &[]);
     // The lowest of several, and before every walk.
-    let lines = [
-        [1, 0, -1, 0, -1],
-        [0, 0, 0, 0, 0],
-        [0, 0, 0, 0, -3],
-        [0, 0, 0, 0, -9],
-    ];
+    let lines = [line(1, 0, -1, 0, -1), zero(0), zero(-3), zero(-9)];
     assert_eq!(no(1, &lines, Reason::FalseLine(2)), [3, 1, 0, 4]);
 }
 
@@ -100,41 +95,45 @@ fn case_5_case_4_without_its_last_line() {
 #[test]
 fn case_6_equal_without_a_cycle_of_sum_0() {
     let lines = [
-        [1, 0, 1, 0, 1],
-        [-1, 0, -1, 0, 1],
-        [1, 1, 1, 1, 1],
-        [-1, 1, -1, 1, 1],
+        line(1, 0, 1, 0, 1),
+        line(-1, 0, -1, 0, 1),
+        line(1, 1, 1, 1, 1),
+        line(-1, 1, -1, 1, 1),
     ];
     yes(2, &lines, &[0, 0], &[0; 4], &[0, 0]);
 }
 
 #[test]
 fn case_7_a_variable_below_itself() {
-    let refutation = no(1, &[[1, 0, -1, 0, -1]], Reason::ClosedWalk);
+    let refutation = no(1, &[line(1, 0, -1, 0, -1)], Reason::ClosedWalk);
     assert_eq!(refutation[0], 1);
-    yes(1, &[[1, 0, -1, 0, 0]], &[0], &[NO_LEAST, NO_GREATEST], &[0]);
+    yes(
+        1,
+        &[line(1, 0, -1, 0, 0)],
+        &[0],
+        &[NO_LEAST, NO_GREATEST],
+        &[0],
+    );
 }
 
 #[test]
 fn case_8_one_variable_between_two_bounds() {
-    no(1, &[[1, 0, 0, 0, 3], [-1, 0, 0, 0, -4]], Reason::ClosedWalk);
-    yes(
-        1,
-        &[[1, 0, 0, 0, 3], [-1, 0, 0, 0, -3]],
-        &[3],
-        &[3, 3],
-        &[0],
-    );
+    no(1, &[lone(1, 0, 3), lone(-1, 0, -4)], Reason::ClosedWalk);
+    yes(1, &[lone(1, 0, 3), lone(-1, 0, -3)], &[3], &[3, 3], &[0]);
     // The same lines with the variable in the other place.
-    no(1, &[[0, 0, 1, 0, 3], [0, 0, -1, 0, -4]], Reason::ClosedWalk);
+    no(
+        1,
+        &[line(0, 0, 1, 0, 3), line(0, 0, -1, 0, -4)],
+        Reason::ClosedWalk,
+    );
 }
 
 #[test]
 fn cases_9_and_10_halving_and_equal_variables() {
-    yes(1, &[[-1, 0, -1, 0, -7]], &[4], &[4, NO_GREATEST], &[0]);
+    yes(1, &[line(-1, 0, -1, 0, -7)], &[4], &[4, NO_GREATEST], &[0]);
     // Halving down on the other side of zero, too.
-    yes(1, &[[1, 0, 1, 0, -7]], &[-4], &[NO_LEAST, -4], &[0]);
-    let equal = [[1, 0, -1, 1, 0], [-1, 0, 1, 1, 0]];
+    yes(1, &[line(1, 0, 1, 0, -7)], &[-4], &[NO_LEAST, -4], &[0]);
+    let equal = [line(1, 0, -1, 1, 0), line(-1, 0, 1, 1, 0)];
     let bounds = [NO_LEAST, NO_GREATEST, NO_LEAST, NO_GREATEST];
     yes(2, &equal, &[0, 0], &bounds, &[0, 0]);
 }
@@ -158,11 +157,13 @@ fn case_11_the_limits() {
     let mut longer = lines.clone();
     longer.push(lines[0]);
     assert_eq!(refused(MOST_N, &longer.concat()), Verdict::Refused(3, 0));
-    assert_eq!(refused(MOST_N, &[1, 0, 1, 0, 5, 1]), Verdict::Refused(2, 0));
+    // One number more than a line.
+    let broken = [&line(1, 0, 1, 0, 5)[..], &[1]].concat();
+    assert_eq!(refused(MOST_N, &broken), Verdict::Refused(2, 0));
     for at in [0, 1, MOST_LINES / 2, MOST_LINES - 1] {
         for bound in [1_000_001, -1_000_001, i32::MAX, i32::MIN] {
             let mut lines = lines.clone();
-            lines[at][4] = bound;
+            lines[at][BOUND] = bound;
             assert_eq!(refused(MOST_N, &lines.concat()), Verdict::Refused(6, at));
         }
     }
@@ -173,8 +174,8 @@ fn case_11_the_limits() {
 #[test]
 fn case_11_the_largest_sums() {
     let most = LARGEST_BOUND as i32;
-    let mut lines = vec![[-1, 0, 0, 0, -most]];
-    lines.extend((1..=LAST_VARIABLE).map(|x| [1, x - 1, -1, x, -most]));
+    let mut lines = vec![lone(-1, 0, -most)];
+    lines.extend((1..=LAST_VARIABLE).map(|x| line(1, x - 1, -1, x, -most)));
     let model: Vec<i64> = (1..=MOST_N as i64).map(|x| LARGEST_BOUND * x).collect();
     let due = Verdict::Yes(Solved {
         bounds: model
@@ -187,7 +188,7 @@ fn case_11_the_largest_sums() {
     lines.reverse();
     assert_eq!(decided(MOST_N, &lines).verdict, due);
     // The last one at most 1,000,000 above the first.
-    lines.push([1, LAST_VARIABLE, -1, 0, most]);
+    lines.push(line(1, LAST_VARIABLE, -1, 0, most));
     let verdict = decided(MOST_N, &lines).verdict;
     assert_eq!(verdict, Verdict::No(Reason::ClosedWalk));
 }
@@ -208,9 +209,9 @@ fn orders(n: i32, lines: &[Line]) -> Vec<Vec<Line>> {
 /// walk that says so of the last one passes all points, as does the closed walk if
 /// the last one is to be below n.
 fn longest_walks(n: i32) {
-    let mut lines = vec![[-1, 0, 0, 0, -1]];
-    lines.extend((1..n).map(|x| [1, x - 1, -1, x, -1]));
-    lines.push([1, n - 1, 0, 0, n]);
+    let mut lines = vec![lone(-1, 0, -1)];
+    lines.extend((1..n).map(|x| line(1, x - 1, -1, x, -1)));
+    lines.push(lone(1, n - 1, n));
     let model: Vec<i64> = (1..=i64::from(n)).collect();
     let due = Verdict::Yes(Solved {
         bounds: model.iter().flat_map(|&value| [value, value]).collect(),
@@ -220,7 +221,7 @@ fn longest_walks(n: i32) {
     for lines in orders(n, &lines) {
         assert_eq!(decided(n as u64, &lines).verdict, due);
     }
-    lines[n as usize][4] = n - 1;
+    lines[n as usize][BOUND] = n - 1;
     for lines in orders(n, &lines) {
         let decision = decided(n as u64, &lines);
         assert_eq!(decision.verdict, Verdict::No(Reason::ClosedWalk));
@@ -239,9 +240,9 @@ fn the_longest_walks() {
 /// half: from the first one's points there and back it is 4n - 2 steps.
 fn longest_halved_walks(n: i32) {
     let last = n - 1;
-    let mut lines = vec![[1, last, 1, last, 7], [-1, last, -1, last, -6]];
+    let mut lines = vec![line(1, last, 1, last, 7), line(-1, last, -1, last, -6)];
     for x in 1..n {
-        lines.extend([[1, x - 1, -1, x, 0], [-1, x - 1, 1, x, 0]]);
+        lines.extend([line(1, x - 1, -1, x, 0), line(-1, x - 1, 1, x, 0)]);
     }
     let due = Verdict::Yes(Solved {
         model: vec![3; n as usize],
@@ -251,7 +252,7 @@ fn longest_halved_walks(n: i32) {
     for lines in orders(n, &lines) {
         assert_eq!(decided(n as u64, &lines).verdict, due);
     }
-    lines[1][4] = -7;
+    lines[1][BOUND] = -7;
     for lines in orders(n, &lines) {
         let verdict = decided(n as u64, &lines).verdict;
         assert_eq!(verdict, Verdict::No(Reason::HalvedWalks));
@@ -266,8 +267,8 @@ fn the_longest_halved_walks() {
 
 #[test]
 fn case_12_which_refusal() {
-    for at in [1, 3] {
-        let mut line = [1, 0, 1, 0, 5];
+    for at in [X, Y] {
+        let mut line = line(1, 0, 1, 0, 5);
         // The document's n, and the most.
         for n in [64, MOST_VARIABLES] {
             line[at] = n as i32;
@@ -279,6 +280,6 @@ fn case_12_which_refusal() {
         line[at] = 99;
         assert_eq!(refused(64, &line), Verdict::Refused(4, 0));
     }
-    let two = [[1, 0, 1, 0, 1_000_001], [2, 0, 1, 0, 0]];
+    let two = [line(1, 0, 1, 0, 1_000_001), line(2, 0, 1, 0, 0)];
     assert_eq!(refused(64, &two.concat()), Verdict::Refused(6, 0));
 }

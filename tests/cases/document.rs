@@ -1,8 +1,9 @@
 //! The cases that the description of the library names, and its table of steps.
 
-use utvpi_tests::bytes::{self, Line};
+use utvpi_tests::bytes;
 use utvpi_tests::document::{largest, CASE_4};
-use utvpi_tests::limits::{MOST_LINES, MOST_N, MOST_NUMBERS, MOST_VARIABLES};
+use utvpi_tests::limits::{LINE_BYTES, LINE_NUMBERS, MOST_LINES, MOST_N, MOST_VARIABLES};
+use utvpi_tests::lines::{line, lone, zero, Line, BOUND};
 use utvpi_tests::second::Answer::{self, No, Refused, Yes};
 
 fn model(n: u64, lines: &[Line], values: &[i64]) -> Answer {
@@ -24,10 +25,10 @@ fn cases_1_and_2_nothing_asked() {
 
 #[test]
 fn case_3_a_false_line() {
-    assert_eq!(refutation(0, &[[0, 0, 0, 0, -1]], &[3, 1, 0, 0]), Yes);
-    assert_eq!(model(0, &[[0, 0, 0, 0, -1]], &[]), No(0));
-    assert_eq!(refutation(0, &[[0, 0, 0, 0, 0]], &[3, 1, 0, 0]), No(3));
-    assert_eq!(model(0, &[[0, 0, 0, 0, 0]], &[]), Yes);
+    assert_eq!(refutation(0, &[zero(-1)], &[3, 1, 0, 0]), Yes);
+    assert_eq!(model(0, &[zero(-1)], &[]), No(0));
+    assert_eq!(refutation(0, &[zero(0)], &[3, 1, 0, 0]), No(3));
+    assert_eq!(model(0, &[zero(0)], &[]), Yes);
 }
 
 #[test]
@@ -38,7 +39,7 @@ fn case_4_only_halves_would_solve_it() {
     // The variant without the last line, and one with its bound raised.
     assert_eq!(refutation(3, &CASE_4[..3], &[2, 2, 2, 0, 3, 4, 7]), No(6));
     let mut raised = CASE_4;
-    raised[3][4] = 4;
+    raised[3][BOUND] = 4;
     assert_eq!(refutation(3, &raised, &[2, 2, 2, 0, 3, 4, 7]), No(6));
     assert_eq!(model(3, &raised, &[0, -1, 4]), Yes);
 }
@@ -55,10 +56,10 @@ fn case_5_case_4_without_its_last_line() {
 #[test]
 fn case_6_equal_without_a_cycle_of_sum_0() {
     let lines = [
-        [1, 0, 1, 0, 1],
-        [-1, 0, -1, 0, 1],
-        [1, 1, 1, 1, 1],
-        [-1, 1, -1, 1, 1],
+        line(1, 0, 1, 0, 1),
+        line(-1, 0, -1, 0, 1),
+        line(1, 1, 1, 1, 1),
+        line(-1, 1, -1, 1, 1),
     ];
     assert_eq!(model(2, &lines, &[0, 0]), Yes);
     assert_eq!(model(2, &lines, &[1, 1]), No(0));
@@ -69,17 +70,17 @@ fn case_6_equal_without_a_cycle_of_sum_0() {
 
 #[test]
 fn case_7_a_variable_below_itself() {
-    assert_eq!(refutation(1, &[[1, 0, -1, 0, -1]], &[1, 1, 0, 0]), Yes);
-    assert_eq!(refutation(1, &[[1, 0, -1, 0, -1]], &[1, 1, 0, 1]), Yes);
-    assert_eq!(refutation(1, &[[1, 0, -1, 0, 0]], &[1, 1, 0, 0]), No(3));
-    assert_eq!(model(1, &[[1, 0, -1, 0, 0]], &[5]), Yes);
-    assert_eq!(model(1, &[[1, 0, -1, 0, -1]], &[5]), No(0));
+    assert_eq!(refutation(1, &[line(1, 0, -1, 0, -1)], &[1, 1, 0, 0]), Yes);
+    assert_eq!(refutation(1, &[line(1, 0, -1, 0, -1)], &[1, 1, 0, 1]), Yes);
+    assert_eq!(refutation(1, &[line(1, 0, -1, 0, 0)], &[1, 1, 0, 0]), No(3));
+    assert_eq!(model(1, &[line(1, 0, -1, 0, 0)], &[5]), Yes);
+    assert_eq!(model(1, &[line(1, 0, -1, 0, -1)], &[5]), No(0));
 }
 
 #[test]
 fn case_8_one_variable_between_two_bounds() {
-    let no = [[1, 0, 0, 0, 3], [-1, 0, 0, 0, -4]];
-    let yes = [[1, 0, 0, 0, 3], [-1, 0, 0, 0, -3]];
+    let no = [lone(1, 0, 3), lone(-1, 0, -4)];
+    let yes = [lone(1, 0, 3), lone(-1, 0, -3)];
     assert_eq!(refutation(1, &no, &[1, 2, 0, 0, 2]), Yes);
     assert_eq!(refutation(1, &no, &[2, 1, 1, 0, 2]), Yes);
     assert_eq!(refutation(1, &yes, &[1, 2, 0, 0, 2]), No(4));
@@ -88,15 +89,15 @@ fn case_8_one_variable_between_two_bounds() {
     assert_eq!(model(1, &yes, &[4]), No(0));
     assert_eq!(model(1, &yes, &[2]), No(1));
     // The same lines with the variable in the other place.
-    let other = [[0, 0, 1, 0, 3], [0, 0, -1, 0, -4]];
+    let other = [line(0, 0, 1, 0, 3), line(0, 0, -1, 0, -4)];
     assert_eq!(refutation(1, &other, &[1, 2, 0, 2, 0]), Yes);
 }
 
 #[test]
 fn cases_9_and_10_models() {
-    assert_eq!(model(1, &[[-1, 0, -1, 0, -7]], &[4]), Yes);
-    assert_eq!(model(1, &[[-1, 0, -1, 0, -7]], &[3]), No(0));
-    let equal = [[1, 0, -1, 1, 0], [-1, 0, 1, 1, 0]];
+    assert_eq!(model(1, &[line(-1, 0, -1, 0, -7)], &[4]), Yes);
+    assert_eq!(model(1, &[line(-1, 0, -1, 0, -7)], &[3]), No(0));
+    let equal = [line(1, 0, -1, 1, 0), line(-1, 0, 1, 1, 0)];
     assert_eq!(model(2, &equal, &[0, 0]), Yes);
     assert_eq!(model(2, &equal, &[1, 0]), No(0));
     assert_eq!(model(2, &equal, &[0, 1]), No(1));
@@ -110,7 +111,7 @@ fn case_11_the_largest_list() {
     assert_eq!(refutation(MOST_N, &lines, &[1, 1, 0, 0]), No(3));
     let mut refuted = lines.clone();
     let last = MOST_LINES - 1;
-    refuted[last] = [0, 0, 0, 0, -1_000_000];
+    refuted[last] = zero(-1_000_000);
     let step = 2 * last as u32;
     assert_eq!(refutation(MOST_N, &refuted, &[3, 1, 0, step]), Yes);
     assert_eq!(
@@ -134,12 +135,12 @@ fn refused(n: u64, list: &[u8]) -> Answer {
 fn case_11_just_too_much() {
     let lines = largest();
     assert_eq!(refused(MOST_N + 1, &bytes::list(&lines)), Refused(1, 0));
-    let longer = [&lines[..], &[[0, 0, 0, 0, 0]]].concat();
+    let longer = [&lines[..], &[zero(0)]].concat();
     assert_eq!(refused(MOST_N, &bytes::list(&longer)), Refused(3, 0));
     for line in [0, 1, 255, 256, MOST_LINES - 1] {
         for d in [-1_000_001, 1_000_001, i32::MIN, i32::MAX] {
             let mut high = lines.clone();
-            high[line][4] = d;
+            high[line][BOUND] = d;
             assert_eq!(refused(MOST_N, &bytes::list(&high)), Refused(6, line));
         }
     }
@@ -148,14 +149,15 @@ fn case_11_just_too_much() {
 #[test]
 fn case_11_a_broken_length() {
     assert_eq!(
-        refused(1, &bytes::numbers(&[0, 0, 0, 0, 0, 0])),
+        refused(1, &bytes::numbers(&[0; LINE_NUMBERS + 1])),
         Refused(2, 0)
     );
-    for bytes in (0..200).filter(|bytes| bytes % 20 != 0) {
+    for bytes in (0..10 * LINE_BYTES).filter(|bytes| bytes % LINE_BYTES != 0) {
         assert_eq!(refused(1, &vec![0; bytes]), Refused(2, 0), "{bytes} bytes");
     }
-    let most = 4 * MOST_NUMBERS;
-    for bytes in [most - 1, most + 1, most + 19, most + 21, 1_000_001] {
+    let most = LINE_BYTES * MOST_LINES;
+    let longer = most + LINE_BYTES;
+    for bytes in [most - 1, most + 1, longer - 1, longer + 1, 1_000_001] {
         assert_eq!(refused(1, &vec![0; bytes]), Refused(2, 0), "{bytes} bytes");
     }
 }
@@ -171,21 +173,21 @@ fn case_12_variables_and_coefficients() {
             .chain([i32::MIN, -1, -n])
         {
             for line in [
-                [1, variable, 0, 0, 0],
-                [0, 0, 1, variable, 0],
-                [-1, 0, -1, variable, 0],
-                [0, variable, 1, 0, 0],
+                lone(1, variable, 0),
+                line(0, 0, 1, variable, 0),
+                line(-1, 0, -1, variable, 0),
+                line(0, variable, 1, 0, 0),
             ] {
                 assert_eq!(refused(n as u64, &list(&[line])), Refused(5, 0));
             }
         }
     }
     // A coefficient that is no coefficient, and a variable that is none.
-    assert_eq!(refused(64, &list(&[[2, 99, 0, 0, 0]])), Refused(4, 0));
-    assert_eq!(refused(64, &list(&[[1, 99, 2, 0, 0]])), Refused(4, 0));
+    assert_eq!(refused(64, &list(&[lone(2, 99, 0)])), Refused(4, 0));
+    assert_eq!(refused(64, &list(&[line(1, 99, 2, 0, 0)])), Refused(4, 0));
     // A bad bound in line 0 and a bad coefficient in line 1.
     assert_eq!(
-        refused(64, &list(&[[1, 0, 0, 0, 1_000_001], [2, 0, 0, 0, 0]])),
+        refused(64, &list(&[lone(1, 0, 1_000_001), lone(2, 0, 0)])),
         Refused(6, 0)
     );
 }
@@ -227,18 +229,18 @@ const TABLE: [Row; 9] = [
 /// Tries step `number` of line 1 against every pair of points: line 0 leads back
 /// from the second to the first, and closes the walk only if the step is `due`.
 /// The place of a no tells a step that is none from one that leads elsewhere.
-fn try_step(line: Line, number: u32, due: Option<(Point, Point)>, weight: i32) {
+fn try_step(tried: Line, number: u32, due: Option<(Point, Point)>, weight: i32) {
     let points = [X, Y, NOT_X, NOT_Y];
     for (from, to) in points.map(|from| points.map(|to| (from, to))).concat() {
         for sum in [-1, 0] {
-            let back = [to.1, to.0, -from.1, from.0, sum - weight];
+            let back = line(to.1, to.0, -from.1, from.0, sum - weight);
             let expected = match due {
                 None => No(3),
                 Some(step) if step == (from, to) && sum < 0 => Yes,
                 Some(_) => No(4),
             };
-            let answer = refutation(2, &[back, line], &[1, 2, 0, number, 0]);
-            assert_eq!(answer, expected, "{line:?} {number} {from:?} {to:?}");
+            let answer = refutation(2, &[back, tried], &[1, 2, 0, number, 0]);
+            assert_eq!(answer, expected, "{tried:?} {number} {from:?} {to:?}");
         }
     }
 }
@@ -251,7 +253,7 @@ fn the_table_of_steps() {
             let name = |(variable, sign): Point| ([x, y][variable as usize], sign);
             let due = |(from, to): (Point, Point)| (name(from), name(to));
             for d in [-1_000, -3, 0, 7] {
-                let line = [a, a.abs() * x, b, b.abs() * y, d];
+                let line = line(a, a.abs() * x, b, b.abs() * y, d);
                 try_step(line, 2, side_0.map(due), factor * d);
                 try_step(line, 3, side_1.map(due), factor * d);
             }

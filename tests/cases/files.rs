@@ -2,20 +2,37 @@
 //! what is left alone; on lists up to the limits, on files damaged in every small
 //! way, and on files with records in any order.
 
-use utvpi_tests::bytes::Line;
+use std::iter;
+
 use utvpi_tests::chance::Chance;
 use utvpi_tests::damage::{damaged_list, refused_lists};
 use utvpi_tests::files::{read, write};
-use utvpi_tests::limits::{LAST_VARIABLE, MOST_FILE, MOST_LINES, MOST_N};
+use utvpi_tests::limits::{file_size, record_at, LAST_VARIABLE, LINE_BYTES, LINE_NUMBERS};
+use utvpi_tests::limits::{KIND_END, KIND_LINE, KIND_VARIABLES, RECORD_HEAD, VARIABLES_BYTES};
+use utvpi_tests::limits::{MOST_FILE, MOST_LINES, MOST_N, NUMBER_BYTES};
+use utvpi_tests::lines::{line, lone, zero, Line};
 use utvpi_tests::make;
-use utvpi_tests::records::{pack, packed, List, Refusal};
+use utvpi_tests::records::{self, end, pack, packed, variables, List, Refusal};
 
-/// The file of one variable with x <= 5, as the description gives it.
-const AT_MOST_5: [u8; 36] = [
-    0x04, 0x00, 0x01, 0x00, 0x01, 0x00, 0x00, 0x00, 0x14, 0x00, 0x02, 0x00, 0x01, 0x00, 0x00, 0x00,
-    0x00, 0x00, 0x00, 0x00, 0x00, 0x00, 0x00, 0x00, 0x00, 0x00, 0x00, 0x00, 0x05, 0x00, 0x00, 0x00,
-    0x00, 0x00, 0x03, 0x00,
-];
+/// The file of one variable with x <= 5, byte by byte, as the description gives it.
+fn at_most_5() -> Vec<u8> {
+    // What a line has beyond a, x, b, y and d is 0.
+    let mut line = vec![
+        0x01, 0x00, 0x00, 0x00, 0x00, 0x00, 0x00, 0x00, 0x00, 0x00, 0x00, 0x00, 0x00, 0x00, 0x00,
+        0x00, 0x05, 0x00, 0x00, 0x00,
+    ];
+    line.resize(LINE_BYTES, 0x00);
+    let records: [&[u8]; 4] = [
+        &[0x04, 0x00, 0x01, 0x00, 0x01, 0x00, 0x00, 0x00],
+        &[LINE_BYTES as u8, 0x00, 0x02, 0x00],
+        &line,
+        &[0x00, 0x00, 0x03, 0x00],
+    ];
+    records.concat()
+}
+
+/// The largest number that two bytes hold, for lengths and kinds.
+const MOST_OF_TWO_BYTES: usize = u16::MAX as usize;
 
 /// How often each refusal was seen, by number; 0 for none.
 #[derive(Default)]
@@ -62,23 +79,28 @@ fn the_file_of_the_description() {
     let mut chance = Chance::new(90);
     let list = List {
         n: 1,
-        numbers: vec![1, 0, 0, 0, 5],
+        numbers: lone(1, 0, 5).to_vec(),
     };
+    let file = at_most_5();
+    assert_eq!(file.len(), file_size(1));
     for more in 0..8 {
-        assert_eq!(read(&mut chance, &AT_MOST_5, 5 + more), Ok(list.clone()));
-        let written = write(&mut chance, 1, &list.numbers, 36 + more);
-        assert_eq!(written, Ok(AT_MOST_5.to_vec()));
+        let whole = read(&mut chance, &file, LINE_NUMBERS + more);
+        assert_eq!(whole, Ok(list.clone()));
+        let written = write(&mut chance, 1, &list.numbers, file.len() + more);
+        assert_eq!(written, Ok(file.clone()));
     }
-    for room in 0..5 {
-        assert_eq!(read(&mut chance, &AT_MOST_5, room), Err((25, 8)));
+    for room in 0..LINE_NUMBERS {
+        let short = read(&mut chance, &file, room);
+        assert_eq!(short, Err((25, record_at(0) as u64)));
     }
-    for room in 0..36 {
+    for room in 0..file.len() {
         let written = write(&mut chance, 1, &list.numbers, room);
         assert_eq!(written, Err((25, 0)));
     }
-    for length in 0..36 {
-        let last = [0, 8, 32].into_iter().rfind(|&at| at <= length).unwrap();
-        let cut = read(&mut chance, &AT_MOST_5[..length], 5);
+    for length in 0..file.len() {
+        let records = [0, record_at(0), record_at(1)];
+        let last = records.into_iter().rfind(|&at| at <= length).unwrap();
+        let cut = read(&mut chance, &file[..length], LINE_NUMBERS);
         assert_eq!(cut, Err((20, last as u64)));
     }
 }
@@ -88,95 +110,118 @@ fn the_file_of_the_description() {
 #[test]
 fn refusals_by_hand() {
     let mut chance = Chance::new(91);
-    let n = |n: u32| packed(4, 1, &n.to_le_bytes());
+    let n = variables;
     let too_large = MOST_N as u32 + 1;
-    let line = |line: Line| pack(0, &line)[1].clone();
-    let good = || line([1, 0, -1, 1, 7]);
-    let end = || packed(0, 3, &[]);
+    let record = |line: Line| records::line(&line);
+    let good = || record(line(1, 0, -1, 1, 7));
+    let bad = || record([9; LINE_NUMBERS]);
+    // A record of this length and kind, whose body is as long and of this byte.
+    let filled = |length, kind, byte| packed(length, kind, &vec![byte; length]);
+    // A line whose last byte is missing.
+    let cut = |byte| packed(LINE_BYTES, KIND_LINE, &[byte; LINE_BYTES - 1]);
+    let [first, second, fourth] = [0, 1, 3].map(|line| record_at(line) as u64);
+    let [after_none, after_one] = [0, 1].map(|lines| file_size(lines) as u64);
     let files: Vec<(Vec<Vec<u8>>, Refusal)> = vec![
         // The first record.
         (vec![], (20, 0)),
         (vec![vec![4, 0, 1]], (20, 0)),
-        (vec![packed(4, 1, &[2, 0, 0])], (20, 0)),
-        (vec![packed(4, 0, &[])], (21, 0)),
-        (vec![packed(4, 4, &[0; 4])], (21, 0)),
-        (vec![packed(4, 0x0101, &[0; 4])], (21, 0)),
-        (vec![packed(20, 1, &[])], (22, 0)),
-        (vec![packed(0x0104, 1, &[0; 4])], (22, 0)),
-        (vec![packed(4, 2, &[])], (22, 0)),
-        (vec![packed(4, 3, &[])], (22, 0)),
-        (vec![packed(20, 2, &[0; 19])], (20, 0)),
+        (
+            vec![packed(VARIABLES_BYTES, KIND_VARIABLES, &[2, 0, 0])],
+            (20, 0),
+        ),
+        (vec![packed(VARIABLES_BYTES, 0, &[])], (21, 0)),
+        (vec![filled(VARIABLES_BYTES, 4, 0)], (21, 0)),
+        (vec![filled(VARIABLES_BYTES, 0x0101, 0)], (21, 0)),
+        (vec![packed(LINE_BYTES, KIND_VARIABLES, &[])], (22, 0)),
+        (
+            vec![packed(0x0100 + VARIABLES_BYTES, KIND_VARIABLES, &[0; 4])],
+            (22, 0),
+        ),
+        (vec![packed(VARIABLES_BYTES, KIND_LINE, &[])], (22, 0)),
+        (vec![packed(VARIABLES_BYTES, KIND_END, &[])], (22, 0)),
+        (vec![cut(0)], (20, 0)),
         (vec![good(), n(2), end()], (23, 0)),
         (vec![end()], (23, 0)),
         (vec![end(), n(2)], (23, 0)),
         // The others.
-        (vec![n(2)], (20, 8)),
-        (vec![n(2), good()], (20, 32)),
-        (vec![n(2), good(), vec![0, 0, 3]], (20, 32)),
-        (vec![n(2), packed(20, 2, &[2; 19])], (20, 8)),
-        (vec![n(2), good(), packed(20, 5, &[2; 20])], (21, 32)),
-        (vec![n(2), good(), packed(21, 2, &[2; 21])], (22, 32)),
-        (vec![n(2), good(), packed(1, 3, &[0])], (22, 32)),
-        (vec![n(2), n(2), end()], (23, 8)),
-        (vec![n(2), good(), n(3), end()], (23, 32)),
-        (vec![n(2), packed(4, 1, &[9, 9, 9])], (20, 8)),
+        (vec![n(2)], (20, first)),
+        (vec![n(2), good()], (20, second)),
+        (vec![n(2), good(), vec![0, 0, 3]], (20, second)),
+        (vec![n(2), cut(2)], (20, first)),
+        (vec![n(2), good(), filled(LINE_BYTES, 5, 2)], (21, second)),
+        (
+            vec![n(2), good(), filled(LINE_BYTES + 1, KIND_LINE, 2)],
+            (22, second),
+        ),
+        (vec![n(2), good(), filled(1, KIND_END, 0)], (22, second)),
+        (vec![n(2), n(2), end()], (23, first)),
+        (vec![n(2), good(), n(3), end()], (23, second)),
+        (
+            vec![n(2), packed(VARIABLES_BYTES, KIND_VARIABLES, &[9, 9, 9])],
+            (20, first),
+        ),
         // The fourth line has no room, whatever stands behind it.
-        (vec![n(2), good(), good(), good(), good(), end()], (25, 80)),
-        (vec![n(2), good(), good(), good(), good(), n(2)], (25, 80)),
         (
-            vec![n(too_large), good(), good(), good(), line([9; 5])],
-            (25, 80),
+            vec![n(2), good(), good(), good(), good(), end()],
+            (25, fourth),
         ),
-        (vec![n(2), good(), good(), good(), vec![20]], (20, 80)),
-        (vec![n(2), good(), good(), good(), n(2)], (23, 80)),
+        (
+            vec![n(2), good(), good(), good(), good(), n(2)],
+            (25, fourth),
+        ),
+        (
+            vec![n(too_large), good(), good(), good(), bad()],
+            (25, fourth),
+        ),
+        (
+            vec![n(2), good(), good(), good(), vec![LINE_BYTES as u8]],
+            (20, fourth),
+        ),
+        (vec![n(2), good(), good(), good(), n(2)], (23, fourth)),
         // A line's own faults come after those of all records.
-        (vec![n(2), line([9; 5]), vec![0]], (20, 32)),
-        (
-            vec![n(too_large), line([9; 5]), packed(0, 4, &[])],
-            (21, 32),
-        ),
+        (vec![n(2), bad(), vec![0]], (20, second)),
+        (vec![n(too_large), bad(), packed(0, 4, &[])], (21, second)),
         // After the end.
-        (vec![n(2), end(), vec![0]], (24, 12)),
-        (vec![n(too_large), line([9; 5]), end(), end()], (24, 36)),
-        (vec![n(2), good(), end(), good(), good()], (24, 36)),
+        (vec![n(2), end(), vec![0]], (24, after_none)),
+        (vec![n(too_large), bad(), end(), end()], (24, after_one)),
+        (vec![n(2), good(), end(), good(), good()], (24, after_one)),
         // The list's own, where all else is right.
-        (vec![n(too_large), line([9; 5]), end()], (1, 0)),
+        (vec![n(too_large), bad(), end()], (1, 0)),
         (vec![n(1 << 31), end()], (1, 0)),
         (vec![n(1 << 16), end()], (1, 0)),
         (vec![n(u32::MAX), end()], (1, 0)),
         (
-            vec![n(2), good(), line([2, 9, 0, 0, 1 << 30]), end()],
+            vec![n(2), good(), record(lone(2, 9, 1 << 30)), end()],
             (4, 1),
         ),
         (
-            vec![n(2), good(), line([1, 2, 0, 0, 1 << 30]), end()],
+            vec![n(2), good(), record(lone(1, 2, 1 << 30)), end()],
             (5, 1),
         ),
-        (
-            vec![n(2), line([0, 0, 0, 0, 1_000_001]), line([9; 5]), end()],
-            (6, 0),
-        ),
+        (vec![n(2), record(zero(1_000_001)), bad(), end()], (6, 0)),
     ];
     for (records, due) in files {
-        let answer = read(&mut chance, &records.concat(), 19);
+        // Room for three lines and all but one number of a fourth.
+        let answer = read(&mut chance, &records.concat(), 4 * LINE_NUMBERS - 1);
         assert_eq!(answer, Err(due), "{records:?}");
     }
     // A line that is out of place and has no room is out of place.
-    assert_eq!(read(&mut chance, &AT_MOST_5[8..], 0), Err((23, 0)));
+    let headless = &at_most_5()[record_at(0)..];
+    assert_eq!(read(&mut chance, headless, 0), Err((23, 0)));
     // Lines beyond the limit: no room for one, or room for all.
     for count in [MOST_LINES, MOST_LINES + 1, 6 * MOST_LINES] {
-        let lines = [1, 0, -1, 1, 7].repeat(count);
+        let lines = line(1, 0, -1, 1, 7).repeat(count);
         let file = pack(2, &lines).concat();
-        let many = read(&mut chance, &file, 5 * count).err();
+        let many = read(&mut chance, &file, lines.len()).err();
         assert_eq!(many, (count > MOST_LINES).then_some((3, 0)));
-        let last = file.len() as u64 - 28;
-        let short = read(&mut chance, &file, 5 * count - 1);
+        let last = record_at(count - 1) as u64;
+        let short = read(&mut chance, &file, lines.len() - 1);
         assert_eq!(short, Err((25, last)));
-        let cut = read(&mut chance, &file[..file.len() - 5], 5 * count);
+        let cut = read(&mut chance, &file[..record_at(count) - 1], lines.len());
         assert_eq!(cut, Err((20, last)));
-        let longer = read(&mut chance, &[&file[..], &[0]].concat(), 5 * count);
+        let longer = read(&mut chance, &[&file[..], &[0]].concat(), lines.len());
         assert_eq!(longer, Err((24, file.len() as u64)));
-        let too_many = read(&mut chance, &pack(too_large, &lines).concat(), 5 * count);
+        let too_many = read(&mut chance, &pack(too_large, &lines).concat(), lines.len());
         assert_eq!(too_many, Err((1, 0)));
     }
 }
@@ -189,28 +234,30 @@ fn written_and_read_back() {
     let mut largest = 0;
     for _ in 0..20_000 {
         let (n, numbers) = some_list(&mut chance);
-        let lines = numbers.len() / 5;
+        let lines = numbers.len() / LINE_NUMBERS;
         largest += usize::from(n == MOST_N && lines == MOST_LINES);
-        let size = 12 + 24 * lines;
+        let size = file_size(lines);
         let file = write(&mut chance, n, &numbers, size).unwrap();
         assert_eq!(file.len(), size);
         let list = List { n, numbers };
-        assert_eq!(read(&mut chance, &file, 5 * lines).as_ref(), Ok(&list));
+        let room = list.numbers.len();
+        assert_eq!(read(&mut chance, &file, room).as_ref(), Ok(&list));
         // More room, of any length; what lies beyond is checked in the call.
         let more = 1 + chance.below(30);
         let longer = write(&mut chance, n, &list.numbers, size + more);
         assert_eq!(longer.as_ref(), Ok(&file));
-        let longer = read(&mut chance, &file, 5 * lines + more);
+        let longer = read(&mut chance, &file, room + more);
         assert_eq!(longer.as_ref(), Ok(&list));
         // One less, or many less.
-        for room in [size - 1, chance.below(size)] {
-            let short = write(&mut chance, n, &list.numbers, room);
+        for shorter in [size - 1, chance.below(size)] {
+            let short = write(&mut chance, n, &list.numbers, shorter);
             assert_eq!(short, Err((25, 0)));
         }
         if lines > 0 {
-            for room in [5 * lines - 1, chance.below(5 * lines)] {
-                let short = read(&mut chance, &file, room);
-                assert_eq!(short, Err((25, 8 + 24 * (room as u64 / 5))));
+            for shorter in [room - 1, chance.below(room)] {
+                let short = read(&mut chance, &file, shorter);
+                let first_out = record_at(shorter / LINE_NUMBERS);
+                assert_eq!(short, Err((25, first_out as u64)));
             }
         }
     }
@@ -227,21 +274,30 @@ fn every_small_damage() {
     let lists: [(u32, &[Line]); 8] = [
         (0, &[]),
         (MOST_N as u32, &[]),
-        (1, &[[1, 0, 0, 0, 5]]),
-        (0, &[[0, 0, 0, 0, -1_000_000]]),
-        (MOST_N as u32, &[[-1, LAST_VARIABLE, 1, 0, 1_000_000]]),
-        (2, &[[1, 0, -1, 1, 0], [0, 0, -1, 1, -3]]),
-        (2, &[[1, 0, 0, 0, 300], [1, 1, 1, 1, -1]]),
+        (1, &[lone(1, 0, 5)]),
+        (0, &[zero(-1_000_000)]),
+        (MOST_N as u32, &[line(-1, LAST_VARIABLE, 1, 0, 1_000_000)]),
+        (2, &[line(1, 0, -1, 1, 0), line(0, 0, -1, 1, -3)]),
+        (2, &[lone(1, 0, 300), line(1, 1, 1, 1, -1)]),
         (
             3,
-            &[[1, 0, 1, 1, 4], [-1, 2, 0, 0, 2], [-1, 1, -1, 2, 70_000]],
+            &[
+                line(1, 0, 1, 1, 4),
+                lone(-1, 2, 2),
+                line(-1, 1, -1, 2, 70_000),
+            ],
         ),
     ];
     for (n, lines) in lists {
         let file = pack(n, &lines.concat()).concat();
-        let room = 5 * lines.len();
+        let room = LINE_NUMBERS * lines.len();
         let mut judge = |file: &[u8]| {
-            for room in [room, room + 6, room.saturating_sub(1), 4] {
+            for room in [
+                room,
+                room + LINE_NUMBERS + 1,
+                room.saturating_sub(1),
+                LINE_NUMBERS - 1,
+            ] {
                 times.count(read(&mut chance, file, room));
             }
         };
@@ -257,11 +313,11 @@ fn every_small_damage() {
             }
         }
         // Every header that is nearly right, in the place of each.
-        for record in 0..lines.len() + 2 {
-            let at = [0, 8, 32, 56, 80][record];
-            for (length, kind) in (0..=25).flat_map(|l| (0..=5).map(move |k| (l, k))) {
+        for at in iter::once(0).chain((0..=lines.len()).map(record_at)) {
+            let lengths = 0..=LINE_BYTES + 5;
+            for (length, kind) in lengths.flat_map(|l| (0..=5).map(move |k| (l, k))) {
                 let header = packed(length, kind, &[]);
-                judge(&[&file[..at], &header, &file[at + 4..]].concat());
+                judge(&[&file[..at], &header, &file[at + RECORD_HEAD..]].concat());
             }
         }
         for at in 0..=file.len() {
@@ -278,15 +334,14 @@ fn every_small_damage() {
 fn records_in_every_order() {
     let mut chance = Chance::new(96);
     let mut times = Times::default();
-    let line = |line: Line| pack(0, &line).swap_remove(1);
     let records = [
-        packed(4, 1, &[1, 0, 0, 0]),
-        packed(4, 1, &(MOST_N as u32 + 1).to_le_bytes()),
-        line([1, 0, 0, 0, 5]),
-        line([1, 0, 0, 1, 5]),
-        packed(0, 3, &[]),
+        variables(1),
+        variables(MOST_N as u32 + 1),
+        records::line(&lone(1, 0, 5)),
+        records::line(&line(1, 0, 0, 1, 5)),
+        end(),
         packed(0, 4, &[]),
-        packed(0, 2, &[]),
+        packed(0, KIND_LINE, &[]),
         vec![0],
     ];
     let mut rows: Vec<Vec<u8>> = vec![vec![]];
@@ -301,7 +356,7 @@ fn records_in_every_order() {
         }
     }
     for file in rows {
-        for room in [0, 5, 14, 20] {
+        for room in [0, LINE_NUMBERS, 3 * LINE_NUMBERS - 1, 4 * LINE_NUMBERS] {
             times.count(read(&mut chance, &file, room));
         }
     }
@@ -311,29 +366,42 @@ fn records_in_every_order() {
 /// A record of any kind and length, mostly ones that go together; the body is at
 /// times cut. Where all is right, the line is valid at times.
 fn some_record(chance: &mut Chance) -> Vec<u8> {
+    // The body of a line and one number more.
+    let longest = LINE_BYTES + NUMBER_BYTES;
     let kind = match chance.below(16) {
-        0 => chance.pick(&[0, 4, 256, 257, 512, u16::MAX]),
-        1 => 1,
-        2 => 3,
-        _ => 2,
+        0 => chance.pick(&[0, 4, 256, 257, 512, MOST_OF_TWO_BYTES]),
+        1 => KIND_VARIABLES,
+        2 => KIND_END,
+        _ => KIND_LINE,
     };
     let length = match kind {
-        _ if chance.one_in(8) => chance.pick(&[0, 4, 5, 19, 20, 21, 24, 260, 276, u16::MAX]),
-        1 => 4,
-        2 => 20,
+        _ if chance.one_in(8) => chance.pick(&[
+            0,
+            VARIABLES_BYTES,
+            VARIABLES_BYTES + 1,
+            LINE_BYTES - 1,
+            LINE_BYTES,
+            LINE_BYTES + 1,
+            longest,
+            256 + VARIABLES_BYTES,
+            256 + LINE_BYTES,
+            MOST_OF_TWO_BYTES,
+        ]),
+        KIND_VARIABLES => VARIABLES_BYTES,
+        KIND_LINE => LINE_BYTES,
         _ => 0,
     };
-    let body = match chance.below(3) {
-        0 => pack(0, &make::line(chance, 3)).concat()[12..].to_vec(),
-        1 => [[1, 0, 0, 0]; 6].concat(),
-        _ => (0..24).map(|_| chance.next() as u8 & 3).collect(),
+    let body: Vec<u8> = match chance.below(3) {
+        0 => [records::line(&make::some_line(chance, 3)), end()].concat()[RECORD_HEAD..].to_vec(),
+        1 => [1, 0, 0, 0].repeat(LINE_NUMBERS + 1),
+        _ => (0..longest).map(|_| chance.next() as u8 & 3).collect(),
     };
     let cut = if chance.one_in(12) {
         chance.below(4)
     } else {
         0
     };
-    let size = usize::from(length).min(24).saturating_sub(cut);
+    let size = length.min(longest).saturating_sub(cut);
     packed(length, kind, &body[..size])
 }
 
@@ -365,9 +433,9 @@ fn damage_records(chance: &mut Chance, records: &mut Vec<Vec<u8>>) {
 
 /// Room for so many lines, or a few numbers more or less.
 fn some_room(chance: &mut Chance, lines: usize) -> usize {
-    let room = 5 * lines;
+    let room = LINE_NUMBERS * lines;
     match chance.below(8) {
-        0 => room.saturating_sub(chance.between(1, 6) as usize),
+        0 => room.saturating_sub(1 + chance.below(LINE_NUMBERS + 1)),
         1 => chance.below(room + 1),
         2 => room,
         _ => room + chance.below(40),
@@ -385,22 +453,21 @@ fn files_damaged_at_random() {
         if chance.one_in(3) {
             (n, numbers) = damaged_list(&mut chance, n, &numbers);
             // A file has whole lines, and four bytes for n.
-            numbers.truncate(numbers.len() / 5 * 5);
+            numbers.truncate(numbers.len() / LINE_NUMBERS * LINE_NUMBERS);
         }
         let mut records = pack(n as u32, &numbers);
         while chance.one_in(2) {
             damage_records(&mut chance, &mut records);
         }
-        let room = some_room(&mut chance, numbers.len() / 5);
+        let room = some_room(&mut chance, numbers.len() / LINE_NUMBERS);
         times.count(read(&mut chance, &records.concat(), room));
     }
     for _ in 0..100_000 {
         let count = chance.below(6);
-        let first = pack(chance.below(4) as u32, &[]).swap_remove(0);
-        let mut records = vec![first];
+        let mut records = vec![variables(chance.below(4) as u32)];
         records.extend((0..count).map(|_| some_record(&mut chance)));
         if chance.one_in(2) {
-            records.push(packed(0, 3, &[]));
+            records.push(end());
         }
         if chance.one_in(8) {
             damage_records(&mut chance, &mut records);
@@ -417,7 +484,13 @@ fn files_damaged_at_random() {
 fn damaged_lists_written() {
     let mut chance = Chance::new(95);
     for (n, list, (number, place)) in refused_lists() {
-        for room in [0, 11, 12, 60, 2 * MOST_FILE] {
+        for room in [
+            0,
+            file_size(0) - 1,
+            file_size(0),
+            file_size(2),
+            2 * MOST_FILE,
+        ] {
             let refused = write(&mut chance, n, &list, room);
             assert_eq!(refused, Err((number.into(), place as u64)), "{list:?}");
         }
@@ -426,7 +499,7 @@ fn damaged_lists_written() {
     for _ in 0..60_000 {
         let (n, numbers) = some_list(&mut chance);
         let (n, numbers) = damaged_list(&mut chance, n, &numbers);
-        let size = 12 + 24 * (numbers.len() / 5);
+        let size = file_size(numbers.len() / LINE_NUMBERS);
         let room = match chance.below(4) {
             0 => chance.below(size),
             1 => size,

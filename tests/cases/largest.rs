@@ -5,7 +5,7 @@
 use std::thread;
 
 use utvpi_tests::buffers::{needed, Buffers};
-use utvpi_tests::bytes::{self, Line};
+use utvpi_tests::bytes;
 use utvpi_tests::chance::Chance;
 use utvpi_tests::closure;
 use utvpi_tests::decision::{decide, Decision, Reason, Solved, Verdict};
@@ -14,6 +14,7 @@ use utvpi_tests::files::{read, write};
 use utvpi_tests::library;
 use utvpi_tests::limits::{LARGEST_BOUND, LAST_VARIABLE, MOST_FILE, MOST_LINES};
 use utvpi_tests::limits::{MOST_N, MOST_NUMBERS, MOST_STACK, MOST_VARIABLES};
+use utvpi_tests::lines::{line, lone, zero, Line};
 use utvpi_tests::make_lists::Shape;
 use utvpi_tests::records::List;
 
@@ -59,7 +60,7 @@ fn filled(chance: &mut Chance, mut lines: Vec<Line>) -> Vec<Line> {
         let mut term = || [chance.pick(&[-1, 1]), chance.below(MOST_VARIABLES) as i32];
         let [[a, x], [b, y]] = [term(), term()];
         let bound = chance.between(LARGEST_BOUND / 2, LARGEST_BOUND) as i32;
-        lines.push([a, x, b, y, bound]);
+        lines.push(line(a, x, b, y, bound));
     }
     let order = chance.order(lines.len());
     order.iter().map(|&at| lines[at]).collect()
@@ -68,11 +69,11 @@ fn filled(chance: &mut Chance, mut lines: Vec<Line>) -> Vec<Line> {
 /// A chain through all variables, by the clocks: the first is at least 1, each is
 /// at least one above the one before it, and the last is at most this.
 fn chain(chance: &mut Chance, most: i32) -> Vec<Line> {
-    let mut lines = vec![[-direction(0), 0, 0, 0, -1]];
+    let mut lines = vec![lone(-direction(0), 0, -1)];
     for x in 1..=LAST_VARIABLE {
-        lines.push([direction(x - 1), x - 1, -direction(x), x, -1]);
+        lines.push(line(direction(x - 1), x - 1, -direction(x), x, -1));
     }
-    lines.push([0, 0, direction(LAST_VARIABLE), LAST_VARIABLE, most]);
+    lines.push(line(0, 0, direction(LAST_VARIABLE), LAST_VARIABLE, most));
     filled(chance, lines)
 }
 
@@ -103,7 +104,10 @@ fn a_chain_that_does_not() {
 #[test]
 fn a_clash_of_two() {
     let mut chance = Chance::new(115);
-    let lines = filled(&mut chance, vec![[1, 0, -1, 1, -1], [1, 1, -1, 0, 0]]);
+    let lines = filled(
+        &mut chance,
+        vec![line(1, 0, -1, 1, -1), line(1, 1, -1, 0, 0)],
+    );
     let decision = decided(&mut chance, &lines);
     assert_eq!(decision.verdict, Verdict::No(Reason::ClosedWalk));
     assert_eq!(decision.refutation[1], 2);
@@ -114,11 +118,11 @@ fn a_clash_of_two() {
 fn only_halves_would_do() {
     let mut chance = Chance::new(112);
     let last = LAST_VARIABLE;
-    let mut lines = vec![[1, last, 1, last, 7], [-1, last, -1, last, -7]];
+    let mut lines = vec![line(1, last, 1, last, 7), line(-1, last, -1, last, -7)];
     for x in 1..=last {
         let (a, b) = (direction(x - 1), direction(x));
-        lines.push([a, x - 1, -b, x, 0]);
-        lines.push([-a, x - 1, b, x, 0]);
+        lines.push(line(a, x - 1, -b, x, 0));
+        lines.push(line(-a, x - 1, b, x, 0));
     }
     let lines = filled(&mut chance, lines);
     let verdict = decided(&mut chance, &lines).verdict;
@@ -137,14 +141,14 @@ fn random_lists() {
             largest: LARGEST_BOUND,
         };
         let mut lines = shape.met(&mut chance, 1);
-        lines.push([0; 5]);
+        lines.push(zero(0));
         let Verdict::Yes(solved) = decided(&mut chance, &lines).verdict else {
             panic!("values meet the list, but it is a no");
         };
         let near = |x: &usize| solved.bounds[2 * x + 1].abs() < LARGEST_BOUND;
         let x = (0..MOST_VARIABLES).find(near).unwrap();
         let greatest = solved.bounds[2 * x + 1] as i32;
-        lines[MOST_LINES - 1] = [0, 0, -1, x as i32, -greatest - 1];
+        lines[MOST_LINES - 1] = line(0, 0, -1, x as i32, -greatest - 1);
         let verdict = decided(&mut chance, &lines).verdict;
         assert!(matches!(verdict, Verdict::No(_)), "{verdict:?}");
     }

@@ -4,12 +4,14 @@
 
 use std::mem::size_of;
 
-use utvpi_tests::bytes::{self, Line};
+use utvpi_tests::bytes;
 use utvpi_tests::chance::Chance;
 use utvpi_tests::damage::{self, Input};
 use utvpi_tests::document::CASE_4;
 use utvpi_tests::library::{self, Progress};
+use utvpi_tests::limits::NUMBER_BYTES;
 use utvpi_tests::limits::{LARGEST_BOUND, MOST_LINES, MOST_REFUTATION, MOST_VARIABLES};
+use utvpi_tests::lines::{line, lone, zero, Line, BOUND};
 use utvpi_tests::make_cases::some_case;
 use utvpi_tests::second;
 use utvpi_tests::second::Answer::{self, No, Refused, Yes};
@@ -116,8 +118,8 @@ impl Reading {
             answer.code(),
             "{answer:?} on the whole, {kept:?}\nn: {}\nlist: {}\nrefutation: {}\n{} pieces: {:?}",
             self.n,
-            bytes::show(&list, 4),
-            bytes::show(&read, 4),
+            bytes::show(&list, NUMBER_BYTES),
+            bytes::show(&read, NUMBER_BYTES),
             self.ends.len(),
             &self.ends[..self.ends.len().min(1000)]
         );
@@ -127,8 +129,8 @@ impl Reading {
 
 /// The reading of an input, without what its bytes have beyond whole numbers.
 fn reading(input: &Input) -> Reading {
-    let fours = |bytes: &[u8]| -> Vec<[u8; 4]> {
-        let fours = bytes.chunks_exact(4);
+    let fours = |bytes: &[u8]| -> Vec<[u8; NUMBER_BYTES]> {
+        let fours = bytes.chunks_exact(NUMBER_BYTES);
         fours.map(|four| four.try_into().unwrap()).collect()
     };
     let list: Vec<i32> = fours(&input.list)
@@ -235,13 +237,13 @@ fn random_pieces() {
 /// yet, or too few numbers for its counts, whatever its steps are.
 #[test]
 fn all_ways_to_cut() {
-    let bounds = |d| vec![[1, 0, 0, 0, 3], [-1, 0, 0, 0, d]];
+    let bounds = |d| vec![lone(1, 0, 3), lone(-1, 0, d)];
     let mut raised = CASE_4.to_vec();
-    raised[3][4] = 4;
+    raised[3][BOUND] = 4;
     let cases: [(u64, Vec<Line>, &[u32], Answer); 15] = [
         // Case 3.
-        (0, vec![[0, 0, 0, 0, -1]], &[3, 1, 0, 0], Yes),
-        (0, vec![[0, 0, 0, 0, 0]], &[3, 1, 0, 0], No(3)),
+        (0, vec![zero(-1)], &[3, 1, 0, 0], Yes),
+        (0, vec![zero(0)], &[3, 1, 0, 0], No(3)),
         // Case 4, and case 13 on the same list.
         (3, CASE_4.to_vec(), &[2, 2, 2, 0, 3, 4, 7], Yes),
         (3, CASE_4.to_vec(), &[1, 4, 0, 0, 3, 4, 7], No(6)),
@@ -249,16 +251,16 @@ fn all_ways_to_cut() {
         (3, CASE_4[..3].to_vec(), &[2, 2, 2, 0, 3, 4, 7], No(6)),
         (3, raised, &[2, 2, 2, 0, 3, 4, 7], No(6)),
         // Case 7.
-        (1, vec![[1, 0, -1, 0, -1]], &[1, 1, 0, 0], Yes),
-        (1, vec![[1, 0, -1, 0, -1]], &[1, 1, 0, 1], Yes),
-        (1, vec![[1, 0, -1, 0, 0]], &[1, 1, 0, 0], No(3)),
+        (1, vec![line(1, 0, -1, 0, -1)], &[1, 1, 0, 0], Yes),
+        (1, vec![line(1, 0, -1, 0, -1)], &[1, 1, 0, 1], Yes),
+        (1, vec![line(1, 0, -1, 0, 0)], &[1, 1, 0, 0], No(3)),
         // Case 8.
         (1, bounds(-4), &[1, 2, 0, 0, 2], Yes),
         (1, bounds(-4), &[2, 1, 1, 0, 2], Yes),
         (1, bounds(-3), &[1, 2, 0, 0, 2], No(4)),
         (1, bounds(-3), &[2, 1, 1, 0, 2], No(4)),
         // A list that is refused, under a refutation that is read all the same.
-        (0, vec![[1, 0, -1, 0, -1]], &[1, 1, 0, 0], Refused(5, 0)),
+        (0, vec![line(1, 0, -1, 0, -1)], &[1, 1, 0, 0], Refused(5, 0)),
     ];
     for (n, lines, numbers, due) in cases {
         let due_after = |read: usize| match due {
@@ -337,9 +339,9 @@ fn lengths_of_one_walk() {
         // -983,040 are those of a number above 0.
         for d in [-1_000_000, -983_040, -1, 0] {
             let due = unless_long(length, if d < 0 { Yes } else { No(length - 1) });
-            assert_eq!(answer_if_long(1, &[1, 0, -1, 0, d], &right), due, "{d}");
+            assert_eq!(answer_if_long(1, &line(1, 0, -1, 0, d), &right), due, "{d}");
         }
-        let list = [1, 0, -1, 0, -1];
+        let list = line(1, 0, -1, 0, -1);
         // Counts that are right where as many numbers are read as are let in.
         let most = of_length(MOST_REFUTATION - 3, length);
         let due = unless_long(
@@ -365,15 +367,15 @@ fn lengths_of_one_walk() {
 #[test]
 fn lengths_of_two_walks() {
     // 2x ≤ 0 and -2x ≤ -1; and x ≤ d and -x ≤ d with the largest sums there are.
-    let halves = [1, 0, 1, 0, 0, -1, 0, -1, 0, -1];
-    let largest = [1, 0, 0, 0, -1_000_000, -1, 0, 0, 0, -1_000_000];
+    let halves = [line(1, 0, 1, 0, 0), line(-1, 0, -1, 0, -1)];
+    let largest = [lone(1, 0, -1_000_000), lone(-1, 0, -1_000_000)];
     for length in LENGTHS {
         let steps = length - 3;
         let mut numbers = of_length(steps, length);
         for (at, step) in numbers[3..].iter_mut().enumerate() {
             *step = 2 * (at as u32 % 2);
         }
-        for list in [halves, largest] {
+        for list in [halves.concat(), largest.concat()] {
             numbers[..3].copy_from_slice(&[1, steps as u32, 0]);
             let end = if steps % 2 == 0 { Yes } else { No(length - 1) };
             let due = unless_long(length, end);
@@ -392,7 +394,7 @@ fn lengths_of_two_walks() {
 #[test]
 fn list_refusals_go_first() {
     for (n, list, (number, place)) in damage::refused_lists() {
-        let after_a_line = [&[1, 0, -1, 0, -1], &list[..]].concat();
+        let after_a_line = [&line(1, 0, -1, 0, -1)[..], &list].concat();
         let shift = usize::from(number >= 4);
         for length in [4, MOST_REFUTATION, MOST_REFUTATION + 1, TOO_MANY] {
             let numbers = of_length(length - 3, length);

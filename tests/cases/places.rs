@@ -3,29 +3,30 @@
 
 use std::collections::BTreeMap;
 
-use utvpi_tests::bytes::{self, Line};
+use utvpi_tests::bytes;
 use utvpi_tests::chance::Chance;
 use utvpi_tests::library;
 use utvpi_tests::limits::MOST_REFUTATION;
+use utvpi_tests::lines::{line, lone, zero, Line, BOUND};
 use utvpi_tests::make;
 use utvpi_tests::second::{self, Answer, Fault};
 
 /// Two variables, x and y. The steps are given with their weights.
 const LINES: [Line; 7] = [
     // 0: x to y, 1: -y to -x, -1.
-    [1, 0, -1, 1, -1],
+    line(1, 0, -1, 1, -1),
     // 2: -x to -y, 3: y to x, 0.
-    [-1, 0, 1, 1, 0],
+    line(-1, 0, 1, 1, 0),
     // 4: x to -x, 6; 5 is none.
-    [1, 0, 0, 0, 3],
+    lone(1, 0, 3),
     // 6: -x to x, -8; 7 is none.
-    [0, 0, -1, 0, -4],
+    line(0, 0, -1, 0, -4),
     // 8 and 9 are none; the line is false.
-    [0, 0, 0, 0, -1],
+    zero(-1),
     // 10 and 11 are none; the line is true.
-    [0, 0, 0, 0, 0],
+    zero(0),
     // 12: -x to x, -6; 13 is none.
-    [-1, 0, 0, 0, -3],
+    lone(-1, 0, -3),
 ];
 
 /// Refutations of these lines that are right.
@@ -142,10 +143,10 @@ fn places_worked_out_by_hand() {
 fn all_short_refutations() {
     // x ≤ 0, 2x ≥ 1, a false line, and one that leads nowhere else.
     let lines = [
-        [1, 0, 0, 0, 0],
-        [-1, 0, -1, 0, -1],
-        [0, 0, 0, 0, -1],
-        [1, 0, -1, 0, 0],
+        lone(1, 0, 0),
+        line(-1, 0, -1, 0, -1),
+        zero(-1),
+        line(1, 0, -1, 0, 0),
     ];
     let list = bytes::list(&lines);
     let (mut yes, mut no_at) = (0, [0; 7]);
@@ -185,8 +186,8 @@ fn some_right(chance: &mut Chance, long: usize) -> Refuted {
             make::near_refutation(chance, n)
         };
         let (sign, variable) = (chance.pick(&[-1, 1]), chance.below(n as usize) as i32);
-        lines.push(chance.pick(&[[sign, variable, 0, 0, 0], [0, 0, sign, variable, 0]]));
-        lines.push([0, 0, 0, 0, make::bound(chance)]);
+        lines.push(chance.pick(&[lone(sign, variable, 0), line(0, 0, sign, variable, 0)]));
+        lines.push(zero(make::bound(chance)));
         if chance.one_in(long) && proposal.kind != 3 {
             // Round and round, as often as there is room.
             let round = [&proposal.second[..], &proposal.first].concat();
@@ -261,7 +262,7 @@ impl Refuted {
             return;
         };
         if let Some(line) = self.lines.get_mut(self.numbers[at] as usize / 2) {
-            line[4] = (line[4] + chance.between(1, 4) as i32).min(1_000_000);
+            line[BOUND] = (line[BOUND] + chance.between(1, 4) as i32).min(1_000_000);
         }
     }
 

@@ -9,7 +9,7 @@ use utvpi_tests::bytes;
 use utvpi_tests::chance::Chance;
 use utvpi_tests::damage::Input;
 use utvpi_tests::library::{self, Check};
-use utvpi_tests::limits::{MOST_LINES, MOST_REFUTATION};
+use utvpi_tests::limits::{LINE_NUMBERS, MOST_LINES, MOST_REFUTATION, NUMBER_BYTES};
 use utvpi_tests::make;
 use utvpi_tests::make_cases::{some_case, some_lines, some_values, Case};
 use utvpi_tests::second::{self, Answer};
@@ -75,7 +75,7 @@ fn refutations() {
             solvable += usize::from(known);
             if answer == Answer::Yes {
                 yes_of_kind[proposed[0] as usize] += 1;
-                let shown = bytes::show(&list, 4);
+                let shown = bytes::show(&list, NUMBER_BYTES);
                 assert!(
                     !known,
                     "{:?} solves n {n}, list {shown}, refuted by {proposed:?}",
@@ -109,7 +109,7 @@ fn noise() {
     let mut seen = Seen::default();
     for _ in 0..20_000 {
         let n = chance.between(0, 3) as u64;
-        let list: Vec<i32> = (0..chance.between(0, 31))
+        let list: Vec<i32> = (0..chance.below(6 * LINE_NUMBERS + 2))
             .map(|_| chance.between(-2, 2) as i32)
             .collect();
         let some: Vec<u32> = (0..chance.below(9))
@@ -183,7 +183,7 @@ fn calls_do_not_disturb_anything() {
             list: list.clone(),
             proposed: refutation,
         };
-        for input in [input.damaged(&mut chance, 4), input] {
+        for input in [input.damaged(&mut chance, NUMBER_BYTES), input] {
             let due = second::check_refutation(input.n, &input.list, &input.proposed).code();
             asked.push((library::check_refutation, input, due));
         }

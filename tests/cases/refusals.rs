@@ -1,10 +1,10 @@
 //! Which input is refused, with what number and place, and which refusal is
 //! given where several apply; and which line a model's no names.
 
-use utvpi_tests::bytes::{self, Line};
-use utvpi_tests::limits::{
-    LARGEST_VALUE, LAST_VARIABLE, MOST_LINES, MOST_N, MOST_REFUTATION, MOST_VARIABLES,
-};
+use utvpi_tests::bytes;
+use utvpi_tests::limits::{LARGEST_VALUE, LAST_VARIABLE, LINE_BYTES, MOST_LINES};
+use utvpi_tests::limits::{MOST_N, MOST_REFUTATION, MOST_VARIABLES};
+use utvpi_tests::lines::{line, lone, zero, Line, BOUND, X};
 use utvpi_tests::make;
 use utvpi_tests::second::Answer::{self, No, Refused, Yes};
 use utvpi_tests::{model, refutation};
@@ -64,14 +64,14 @@ const FAULTS: [Fault; 15] = [
 fn answers(faults: &[Fault]) -> [Answer; 2] {
     let has = |fault| faults.contains(&fault);
     let more = |fault| usize::from(has(fault));
-    let line = [1, LAST_VARIABLE, -1, 0, 5];
+    let line = line(1, LAST_VARIABLE, -1, 0, 5);
     let mut lines: Vec<Line> = vec![line; MOST_LINES + more(Lines)];
     let mut values = vec![LARGEST_VALUE; MOST_VARIABLES];
     for fault in faults {
         match *fault {
             Coefficient(line) => lines[line][2] = 2,
-            Variable(line) => lines[line][1] = 2 * LAST_VARIABLE,
-            Bound(line) => lines[line][4] = -1_000_001,
+            Variable(line) => lines[line][X] = 2 * LAST_VARIABLE,
+            Bound(line) => lines[line][BOUND] = -1_000_001,
             ModelValue(index) => values[index] = -LARGEST_VALUE - 1,
             _ => {}
         }
@@ -137,11 +137,11 @@ fn too_many_variables() {
     ] {
         // The list is otherwise right, empty, of a broken length, or too long.
         for list in [
-            vec![0; 20],
+            vec![0; LINE_BYTES],
             vec![],
-            vec![0; 19],
-            vec![9; 20 * (MOST_LINES + 1)],
-            vec![255; 20],
+            vec![0; LINE_BYTES - 1],
+            vec![9; LINE_BYTES * (MOST_LINES + 1)],
+            vec![255; LINE_BYTES],
         ] {
             for bytes in [0, 8, 12, 8 * (MOST_VARIABLES + 1)] {
                 assert_eq!(model(n, &list, &vec![0; bytes]), Refused(1, 0));
@@ -172,12 +172,12 @@ fn coefficients_and_variables() {
         i32::MIN + 1,
         i32::MAX,
     ] {
-        for line in [
-            [coefficient, 0, 0, 0, 0],
-            [0, 0, coefficient, 0, 0],
-            [1, 7, coefficient, 99, i32::MAX],
+        for bad in [
+            lone(coefficient, 0, 0),
+            line(0, 0, coefficient, 0, 0),
+            line(1, 7, coefficient, 99, i32::MAX),
         ] {
-            let list = bytes::list(&[[1, 0, 1, 1, 0], line]);
+            let list = bytes::list(&[line(1, 0, 1, 1, 0), bad]);
             assert_eq!(model(2, &list, &[0; 16]), Refused(4, 1));
             assert_eq!(refutation(2, &list, &[]), Refused(4, 1));
         }
@@ -190,14 +190,14 @@ fn coefficients_and_variables() {
         {
             let there = variable >= 0 && variable < n;
             for sign in [-1, 1] {
-                for line in [[sign, variable, 0, 0, 0], [0, 0, sign, variable, 0]] {
+                for line in [lone(sign, variable, 0), line(0, 0, sign, variable, 0)] {
                     let expected = if there { Yes } else { Refused(5, 0) };
                     let values = vec![0; 8 * n as usize];
                     assert_eq!(model(n as u64, &bytes::list(&[line]), &values), expected);
                 }
             }
             // Beside the coefficient 0 only the number 0 stands, even if n is 0.
-            for line in [[0, variable, 0, 0, 0], [0, 0, 0, variable, 0]] {
+            for line in [line(0, variable, 0, 0, 0), line(0, 0, 0, variable, 0)] {
                 let expected = if variable == 0 { No(0) } else { Refused(5, 0) };
                 assert_eq!(refutation(n as u64, &bytes::list(&[line]), &[]), expected);
             }
@@ -208,7 +208,10 @@ fn coefficients_and_variables() {
 #[test]
 fn bounds_at_their_limits() {
     for d in [-1_000_000, -999_999, 999_999, 1_000_000] {
-        assert_eq!(refutation(1, &bytes::list(&[[1, 0, 1, 0, d]]), &[]), No(0));
+        assert_eq!(
+            refutation(1, &bytes::list(&[line(1, 0, 1, 0, d)]), &[]),
+            No(0)
+        );
     }
     for d in [
         -1_000_001,
@@ -219,13 +222,10 @@ fn bounds_at_their_limits() {
         i32::MAX,
     ] {
         assert_eq!(
-            refutation(1, &bytes::list(&[[1, 0, 1, 0, d]]), &[]),
+            refutation(1, &bytes::list(&[line(1, 0, 1, 0, d)]), &[]),
             Refused(6, 0)
         );
-        assert_eq!(
-            model(1, &bytes::list(&[[0, 0, 0, 0, d]]), &[0; 8]),
-            Refused(6, 0)
-        );
+        assert_eq!(model(1, &bytes::list(&[zero(d)]), &[0; 8]), Refused(6, 0));
     }
 }
 
@@ -249,7 +249,7 @@ fn the_length_of_a_model() {
         ] {
             let expected = if bytes == right { Yes } else { Refused(9, 0) };
             assert_eq!(
-                model(n, &bytes::list(&[[0, 0, 0, 0, 0]]), &vec![0; bytes]),
+                model(n, &bytes::list(&[zero(0)]), &vec![0; bytes]),
                 expected
             );
             // Values beyond the limits come after the length.
@@ -262,7 +262,7 @@ fn the_length_of_a_model() {
 
 #[test]
 fn the_values_of_a_model() {
-    let line = bytes::list(&[[1, 0, -1, LAST_VARIABLE, 0]]);
+    let line = bytes::list(&[line(1, 0, -1, LAST_VARIABLE, 0)]);
     let model_of = |values: &[i64]| model(MOST_N, &line, &bytes::model(values));
     for value in [LARGEST_VALUE, -LARGEST_VALUE] {
         assert_eq!(model_of(&[value; MOST_VARIABLES]), Yes);
@@ -291,8 +291,8 @@ fn the_values_of_a_model() {
 
 #[test]
 fn the_length_of_a_refutation() {
-    let lines = bytes::list(&[[0, 0, 0, 0, -1]]);
-    let bad = bytes::list(&[[0, 0, 0, 0, -1], [0, 1, 0, 0, 0]]);
+    let lines = bytes::list(&[zero(-1)]);
+    let bad = bytes::list(&[zero(-1), line(0, 1, 0, 0, 0)]);
     let right = bytes::refutation(&[3, 1, 0, 0]);
     // Bytes that are no multiple of four: a no, and after the list's refusals.
     for bytes in 0..40 {
@@ -336,7 +336,7 @@ fn the_length_of_a_refutation() {
             "{bytes} bytes"
         );
         assert_eq!(
-            refutation(0, &lines[..19], &vec![0; bytes]),
+            refutation(0, &lines[..LINE_BYTES - 1], &vec![0; bytes]),
             Refused(2, 0),
             "{bytes} bytes"
         );
@@ -346,10 +346,10 @@ fn the_length_of_a_refutation() {
 #[test]
 fn the_first_line_that_a_model_fails() {
     for first in (0..MOST_LINES).step_by(13).chain([MOST_LINES - 1]) {
-        let mut lines: Vec<Line> = vec![[1, 0, 1, 1, 0]; MOST_LINES];
-        lines[first] = [0, 0, -1, 0, -1];
+        let mut lines: Vec<Line> = vec![line(1, 0, 1, 1, 0); MOST_LINES];
+        lines[first] = line(0, 0, -1, 0, -1);
         assert_eq!(model(2, &bytes::list(&lines), &[0; 16]), No(first));
-        lines[first..].fill([-1, 0, 1, 1, -1]);
+        lines[first..].fill(line(-1, 0, 1, 1, -1));
         assert_eq!(model(2, &bytes::list(&lines), &[0; 16]), No(first));
     }
 }
@@ -361,10 +361,10 @@ fn the_left_side_of_a_line() {
         for b in [-1, 0, 1] {
             for x in 0..if a == 0 { 1 } else { 6 } {
                 for y in 0..if b == 0 { 1 } else { 6 } {
-                    let left = make::left_side(&[a, x, b, y, 0], &values);
+                    let left = make::left_side(&line(a, x, b, y, 0), &values);
                     for d in [left - 1, left, left + 1, -1_000_000, 1_000_000] {
                         if d.abs() <= 1_000_000 {
-                            let list = bytes::list(&[[0, 0, 0, 0, 0], [a, x, b, y, d as i32]]);
+                            let list = bytes::list(&[zero(0), line(a, x, b, y, d as i32)]);
                             let expected = if left <= d { Yes } else { No(1) };
                             assert_eq!(model(6, &list, &bytes::model(&values)), expected);
                         }

@@ -1,8 +1,9 @@
 //! Refutations whose sums, halves, lengths or ends are at the edge of what is
 //! accepted.
 
-use utvpi_tests::bytes::{self, Line};
+use utvpi_tests::bytes;
 use utvpi_tests::limits::MOST_REFUTATION;
+use utvpi_tests::lines::{line, lone, zero, Line};
 use utvpi_tests::second::Answer::{self, No, Yes};
 
 /// As many steps as a refutation has room for.
@@ -41,7 +42,7 @@ fn halving_goes_toward_minus_infinity() {
     // They refute the two lines exactly where no whole number x meets both.
     for s in -9..=9 {
         for t in -9..=9 {
-            let lines = [[1, 0, 1, 0, s], [-1, 0, -1, 0, t]];
+            let lines = [line(1, 0, 1, 0, s), line(-1, 0, -1, 0, t)];
             let solvable = (-9..=9).any(|x| 2 * x <= s && -2 * x <= t);
             for (there, back) in [(0, 2), (0, 3), (1, 2), (1, 3)] {
                 assert_eq!(
@@ -66,7 +67,7 @@ fn halving_goes_toward_minus_infinity() {
 
 #[test]
 fn halves_that_are_named() {
-    let halved = |s, t| kind_2(1, &[[1, 0, 1, 0, s], [-1, 0, -1, 0, t]], &[0], &[2]);
+    let halved = |s, t| kind_2(1, &[line(1, 0, 1, 0, s), line(-1, 0, -1, 0, t)], &[0], &[2]);
     // Only with -7 halved to -4: toward zero 3 - 3 is not below 0.
     assert_eq!(halved(7, -7), Yes);
     assert_eq!(halved(6, -7), Yes);
@@ -89,14 +90,14 @@ fn a_lone_variable_counts_twice() {
     for s in -3..=3 {
         for t in -3..=3 {
             for lines in [
-                [[1, 0, 0, 0, s], [0, 0, -1, 0, t]],
-                [[0, 0, 1, 0, s], [-1, 0, 0, 0, t]],
+                [lone(1, 0, s), line(0, 0, -1, 0, t)],
+                [line(0, 0, 1, 0, s), lone(-1, 0, t)],
             ] {
                 assert_eq!(kind_1(1, &lines, &[0, 2]), yes_if_low(2, s + t < 0));
                 assert_eq!(kind_2(1, &lines, &[0], &[2]), yes_if_low(2, s + t < 0));
             }
             // x ≤ s and -2x ≤ t.
-            let mixed = [[1, 0, 0, 0, s], [-1, 0, -1, 0, t]];
+            let mixed = [lone(1, 0, s), line(-1, 0, -1, 0, t)];
             assert_eq!(kind_1(1, &mixed, &[0, 2]), yes_if_low(2, 2 * s + t < 0));
             let solvable = (-9..=9).any(|x| x <= s && -2 * x <= t);
             assert_eq!(kind_2(1, &mixed, &[0], &[2]), yes_if_low(2, !solvable));
@@ -107,15 +108,15 @@ fn a_lone_variable_counts_twice() {
 /// Lists and refutations that are a yes, to be spoiled.
 fn accepted() -> [(u64, Vec<Line>, Vec<u32>); 5] {
     let lines = vec![
-        [1, 0, -1, 1, -1],
-        [1, 1, -1, 2, 0],
-        [-1, 0, 1, 2, 0],
-        [0, 0, 0, 0, -1],
-        [0, 0, 0, 0, 0],
-        [1, 1, 0, 0, 4],
-        [0, 0, -1, 1, -5],
-        [1, 2, 1, 2, 1],
-        [-1, 2, -1, 2, -1],
+        line(1, 0, -1, 1, -1),
+        line(1, 1, -1, 2, 0),
+        line(-1, 0, 1, 2, 0),
+        zero(-1),
+        zero(0),
+        lone(1, 1, 4),
+        line(0, 0, -1, 1, -5),
+        line(1, 2, 1, 2, 1),
+        line(-1, 2, -1, 2, -1),
     ];
     [
         // x to y to z to x.
@@ -276,7 +277,7 @@ fn walks_that_do_not_meet_are_a_no() {
 fn long_walks_of_the_largest_weights() {
     for sign in [-1, 1] {
         // x - x ≤ d: from x to x.
-        let same = [[1, 0, -1, 0, sign * 1_000_000]];
+        let same = [line(1, 0, -1, 0, sign * 1_000_000)];
         for steps in [
             1,
             2,
@@ -302,8 +303,8 @@ fn long_walks_of_the_largest_weights() {
         }
         // x ≤ d and -x ≤ d, there and back, with the weight 2d.
         let lone = [
-            [0, 0, 1, 0, sign * 1_000_000],
-            [-1, 0, 0, 0, sign * 1_000_000],
+            line(0, 0, 1, 0, sign * 1_000_000),
+            lone(-1, 0, sign * 1_000_000),
         ];
         for rounds in [
             1,
@@ -341,7 +342,7 @@ fn long_walks_round_a_cycle() {
             }
         };
         (0..13)
-            .map(|at| [1, at, -1, (at + 1) % 13, bound(at)])
+            .map(|at| line(1, at, -1, (at + 1) % 13, bound(at)))
             .collect()
     };
     let round: Vec<u32> = (0..13).map(|at| 2 * at).collect();
@@ -369,10 +370,10 @@ fn long_walks_of_kind_2() {
     // x - x ≤ ±999,999 to go round at a point, 2x ≤ s and -2x ≤ t to change it.
     let lines = |s, t| {
         [
-            [1, 0, -1, 0, 999_999],
-            [1, 0, -1, 0, -999_999],
-            [1, 0, 1, 0, s],
-            [-1, 0, -1, 0, t],
+            line(1, 0, -1, 0, 999_999),
+            line(1, 0, -1, 0, -999_999),
+            line(1, 0, 1, 0, s),
+            line(-1, 0, -1, 0, t),
         ]
     };
     // Up in one walk as often as down in the other.

@@ -33,17 +33,17 @@
 //! high values stay at least D from zero and from the low ones. So there is no
 //! gap.
 
-use crate::bytes::Line;
 use crate::decision::{Reason, Solved, Verdict};
+use crate::lines::{Line, BOUND, X, Y};
 use crate::make::left_side;
 
 /// What deciding is to answer to a valid list.
 pub fn verdict(n: usize, lines: &[Line]) -> Verdict {
-    let is_false = |line: &Line| line[0] == 0 && line[2] == 0 && line[4] < 0;
+    let is_false = |line: &Line| line[0] == 0 && line[2] == 0 && line[BOUND] < 0;
     if let Some(first) = lines.iter().position(is_false) {
         return Verdict::No(Reason::FalseLine(first));
     }
-    let largest = lines.iter().map(|line| i64::from(line[4]).abs()).max();
+    let largest = lines.iter().map(|line| i64::from(line[BOUND]).abs()).max();
     let largest = largest.unwrap_or(1).max(1);
     let count = n as i64;
     let mut search = Search::new(n, lines, ((2 * count - 1) * largest + 1).max(0), false);
@@ -54,10 +54,10 @@ pub fn verdict(n: usize, lines: &[Line]) -> Verdict {
     // A closed walk of negative sum exists exactly if no fractions solve the
     // list, and where fractions do, halves do. Halves are whole numbers once
     // every d is doubled.
-    let doubled: Vec<Line> = lines
-        .iter()
-        .map(|&[a, x, b, y, d]| [a, x, b, y, 2 * d])
-        .collect();
+    let mut doubled = lines.to_vec();
+    for line in &mut doubled {
+        line[BOUND] *= 2;
+    }
     let mut search = Search::new(n, &doubled, 2 * count * largest, true);
     search.from(0);
     Verdict::No(match search.model {
@@ -82,7 +82,7 @@ struct Search {
 
 impl Search {
     fn new(n: usize, lines: &[Line], reach: i64, only_one: bool) -> Search {
-        let highest = |line: &Line| line[1].max(line[3]) as usize;
+        let highest = |line: &Line| line[X].max(line[Y]) as usize;
         let named = |line: &&Line| line[0] != 0 || line[2] != 0;
         let lines_at = |at| {
             let here = lines
@@ -113,7 +113,7 @@ impl Search {
             // Zero is its own negative and tried once.
             for &value in &[size, -size][usize::from(size == 0)..] {
                 self.values[at] = value;
-                let met = |line: &Line| left_side(line, &self.values) <= i64::from(line[4]);
+                let met = |line: &Line| left_side(line, &self.values) <= i64::from(line[BOUND]);
                 if self.lines[at].iter().all(met) {
                     self.from(at + 1);
                 }

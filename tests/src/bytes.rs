@@ -1,7 +1,6 @@
 //! Packs numbers into bytes, the lowest byte first, and shows them again.
 
-/// A line: a, x, b, y, d.
-pub type Line = [i32; 5];
+use crate::lines::Line;
 
 /// The bytes of a list.
 pub fn list(lines: &[Line]) -> Vec<u8> {

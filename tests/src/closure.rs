@@ -2,8 +2,8 @@
 //! nested loops, and again after each value of the model: another way than rows
 //! of least sums by rounds, so that the two don't share a mistake.
 
-use crate::bytes::Line;
 use crate::decision::{Reason, Solved, Verdict};
+use crate::lines::{Line, BOUND};
 
 /// No walk. Far below where sums of two would overflow.
 const NONE: i64 = i64::MAX / 4;
@@ -17,7 +17,7 @@ struct Square {
 
 /// What deciding is to answer to a valid list.
 pub fn verdict(n: usize, lines: &[Line]) -> Verdict {
-    let is_false = |line: &Line| line[0] == 0 && line[2] == 0 && line[4] < 0;
+    let is_false = |line: &Line| line[0] == 0 && line[2] == 0 && line[BOUND] < 0;
     if let Some(first) = lines.iter().position(is_false) {
         return Verdict::No(Reason::FalseLine(first));
     }
@@ -46,7 +46,7 @@ impl Square {
         }
         let mut square = Square { points, cells };
         let point = |sign: i32, x: i32| 2 * x as usize + usize::from(sign < 0);
-        for &[a, x, b, y, d] in lines {
+        for &[a, x, b, y, d, ..] in lines {
             let d = i64::from(d);
             match (a, b) {
                 (0, 0) => {}

@@ -1,9 +1,9 @@
 //! Damages input in all the ways in which a file or a program may get it wrong.
 
 use crate::chance::Chance;
-use crate::limits::{
-    LARGEST_BOUND, LARGEST_VALUE, LAST_VARIABLE, MOST_LINES, MOST_N, MOST_NUMBERS,
-};
+use crate::limits::{LARGEST_BOUND, LARGEST_VALUE, LAST_VARIABLE, LINE_BYTES, LINE_NUMBERS};
+use crate::limits::{MOST_LINES, MOST_N, MOST_NUMBERS, NUMBER_BYTES};
+use crate::lines::{line, lone, zero, BOUND, X, Y};
 
 /// Numbers at which a wrong width or a wrong limit shows.
 const EXTREMES: [i64; 12] = [
@@ -26,6 +26,10 @@ const BOUNDS: [i32; 4] = {
     let largest = LARGEST_BOUND as i32;
     [-largest - 1, -largest, largest, largest + 1]
 };
+
+/// Bytes, and numbers, that are cut or added: up to a line and one number.
+const SOME_BYTES: usize = LINE_BYTES + NUMBER_BYTES;
+const SOME_NUMBERS: usize = LINE_NUMBERS + 1;
 
 /// What one call is given: the model or the refutation is `proposed`.
 #[derive(Clone)]
@@ -66,16 +70,16 @@ fn other_count(chance: &mut Chance, n: u64) -> u64 {
 
 /// Damages whole lines, or numbers.
 fn damage_list(chance: &mut Chance, list: &mut Vec<u8>) {
-    let lines = list.len() / 20;
+    let lines = list.len() / LINE_BYTES;
     if lines == 0 || !chance.one_in(4) {
-        return damage_numbers(chance, list, 4);
+        return damage_numbers(chance, list, NUMBER_BYTES);
     }
-    let at = 20 * chance.below(lines);
-    let line: Vec<u8> = list[at..at + 20].to_vec();
+    let at = LINE_BYTES * chance.below(lines);
+    let line: Vec<u8> = list[at..at + LINE_BYTES].to_vec();
     match chance.below(6) {
-        0 => drop(list.drain(at..at + 20)),
+        0 => drop(list.drain(at..at + LINE_BYTES)),
         1 => drop(list.splice(at..at, line)),
-        2 => swap(list, at, 20 * chance.below(lines), 20),
+        2 => swap(list, at, LINE_BYTES * chance.below(lines), LINE_BYTES),
         // As many copies of a line as are let in, or a few more.
         3 => {
             let count = MOST_LINES - 1 + chance.below(4);
@@ -84,16 +88,21 @@ fn damage_list(chance: &mut Chance, list: &mut Vec<u8>) {
         // A bound at the limits or just beyond.
         4 => {
             let bound = chance.pick(&BOUNDS);
-            list[at + 16..at + 20].copy_from_slice(&bound.to_le_bytes());
+            put(list, at + NUMBER_BYTES * BOUND, bound);
         }
         // The number of a variable that is just not there, or of one beside 0.
         _ => {
-            let place = at + chance.pick(&[4, 12]);
+            let place = at + NUMBER_BYTES * chance.pick(&[X, Y]);
             let last = LAST_VARIABLE;
             let variable = chance.pick(&[-1, 1, last, last + 1, last + 2, 1 << 8, 1 << 16]);
-            list[place..place + 4].copy_from_slice(&variable.to_le_bytes());
+            put(list, place, variable);
         }
     }
+}
+
+/// Puts a number of a line at this byte.
+fn put(list: &mut [u8], at: usize, number: i32) {
+    list[at..at + NUMBER_BYTES].copy_from_slice(&number.to_le_bytes());
 }
 
 /// Damages numbers of `width` bytes each.
@@ -103,7 +112,7 @@ fn damage_numbers(chance: &mut Chance, bytes: &mut Vec<u8>, width: usize) {
         let count = if chance.one_in(2) {
             width
         } else {
-            chance.below(24)
+            chance.below(SOME_BYTES)
         };
         let more = (0..count).map(|_| chance.next() as u8 & 3);
         return bytes.extend(more.collect::<Vec<u8>>());
@@ -112,7 +121,7 @@ fn damage_numbers(chance: &mut Chance, bytes: &mut Vec<u8>, width: usize) {
     let other = width * chance.below(numbers);
     let number: Vec<u8> = bytes[at..at + width].to_vec();
     match chance.below(14) {
-        0 => bytes.truncate(bytes.len() - chance.between(1, bytes.len().min(24) as i64) as usize),
+        0 => bytes.truncate(bytes.len() - 1 - chance.below(bytes.len().min(SOME_BYTES))),
         1 => drop(bytes.drain(at..at + chance.between(1, width as i64) as usize)),
         2 => drop(bytes.drain(at.min(other)..at.max(other))),
         3 => bytes.insert(at, chance.next() as u8),
@@ -164,25 +173,32 @@ pub fn damaged_list(chance: &mut Chance, n: u64, list: &[i32]) -> (u64, Vec<i32>
 
 /// Cuts a list, adds to it, or makes it as long as is let in, or longer.
 fn damage_length(chance: &mut Chance, list: &mut Vec<i32>) {
-    let most = MOST_NUMBERS;
+    let (most, longer) = (MOST_NUMBERS, MOST_NUMBERS + LINE_NUMBERS);
     match chance.below(10) {
-        0 | 1 => list.truncate(list.len().saturating_sub(chance.between(1, 6) as usize)),
-        2 | 3 => list.extend((0..chance.between(1, 6)).map(|at| at as i32 % 2)),
-        4 | 5 => drop(list.drain(..chance.below(list.len().min(6) + 1))),
+        0 | 1 => list.truncate(list.len().saturating_sub(1 + chance.below(SOME_NUMBERS))),
+        2 | 3 => list.extend((0..=chance.below(SOME_NUMBERS)).map(|at| at as i32 % 2)),
+        4 | 5 => drop(list.drain(..chance.below(list.len().min(SOME_NUMBERS) + 1))),
         6 | 7 => list.insert(chance.below(list.len() + 1), 0),
         // A length that is too long and broken is refused for being broken.
-        8 => list.resize(chance.pick(&[most - 1, most + 1, most + 4, most + 6]), 0),
-        _ => list.resize(chance.pick(&[most - 5, most, most + 5, 2 * most]), 0),
+        8 => list.resize(
+            chance.pick(&[most - 1, most + 1, longer - 1, longer + 1]),
+            0,
+        ),
+        _ => list.resize(
+            chance.pick(&[most - LINE_NUMBERS, most, longer, 2 * most]),
+            0,
+        ),
     }
 }
 
 /// Changes one number or two, in a place where the change is most likely wrong.
 fn damage_number(chance: &mut Chance, n: u64, list: &mut [i32]) {
-    if list.len() < 5 {
+    if list.len() < LINE_NUMBERS {
         return;
     }
-    let line = 5 * chance.below(list.len() / 5);
-    let (coefficient, variable) = chance.pick(&[(line, line + 1), (line + 2, line + 3)]);
+    let line = LINE_NUMBERS * chance.below(list.len() / LINE_NUMBERS);
+    let variable = line + chance.pick(&[X, Y]);
+    let coefficient = variable - 1;
     let n = n as i32;
     match chance.below(9) {
         0 => list[coefficient] = chance.pick(&[2, -2, 3, 255, 257, 65_537, i32::MIN, i32::MAX]),
@@ -190,22 +206,22 @@ fn damage_number(chance: &mut Chance, n: u64, list: &mut [i32]) {
         2 => list[variable] = chance.pick(&[i32::MIN, i32::MAX, 1 << 24, -1 << 16]),
         3 => list[coefficient] = 0,
         4 => (list[coefficient], list[variable]) = (0, chance.pick(&[1, -1, n, i32::MIN])),
-        5 => list[line + 4] = chance.pick(&BOUNDS),
-        6 => list[line + 4] = chance.pick(&[i32::MIN, i32::MAX, 1 << 30, -1 << 24]),
-        7 => list[chance.below(5) + line] ^= 1 << chance.below(32),
-        _ => list.swap(line + chance.below(5), chance.below(list.len())),
+        5 => list[line + BOUND] = chance.pick(&BOUNDS),
+        6 => list[line + BOUND] = chance.pick(&[i32::MIN, i32::MAX, 1 << 30, -1 << 24]),
+        7 => list[chance.below(LINE_NUMBERS) + line] ^= 1 << chance.below(32),
+        _ => list.swap(line + chance.below(LINE_NUMBERS), chance.below(list.len())),
     }
 }
 
 /// Lists that are refused, each with its n, and the refusal's number and place.
 pub fn refused_lists() -> [(u64, Vec<i32>, (u8, usize)); 7] {
     [
-        (MOST_N + 1, vec![0; 3], (1, 0)),
-        (MOST_N, vec![0; MOST_NUMBERS + 6], (2, 0)),
-        (MOST_N, vec![0; MOST_NUMBERS + 5], (3, 0)),
-        (2, vec![0, 0, 0, 0, 0, 2, 9, 0, 0, 0], (4, 1)),
-        (2, vec![1, 2, 0, 0, 1_000_001], (5, 0)),
-        (2, vec![0, 0, 0, 1, 1_000_001], (5, 0)),
-        (2, vec![0, 0, 0, 0, 1_000_001, 2, 0, 0, 0, 0], (6, 0)),
+        (MOST_N + 1, vec![0; LINE_NUMBERS - 2], (1, 0)),
+        (MOST_N, vec![0; MOST_NUMBERS + LINE_NUMBERS + 1], (2, 0)),
+        (MOST_N, vec![0; MOST_NUMBERS + LINE_NUMBERS], (3, 0)),
+        (2, [zero(0), lone(2, 9, 0)].concat(), (4, 1)),
+        (2, lone(1, 2, 1_000_001).to_vec(), (5, 0)),
+        (2, line(0, 0, 0, 1, 1_000_001).to_vec(), (5, 0)),
+        (2, [zero(1_000_001), lone(2, 0, 0)].concat(), (6, 0)),
     ]
 }

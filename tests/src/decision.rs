@@ -2,8 +2,9 @@
 //! answer: that both checkers accept it, and that nothing else is written.
 
 use crate::buffers::{needed, Buffers};
-use crate::bytes::{self, Line};
+use crate::bytes;
 use crate::chance::Chance;
+use crate::lines::Line;
 use crate::second::{self, Answer};
 
 /// What deciding answers, but for the walks of a refutation, which are free.

@@ -1,20 +1,20 @@
 //! What the description of the library names and several tests use.
 
-use crate::bytes::Line;
 use crate::limits::{LARGEST_BOUND, MOST_LINES, MOST_VARIABLES};
+use crate::lines::{line, Line};
 
 /// Case 4: solved by halves only.
 pub const CASE_4: [Line; 4] = [
-    [1, 0, -1, 1, 2],
-    [1, 0, 1, 1, -1],
-    [-1, 0, -1, 2, -4],
-    [-1, 0, 1, 2, 3],
+    line(1, 0, -1, 1, 2),
+    line(1, 0, 1, 1, -1),
+    line(-1, 0, -1, 2, -4),
+    line(-1, 0, 1, 2, 3),
 ];
 
 /// Case 11: the most lines over the most variables, all with the largest bound.
 pub fn largest() -> Vec<Line> {
     let (n, bound) = (MOST_VARIABLES as i32, LARGEST_BOUND as i32);
     (0..MOST_LINES as i32)
-        .map(|at| [1, at % n, 1, (at * 7 + at / n) % n, bound])
+        .map(|at| line(1, at % n, 1, (at * 7 + at / n) % n, bound))
         .collect()
 }

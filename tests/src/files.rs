@@ -4,6 +4,7 @@
 use crate::buffers::Guarded;
 use crate::chance::Chance;
 use crate::library;
+use crate::limits::LINE_NUMBERS;
 use crate::records::{self, List, Refusal};
 
 /// The list in a file or the refusal, read into a buffer of so many numbers,
@@ -20,7 +21,7 @@ pub fn read(chance: &mut Chance, file: &[u8], room: usize) -> Result<List, Refus
         number => Err((number, result.place)),
     };
     let expected = match &due {
-        Ok(list) => Ok((list.n, list.numbers.len() as u64 / 5)),
+        Ok(list) => Ok((list.n, (list.numbers.len() / LINE_NUMBERS) as u64)),
         Err(refused) => Err(*refused),
     };
     assert_eq!(answer, expected, "room for {room} numbers, file {file:?}");

@@ -12,6 +12,7 @@ pub mod document;
 pub mod files;
 pub mod library;
 pub mod limits;
+pub mod lines;
 pub mod make;
 pub mod make_cases;
 pub mod make_lists;
@@ -19,6 +20,7 @@ pub mod records;
 pub mod second;
 pub mod seen;
 
+use limits::NUMBER_BYTES;
 use second::Answer;
 
 /// The answer on a model, after making sure that the library and the second
@@ -44,7 +46,7 @@ pub fn refutation(n: u64, list: &[u8], refutation: &[u8]) -> Answer {
             n,
             list,
             "refutation",
-            bytes::show(refutation, 4),
+            bytes::show(refutation, NUMBER_BYTES),
         );
     }
     answer
@@ -55,6 +57,6 @@ fn differ(result: i64, answer: Answer, n: u64, list: &[u8], name: &str, proposed
         "the library returns {result} and the second implementation {} ({answer:?})\n\
          n: {n}\nlist: {}\n{name}: {proposed}",
         answer.code(),
-        bytes::show(list, 4)
+        bytes::show(list, NUMBER_BYTES)
     );
 }

@@ -1,9 +1,9 @@
 //! Makes lists, models and refutations at random: right ones, and ones that
 //! just fail to be right.
 
-use crate::bytes::Line;
 use crate::chance::Chance;
 use crate::limits::{LARGEST_BOUND, MOST_N, MOST_REFUTATION, MOST_VARIABLES};
+use crate::lines::{line, lone, zero, Line, BOUND, X, Y};
 
 /// A point: a variable's number, and 1 for the variable or -1 for its negative.
 type Point = (i32, i32);
@@ -52,8 +52,8 @@ pub fn bound(chance: &mut Chance) -> i32 {
 }
 
 /// A valid line of any of the nine coefficient pairs, with a bound.
-pub fn line(chance: &mut Chance, n: u64) -> Line {
-    let mut line = [0, 0, 0, 0, bound(chance)];
+pub fn some_line(chance: &mut Chance, n: u64) -> Line {
+    let mut line = zero(bound(chance));
     for place in [0, 2] {
         if n > 0 && !chance.one_in(4) {
             line[place] = chance.pick(&[-1, 1]);
@@ -65,7 +65,7 @@ pub fn line(chance: &mut Chance, n: u64) -> Line {
 
 /// Valid lines, with whatever bounds.
 pub fn lines(chance: &mut Chance, n: u64, count: usize) -> Vec<Line> {
-    (0..count).map(|_| line(chance, n)).collect()
+    (0..count).map(|_| some_line(chance, n)).collect()
 }
 
 /// The left side of a line.
@@ -77,7 +77,7 @@ pub fn left_side(line: &Line, values: &[i64]) -> i64 {
             i64::from(c) * values[v as usize]
         }
     };
-    term(line[0], line[1]) + term(line[2], line[3])
+    term(line[0], line[X]) + term(line[2], line[Y])
 }
 
 /// Valid lines that these values meet, many of them with nothing to spare.
@@ -94,7 +94,7 @@ pub fn lines_met_by(chance: &mut Chance, values: &[i64], count: usize) -> Vec<Li
             chance.between(0, 5)
         };
         let least = left_side(line, values).max(-LARGEST_BOUND);
-        line[4] = (least + spare).min(LARGEST_BOUND) as i32;
+        line[BOUND] = (least + spare).min(LARGEST_BOUND) as i32;
     }
     lines
 }
@@ -103,9 +103,9 @@ pub fn lines_met_by(chance: &mut Chance, values: &[i64], count: usize) -> Vec<Li
 fn line_between(chance: &mut Chance, from: Point, to: Point) -> (Line, u32) {
     let ((v, s), (w, t)) = (from, to);
     if to == opposite(from) && chance.one_in(2) {
-        return (chance.pick(&[[s, v, 0, 0, 0], [0, 0, s, v, 0]]), 0);
+        return (chance.pick(&[lone(s, v, 0), line(0, 0, s, v, 0)]), 0);
     }
-    chance.pick(&[([s, v, -t, w, 0], 0), ([-t, w, s, v, 0], 1)])
+    chance.pick(&[(line(s, v, -t, w, 0), 0), (line(-t, w, s, v, 0), 1)])
 }
 
 /// How often d counts in the weight of a line's steps.
@@ -121,7 +121,7 @@ fn factor(line: &Line) -> i64 {
 fn sum(lines: &[Line], steps: &[u32]) -> i64 {
     let weight = |&step: &u32| {
         let line = &lines[step as usize / 2];
-        factor(line) * i64::from(line[4])
+        factor(line) * i64::from(line[BOUND])
     };
     steps.iter().map(weight).sum()
 }
@@ -159,15 +159,15 @@ fn point(chance: &mut Chance, n: u64) -> Point {
 /// as near to it as can be. Each step has a line of its own.
 fn settle(chance: &mut Chance, lines: &mut [Line], steps: &[u32], target: i64) {
     for &step in steps {
-        lines[step as usize / 2][4] = bound(chance);
+        lines[step as usize / 2][BOUND] = bound(chance);
     }
     let mut missing = target - sum(lines, steps);
     for &step in steps {
         let line = &mut lines[step as usize / 2];
-        let old = i64::from(line[4]);
+        let old = i64::from(line[BOUND]);
         let new = (old + missing.div_euclid(factor(line))).clamp(-LARGEST_BOUND, LARGEST_BOUND);
         missing -= factor(line) * (new - old);
-        line[4] = new as i32;
+        line[BOUND] = new as i32;
     }
 }
 
@@ -232,7 +232,7 @@ struct Step {
 /// All steps. A line a·x + b·y ≤ d leads from a·x to -b·y, and from b·y to -a·x.
 fn steps(lines: &[Line]) -> Vec<Step> {
     let mut steps = Vec::new();
-    for (at, &[a, x, b, y, _]) in lines.iter().enumerate() {
+    for (at, &[a, x, b, y, ..]) in lines.iter().enumerate() {
         let number = 2 * at as u32;
         match (a != 0, b != 0) {
             (true, true) => {
@@ -270,7 +270,7 @@ pub fn detour(chance: &mut Chance, n: u64, lines: &mut Vec<Line>, number: u32) -
     let from = steps(lines).iter().find(|step| step.number == number)?.from;
     let to = point(chance, n);
     let (mut line, side) = line_between(chance, from, to);
-    line[4] = bound(chance);
+    line[BOUND] = bound(chance);
     lines.push(line);
     Some(2 * (lines.len() as u32 - 1) + side)
 }
@@ -324,7 +324,7 @@ pub fn near_false_line(chance: &mut Chance, n: u64) -> (Vec<Line>, Proposal) {
     let count = chance.between(1, 6) as usize;
     let mut lines = lines(chance, n, count);
     let at = chance.below(count);
-    lines[at] = [0, 0, 0, 0, chance.pick(&[-1_000_000, -2, -1, -1, 0, 1])];
+    lines[at] = zero(chance.pick(&[-1_000_000, -2, -1, -1, 0, 1]));
     let named = if chance.one_in(4) {
         chance.below(count)
     } else {

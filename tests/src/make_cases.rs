@@ -1,10 +1,11 @@
 //! Makes inputs for the checkers at random: lists of all lengths, values for
 //! them, and refutations of which some are right.
 
-use crate::bytes::{self, Line};
+use crate::bytes;
 use crate::chance::Chance;
 use crate::damage::Input;
-use crate::limits::{LARGEST_VALUE, MOST_LINES};
+use crate::limits::{LARGEST_VALUE, MOST_LINES, NUMBER_BYTES};
+use crate::lines::Line;
 use crate::make::{self, Proposal};
 
 /// A number of lines, mostly small, seldom about as many as are let in.
@@ -50,7 +51,7 @@ impl Case {
             proposed: miscounted,
             ..base.clone()
         });
-        inputs.extend((0..5).map(|_| base.damaged(chance, 4)));
+        inputs.extend((0..5).map(|_| base.damaged(chance, NUMBER_BYTES)));
         inputs
     }
 }

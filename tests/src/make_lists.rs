@@ -1,19 +1,19 @@
 //! Makes valid lists to decide: tiny ones with small bounds, and ones of any size
 //! that are solvable, just solvable, just not, or solvable by halves only.
 
-use crate::bytes::Line;
 use crate::chance::Chance;
 use crate::limits::{LARGEST_BOUND, MOST_LINES, SMALL_LINES};
+use crate::lines::{line, lone, zero, Line, BOUND};
 use crate::make::left_side;
 
 /// A line with both variables, at times with one, and the bound 0.
-fn line(chance: &mut Chance, n: u64) -> Line {
+fn some_line(chance: &mut Chance, n: u64) -> Line {
     let mut term = || [chance.pick(&[-1, 1]), chance.below(n as usize) as i32];
     let [one, two] = [term(), term()];
     match chance.below(12) {
-        0 => [one[0], one[1], 0, 0, 0],
-        1 => [0, 0, two[0], two[1], 0],
-        _ => [one[0], one[1], two[0], two[1], 0],
+        0 => lone(one[0], one[1], 0),
+        1 => line(0, 0, two[0], two[1], 0),
+        _ => line(one[0], one[1], two[0], two[1], 0),
     }
 }
 
@@ -33,7 +33,7 @@ pub fn small(chance: &mut Chance) -> (u64, Vec<Line>) {
         _ => small_free(chance, n, count),
     };
     for line in &mut lines {
-        line[4] = line[4].clamp(-4, 4);
+        line[BOUND] = line[BOUND].clamp(-4, 4);
     }
     (n, lines)
 }
@@ -45,8 +45,12 @@ fn small_free(chance: &mut Chance, n: u64, count: usize) -> Vec<Line> {
     let lowest = chance.pick(&[-largest, -largest, -largest.min(1), 0]);
     let lines = (0..count).map(|_| {
         let nothing = n == 0 || chance.one_in(30);
-        let mut line = if nothing { [0; 5] } else { line(chance, n) };
-        line[4] = chance.between(lowest, largest) as i32;
+        let mut line = if nothing {
+            zero(0)
+        } else {
+            some_line(chance, n)
+        };
+        line[BOUND] = chance.between(lowest, largest) as i32;
         line
     });
     lines.collect()
@@ -85,7 +89,7 @@ impl Shape {
         };
         for line in &mut lines {
             if chance.one_in(2_000) {
-                *line = [0, 0, 0, 0, chance.pick(&[-1, 0, 1, -LARGEST_BOUND]) as i32];
+                *line = zero(chance.pick(&[-1, 0, 1, -LARGEST_BOUND]) as i32);
             }
         }
         chance
@@ -99,8 +103,8 @@ impl Shape {
     fn free(&self, chance: &mut Chance) -> Vec<Line> {
         let lowest = -self.largest / chance.pick(&[1, 4, 16, 64]);
         let lines = (0..self.count).map(|_| {
-            let mut line = line(chance, self.n);
-            line[4] = chance.between(lowest, self.largest) as i32;
+            let mut line = some_line(chance, self.n);
+            line[BOUND] = chance.between(lowest, self.largest) as i32;
             line
         });
         lines.collect()
@@ -113,11 +117,11 @@ impl Shape {
         let values: Vec<i64> = (0..self.n).map(|_| chance.between(-high, high)).collect();
         let often = chance.between(1, 4) as usize;
         let lines = (0..self.count).map(|_| {
-            let mut line = line(chance, self.n);
+            let mut line = some_line(chance, self.n);
             let least = -(-left_side(&line, &values)).div_euclid(divisor);
             let spare = chance.between(0, 1 + self.largest / 2);
             let bound = least + if chance.one_in(often) { 0 } else { spare };
-            line[4] = bound.min(LARGEST_BOUND) as i32;
+            line[BOUND] = bound.min(LARGEST_BOUND) as i32;
             line
         });
         lines.collect()
@@ -129,7 +133,7 @@ impl Shape {
         if !lines.is_empty() {
             let at = chance.below(lines.len());
             let lower = chance.between(1, 3) as i32;
-            lines[at][4] = (lines[at][4] - lower).max(-LARGEST_BOUND as i32);
+            lines[at][BOUND] = (lines[at][BOUND] - lower).max(-LARGEST_BOUND as i32);
         }
         lines
     }
@@ -142,13 +146,13 @@ impl Shape {
         let signs: Vec<i32> = order.iter().map(|_| chance.pick(&[-1, 1])).collect();
         for at in 0..order.len() {
             let next = (at + 1) % order.len();
-            walk.push([
+            walk.push(line(
                 signs[at],
                 order[at] as i32,
                 -signs[next],
                 order[next] as i32,
                 0,
-            ]);
+            ));
         }
         let sum = chance.between(-1, 1);
         self.settle(chance, &mut walk, sum);
@@ -171,10 +175,10 @@ impl Shape {
             let mut walk: Vec<Line> = Vec::new();
             for &variable in part.iter().filter(|&&variable| variable != order[0]) {
                 let next = (variable as i32, chance.pick(&[-1, 1]));
-                walk.push([at.1, at.0, -next.1, next.0, 0]);
+                walk.push(line(at.1, at.0, -next.1, next.0, 0));
                 at = next;
             }
-            walk.push([at.1, at.0, sign, order[0] as i32, 0]);
+            walk.push(line(at.1, at.0, sign, order[0] as i32, 0));
             self.settle(chance, &mut walk, sum);
             lines.extend(walk);
         }
@@ -187,12 +191,12 @@ impl Shape {
         for line in lines.iter_mut() {
             let bound = chance.between(-self.largest, self.largest);
             missing -= bound;
-            line[4] = bound as i32;
+            line[BOUND] = bound as i32;
         }
         for line in lines {
-            let new = (i64::from(line[4]) + missing).clamp(-LARGEST_BOUND, LARGEST_BOUND);
-            missing -= new - i64::from(line[4]);
-            line[4] = new as i32;
+            let new = (i64::from(line[BOUND]) + missing).clamp(-LARGEST_BOUND, LARGEST_BOUND);
+            missing -= new - i64::from(line[BOUND]);
+            line[BOUND] = new as i32;
         }
     }
 
@@ -200,8 +204,8 @@ impl Shape {
     fn with_others(&self, chance: &mut Chance, mut lines: Vec<Line>) -> Vec<Line> {
         lines.truncate(MOST_LINES);
         while lines.len() < self.count {
-            let mut line = line(chance, self.n);
-            line[4] = chance.between(LARGEST_BOUND / 2, LARGEST_BOUND) as i32;
+            let mut line = some_line(chance, self.n);
+            line[BOUND] = chance.between(LARGEST_BOUND / 2, LARGEST_BOUND) as i32;
             lines.push(line);
         }
         lines

@@ -1,9 +1,11 @@
 //! A second reader and writer of files for lists, written from the description
 //! of such files alone and sharing nothing with the library.
 
+use crate::limits::{KIND_END, KIND_LINE, KIND_VARIABLES};
+use crate::limits::{LINE_BYTES, LINE_NUMBERS, NUMBER_BYTES, RECORD_HEAD, VARIABLES_BYTES};
 use crate::second::{self, Answer};
 
-/// A list: its n and its numbers, five to a line.
+/// A list: its n and its numbers, line by line.
 #[derive(Clone, Debug, PartialEq, Eq)]
 pub struct List {
     pub n: u64,
@@ -22,19 +24,21 @@ pub fn read(file: &[u8], room: usize) -> Result<List, Refusal> {
     loop {
         let (kind, body) = record(&file[at..]).map_err(|number| (number, at as u64))?;
         // The first record gives n, and no other does.
-        if (kind == 1) != (at == 0) {
+        if (kind == KIND_VARIABLES) != (at == 0) {
             return Err((23, at as u64));
         }
-        if kind == 2 && numbers.len() + 5 > room {
+        if kind == KIND_LINE && numbers.len() + LINE_NUMBERS > room {
             return Err((25, at as u64));
         }
-        let words = body.chunks(4).map(|four| four.try_into().unwrap());
+        let words = body
+            .chunks(NUMBER_BYTES)
+            .map(|four| four.try_into().unwrap());
         match kind {
-            1 => words.for_each(|four| n = u64::from(u32::from_le_bytes(four))),
+            KIND_VARIABLES => words.for_each(|four| n = u64::from(u32::from_le_bytes(four))),
             _ => numbers.extend(words.map(i32::from_le_bytes)),
         }
-        at += 4 + body.len();
-        if kind == 3 {
+        at += RECORD_HEAD + body.len();
+        if kind == KIND_END {
             break;
         }
     }
@@ -49,23 +53,23 @@ pub fn read(file: &[u8], room: usize) -> Result<List, Refusal> {
 
 /// The kind and the body of the record at the front of these bytes, or the
 /// number of its refusal.
-fn record(bytes: &[u8]) -> Result<(u16, &[u8]), u64> {
-    let two = |at: usize| u16::from_le_bytes([bytes[at], bytes[at + 1]]);
-    if bytes.len() < 4 {
+fn record(bytes: &[u8]) -> Result<(usize, &[u8]), u64> {
+    let two = |at: usize| usize::from(u16::from_le_bytes([bytes[at], bytes[at + 1]]));
+    if bytes.len() < RECORD_HEAD {
         return Err(20);
     }
     let (length, kind) = (two(0), two(2));
     let due = match kind {
-        1 => 4,
-        2 => 20,
-        3 => 0,
+        KIND_VARIABLES => VARIABLES_BYTES,
+        KIND_LINE => LINE_BYTES,
+        KIND_END => 0,
         _ => return Err(21),
     };
     if length != due {
         return Err(22);
     }
-    let end = 4 + usize::from(length);
-    bytes.get(4..end).map(|body| (kind, body)).ok_or(20)
+    let body = bytes.get(RECORD_HEAD..RECORD_HEAD + length);
+    body.map(|body| (kind, body)).ok_or(20)
 }
 
 /// What the list itself is refused with, if it is.
@@ -91,16 +95,27 @@ pub fn write(n: u64, numbers: &[i32], room: usize) -> Result<Vec<u8>, Refusal> {
 
 /// The records of a list, which need not be valid but has whole lines.
 pub fn pack(n: u32, numbers: &[i32]) -> Vec<Vec<u8>> {
-    let mut records = vec![packed(4, 1, &n.to_le_bytes())];
-    for line in numbers.chunks(5) {
-        let body: Vec<u8> = line.iter().flat_map(|word| word.to_le_bytes()).collect();
-        records.push(packed(20, 2, &body));
-    }
-    records.push(packed(0, 3, &[]));
+    let mut records = vec![variables(n)];
+    records.extend(numbers.chunks(LINE_NUMBERS).map(line));
+    records.push(end());
     records
 }
 
-/// A record with this length, kind and body, which need not fit together.
-pub fn packed(length: u16, kind: u16, body: &[u8]) -> Vec<u8> {
-    [&length.to_le_bytes(), &kind.to_le_bytes(), body].concat()
+/// The record of n, of a line and of the end.
+pub fn variables(n: u32) -> Vec<u8> {
+    packed(VARIABLES_BYTES, KIND_VARIABLES, &n.to_le_bytes())
+}
+pub fn line(numbers: &[i32]) -> Vec<u8> {
+    let body: Vec<u8> = numbers.iter().flat_map(|word| word.to_le_bytes()).collect();
+    packed(LINE_BYTES, KIND_LINE, &body)
+}
+pub fn end() -> Vec<u8> {
+    packed(0, KIND_END, &[])
+}
+
+/// A record with this length, kind and body, which need not fit together. Length and
+/// kind have two bytes each.
+pub fn packed(length: usize, kind: usize, body: &[u8]) -> Vec<u8> {
+    let two = |number: usize| u16::try_from(number).unwrap().to_le_bytes();
+    [&two(length), &two(kind), body].concat()
 }

@@ -4,9 +4,10 @@
 //! then looks at them rule by rule.
 
 use crate::buffers::needed;
-use crate::limits::{LARGEST_BOUND, LARGEST_VALUE, MOST_LINES, MOST_N, MOST_REFUTATION};
+use crate::limits::{LARGEST_BOUND, LARGEST_VALUE, LINE_BYTES, LINE_NUMBERS};
+use crate::limits::{MOST_LINES, MOST_N, MOST_REFUTATION, NUMBER_BYTES};
 
-const MOST_REFUTATION_BYTES: usize = 4 * MOST_REFUTATION;
+const MOST_REFUTATION_BYTES: usize = NUMBER_BYTES * MOST_REFUTATION;
 
 /// What a checker answers.
 #[derive(Clone, Copy, Debug, PartialEq, Eq)]
@@ -133,24 +134,21 @@ fn read_list(n: u64, list: &[u8]) -> Result<Vec<Line>, Answer> {
     if n > MOST_N {
         return Err(Answer::Refused(1, 0));
     }
-    if list.len() % 20 != 0 {
+    if list.len() % LINE_BYTES != 0 {
         return Err(Answer::Refused(2, 0));
     }
-    if list.len() / 20 > MOST_LINES {
+    if list.len() / LINE_BYTES > MOST_LINES {
         return Err(Answer::Refused(3, 0));
     }
     let numbers: Vec<i32> = list
-        .chunks(4)
+        .chunks(NUMBER_BYTES)
         .map(|four| i32::from_le_bytes(four.try_into().unwrap()))
         .collect();
     let lines: Vec<Line> = numbers
-        .chunks(5)
-        .map(|five| Line {
-            a: five[0],
-            x: five[1],
-            b: five[2],
-            y: five[3],
-            d: five[4],
+        .chunks(LINE_NUMBERS)
+        .map(|line| match *line {
+            [a, x, b, y, d, ..] => Line { a, x, b, y, d },
+            _ => unreachable!(),
         })
         .collect();
     for (place, line) in lines.iter().enumerate() {
@@ -253,11 +251,11 @@ pub fn decide_refusal(n: u64, list: &[i32], lengths: [usize; 5]) -> Option<Answe
 
 /// The head's rules in their order, and then the steps.
 fn break_in(lines: &[Line], bytes: &[u8]) -> Option<(usize, Fault)> {
-    if bytes.len() % 4 != 0 {
+    if bytes.len() % NUMBER_BYTES != 0 {
         return Some((0, Fault::Bytes));
     }
     let numbers: Vec<u32> = bytes
-        .chunks(4)
+        .chunks(NUMBER_BYTES)
         .map(|four| u32::from_le_bytes(four.try_into().unwrap()))
         .collect();
     if numbers.len() < 3 {
