@@ -29,15 +29,6 @@
 #define LINE_FORMAT "%" PRId32 " %" PRId32 " %" PRId32 " %" PRId32 " %" PRId32
 #define MOST_SHOWN_LINE 64
 
-/* The refusals of a list that is given as records. */
-enum record_refusal {
-    RECORD_CUT = 20,
-    RECORD_UNKNOWN = 21,
-    RECORD_LENGTH = 22,
-    RECORD_MISPLACED = 23,
-    RECORD_AFTER_END = 24
-};
-
 /* The exit statuses. */
 enum status { STATUS_YES = 0, STATUS_NO = 1, STATUS_BAD = 2, STATUS_DISAGREE = 3 };
 
