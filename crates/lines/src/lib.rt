@@ -43,41 +43,35 @@ pub enum Validity {
     Refused(Refusal),
 }
 
-// Document 01's number of a refusal.
-pub fn number_of(r: Refusal) -> usize
-    ensures { λ k. ⌜ k ≡ numberOf r ⌝ }
-{
-    match r {
-        Refusal::TooManyVariables => 1,
-        Refusal::BrokenLength => 2,
-        Refusal::TooManyLines => 3,
-        Refusal::BadCoefficient(_) => 4,
-        Refusal::BadVariable(_) => 5,
-        Refusal::BadConstant(_) => 6,
-        Refusal::ShortOutput(_) => 7,
-        Refusal::ShortWorkArea => 8,
-        Refusal::WrongModelLength => 9,
-        Refusal::BadValue(_) => 10,
-        Refusal::LongRefutation => 11,
-    }
+// Document 01's number and place of a refusal.
+pub struct Numbered {
+    pub number: usize,
+    pub place: usize,
 }
 
-// Document 01's place of a refusal.
-pub fn place_of(r: Refusal) -> usize
-    ensures { λ k. ⌜ k ≡ placeOf r ⌝ }
+// This number and this place.
+pub fn numbered_at(number: usize, place: usize) -> Numbered
+    ensures { λ r. ⌜ (r .number ≡ number) × (r .place ≡ place) ⌝ }
+{
+    Numbered { number, place }
+}
+
+// Document 01's table: the number and the place of each refusal.
+pub fn number_and_place(r: Refusal) -> Numbered
+    ensures { λ s. ⌜ (s .number ≡ numberOf r) × (s .place ≡ placeOf r) ⌝ }
 {
     match r {
-        Refusal::TooManyVariables => 0,
-        Refusal::BrokenLength => 0,
-        Refusal::TooManyLines => 0,
-        Refusal::BadCoefficient(k) => k,
-        Refusal::BadVariable(k) => k,
-        Refusal::BadConstant(k) => k,
-        Refusal::ShortOutput(k) => k,
-        Refusal::ShortWorkArea => 0,
-        Refusal::WrongModelLength => 0,
-        Refusal::BadValue(k) => k,
-        Refusal::LongRefutation => 0,
+        Refusal::TooManyVariables => numbered_at(1, 0),
+        Refusal::BrokenLength => numbered_at(2, 0),
+        Refusal::TooManyLines => numbered_at(3, 0),
+        Refusal::BadCoefficient(k) => numbered_at(4, k),
+        Refusal::BadVariable(k) => numbered_at(5, k),
+        Refusal::BadConstant(k) => numbered_at(6, k),
+        Refusal::ShortOutput(k) => numbered_at(7, k),
+        Refusal::ShortWorkArea => numbered_at(8, 0),
+        Refusal::WrongModelLength => numbered_at(9, 0),
+        Refusal::BadValue(k) => numbered_at(10, k),
+        Refusal::LongRefutation => numbered_at(11, 0),
     }
 }
 
