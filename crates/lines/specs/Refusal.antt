@@ -84,6 +84,11 @@ abbrev pub firstBroken : List Rule → ℕ → ℕ → Line → Validity
 firstBroken [] n k l = Valid
 firstBroken (r ∷ rs) n k l = refuseIf (not (r .ok n l)) (r .refusal k) orElse firstBroken rs n k l
 
+-- the test of the rule that has this refusal, wherever it stands
+abbrev pub ruleOf : (ℕ → Refusal) → List Rule → ℕ → Line → Bool
+ruleOf refusal [] n l = true
+ruleOf refusal (r ∷ rs) n l = cond (eqb (numberOf (r .refusal 0)) (numberOf (refusal 0))) (r .ok n l) (ruleOf refusal rs n l)
+
 abbrev pub lineValidity : ℕ → ℕ → Line → Validity
 lineValidity n k l = firstBroken lineRules n k l
 

@@ -7,10 +7,11 @@ use limits::MAX_CONSTANT;
 use limits::MAX_LINES;
 use limits::MAX_VARIABLES;
 ghost use mathlib.Core.Path.{_≡_};
+ghost use mathlib.Core.Bool.{not};
 ghost use Prim.Native.Nat.{_<_, _≤_};
 ghost use Rattle.lines.specs.Limits.{maxVariables};
 ghost use Rattle.lines.specs.Line.{lineAt, lineCount, linesOf, isFalse};
-ghost use Rattle.lines.specs.Refusal.{numberOf, placeOf, coefficientsOk, variableOk, variablesOk, constantOk, lineValidity, linesValidity, validityOf};
+ghost use Rattle.lines.specs.Refusal.{numberOf, placeOf, _orElse_, refuseIf, coefficientsOk, variableOk, variablesOk, constantOk, lineValidity, linesValidity, validityOf};
 ghost use Rattle.integers.specs.Integer.{isBetween};
 
 // One line: a·x + b·y <= d. x and y are the numbers of variables (the field's term: a UTVPI constraint).
@@ -130,21 +131,29 @@ fn constant_ok(line: Line) -> bool
     in_range(-MAX_CONSTANT, MAX_CONSTANT, line.d)
 }
 
-// The first rule that line number k breaks.
+// What was found before, or else the refusal of a rule that is broken.
+fn or_unless(found: Validity, ok: bool, r: Refusal) -> Validity
+    ensures { λ v. ⌜ v ≡ (found orElse refuseIf (not ok) r) ⌝ }
+{
+    if let Validity::Refused(q) = found {
+        return Validity::Refused(q);
+    }
+    if ok {
+        return Validity::Valid;
+    }
+    Validity::Refused(r)
+}
+
+// The first rule that line number k breaks: a line here for each, in the order of specs/Refusal.antt.
 pub fn line_validity(n: usize, k: usize, line: Line) -> Validity
     requires { ⌜ n ≤ maxVariables ⌝ }
     ensures { λ r. ⌜ r ≡ lineValidity n k line ⌝ }
 {
-    if !coefficients_ok(line) {
-        return Validity::Refused(Refusal::BadCoefficient(k));
-    }
-    if !variables_ok(n, line) {
-        return Validity::Refused(Refusal::BadVariable(k));
-    }
-    if !constant_ok(line) {
-        return Validity::Refused(Refusal::BadConstant(k));
-    }
-    Validity::Valid
+    let found = Validity::Valid;
+    let found = or_unless(found, coefficients_ok(line), Refusal::BadCoefficient(k));
+    let found = or_unless(found, variables_ok(n, line), Refusal::BadVariable(k));
+    let found = or_unless(found, constant_ok(line), Refusal::BadConstant(k));
+    found
 }
 
 // The first refusal among the lines.
