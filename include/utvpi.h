@@ -264,14 +264,8 @@ int64_t utvpi_refutation_end(utvpi_progress kept, uint64_t n,
 /* Reading writes the list's numbers to the front of the buffer: UTVPI_LINE_NUMBERS
  * for each line. On a refusal the buffer is left as it was; else what lies beyond
  * the lines is. On a refusal n and lines are 0, else refusal and place are.
- * Besides the refusals of a list below, with their places, which come last:
- *
- *     20   a record is cut: the place is its byte offset
- *     21   an unknown kind, at the record's offset
- *     22   the wrong length for the kind, at the record's offset
- *     23   a record out of place, at its offset
- *     24   bytes after the end, at the first of them
- *     25   the buffer has no room for this line, at its record's offset
+ * Besides the refusals of a list, with their places, which come last, it gives
+ * UTVPI_RECORD_CUT and those after it: see enum utvpi_refusal.
  *
  * Where refusal is 0, the list was read. */
 typedef struct utvpi_file_read {
@@ -282,7 +276,7 @@ utvpi_file_read utvpi_read_list(const uint8_t *bytes, size_t bytes_len,
                                 int32_t *numbers, size_t numbers_len);
 
 /* Writing writes the file to the front of the buffer. It refuses what the list's
- * own refusals refuse, then 25 at place 0 where the buffer is shorter than the
+ * own refusals refuse, then gives UTVPI_NO_ROOM where the buffer is shorter than the
  * file; a refusal leaves the buffer as it was, and bytes is 0. Where refusal is 0,
  * the file was written and has so many bytes; what lies beyond it is left as it
  * was. */
@@ -356,7 +350,31 @@ enum utvpi_refusal {
     /* The refutation has more than UTVPI_MOST_REFUTATION numbers, of four bytes
      * each: look for a shorter one. A list that no whole numbers meet always has
      * one of at most 4*n + 4 numbers. */
-    UTVPI_LONG_REFUTATION = 11
+    UTVPI_LONG_REFUTATION = 11,
+
+    /* The file ends before this record does, or before the record of kind 3 that
+     * ends a list: look for a missing end. Of this and the next four the place is
+     * a byte offset, that of the record. Only reading a file gives them. */
+    UTVPI_RECORD_CUT = 20,
+
+    /* The record's kind is not 1, 2 or 3: look for a damaged part. */
+    UTVPI_RECORD_UNKNOWN = 21,
+
+    /* The record's length is not that of its kind: look for a damaged part. */
+    UTVPI_RECORD_LENGTH = 22,
+
+    /* The record is out of place, as kind 1 stands first and only there: look for
+     * records left out or added. */
+    UTVPI_RECORD_MISPLACED = 23,
+
+    /* Bytes follow the record of kind 3; the place is that of the first of them:
+     * cut the file off there. */
+    UTVPI_RECORD_AFTER_END = 24,
+
+    /* The buffer has no room: lend a longer one. Of reading, for the line whose
+     * record begins at this byte offset; of writing, for the file, and the place
+     * is 0. Only these two give it. */
+    UTVPI_NO_ROOM = 25
 };
 
 /* The places of UTVPI_SHORT_OUTPUT. */

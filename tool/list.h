@@ -33,16 +33,6 @@
  * it a blank or the end. */
 #define MOST_SHOWN_LINE (12 * UTVPI_LINE_NUMBERS)
 
-/* The refusals of a list that is given as records, or that is written so. */
-enum record_refusal {
-    RECORD_CUT = 20,
-    RECORD_UNKNOWN = 21,
-    RECORD_LENGTH = 22,
-    RECORD_MISPLACED = 23,
-    RECORD_AFTER_END = 24,
-    RECORD_NO_ROOM = 25
-};
-
 /* The exit statuses. */
 enum status { STATUS_YES = 0, STATUS_NO = 1, STATUS_BAD = 2, STATUS_DISAGREE = 3 };
 

@@ -51,19 +51,19 @@ static int fault_of(struct text input, size_t at)
 {
     size_t left = input.length - at;
     if (left < UTVPI_RECORD_HEAD) {
-        return RECORD_CUT;
+        return UTVPI_RECORD_CUT;
     }
     uint32_t length = unpack(input.at + at, 2), kind = unpack(input.at + at + 2, 2);
     if (kind < UTVPI_KIND_VARIABLES || kind > UTVPI_KIND_END) {
-        return RECORD_UNKNOWN;
+        return UTVPI_RECORD_UNKNOWN;
     }
     if (length != body_of[kind]) {
-        return RECORD_LENGTH;
+        return UTVPI_RECORD_LENGTH;
     }
     if (left - UTVPI_RECORD_HEAD < length) {
-        return RECORD_CUT;
+        return UTVPI_RECORD_CUT;
     }
-    return (kind == UTVPI_KIND_VARIABLES) == (at == 0) ? 0 : RECORD_MISPLACED;
+    return (kind == UTVPI_KIND_VARIABLES) == (at == 0) ? 0 : UTVPI_RECORD_MISPLACED;
 }
 
 /* Looks at all records, however many: what is wrong with the last of them comes
@@ -80,7 +80,7 @@ static struct damage first_damage(struct text input)
         kind = unpack(input.at + fault.at + 2, 2);
         fault.at += UTVPI_RECORD_HEAD + body_of[kind];
     }
-    fault.number = fault.at < input.length ? RECORD_AFTER_END : 0;
+    fault.number = fault.at < input.length ? UTVPI_RECORD_AFTER_END : 0;
     return fault;
 }
 

@@ -2,101 +2,112 @@
  * or the byte of the file, and what to do. */
 #include "list.h"
 
+/* What of the file a refusal is about: nothing that stands there, the line that
+ * says how many variables there are, the first rule too many, or the rule at the
+ * refusal's place. */
+enum about { NOTHING, VARIABLES, RULE_TOO_MANY, RULE_AT_PLACE };
+
 struct words {
     const char *what;
     const char *advice;
+    enum about about;
 };
 
-static struct words words_of(int number)
+/* The table of refusals. A number of the library's header that has no row here is
+ * an error, whatever the compiler's options are. */
+#pragma GCC diagnostic error "-Wswitch"
+static struct words words_of(enum utvpi_refusal number)
 {
     static const char fault[] = "this is a fault of this program, not of the file: report it";
+    static const char again[] = "look for a damaged part, or get the file again";
+    static char length[128];
     switch (number) {
     case UTVPI_TOO_MANY_VARIABLES:
         return (struct words){"there are more than " AS_TEXT(UTVPI_MOST_VARIABLES) " events",
-                              "use fewer, or decide parts that share no event one by one"};
+                              "use fewer, or decide parts that share no event one by one",
+                              VARIABLES};
+    case UTVPI_BROKEN_LIST_LENGTH:
+        return (struct words){"the list has a broken length", fault, NOTHING};
     case UTVPI_TOO_MANY_LINES:
         return (struct words){"there are more than " AS_TEXT(UTVPI_MOST_LINES)
                               " rules; one with = counts twice",
-                              "leave out rules that add nothing"};
+                              "leave out rules that add nothing", RULE_TOO_MANY};
     case UTVPI_BAD_COEFFICIENT:
         return (struct words){"a coefficient, the first or third number, is not -1, 0 or 1",
-                              "correct it, or write the rule in another way"};
+                              "correct it, or write the rule in another way", RULE_AT_PLACE};
     case UTVPI_BAD_VARIABLE:
         return (struct words){"a variable number is below 0 or not below the number of variables,"
                               " or is not 0 beside the coefficient 0",
                               "correct the second or fourth number, or the line that says how many"
-                              " variables there are"};
+                              " variables there are",
+                              RULE_AT_PLACE};
     case UTVPI_BAD_BOUND:
         return (struct words){"the bound is below -1,000,000 or above 1,000,000",
-                              "choose a coarser unit, or an origin nearer to the values"};
+                              "choose a coarser unit, or an origin nearer to the values",
+                              RULE_AT_PLACE};
+    case UTVPI_SHORT_OUTPUT:
+        return (struct words){"a buffer for output is too short", fault, NOTHING};
+    case UTVPI_SHORT_WORK_AREA:
+        return (struct words){"the work area is too short", fault, NOTHING};
+    case UTVPI_BAD_MODEL_LENGTH:
+        return (struct words){"the model has not one value for each event", fault, NOTHING};
+    case UTVPI_BAD_MODEL_VALUE:
+        return (struct words){"a value of the model is below -1,000,000,000,000 or above"
+                              " 1,000,000,000,000",
+                              fault, NOTHING};
     case UTVPI_LONG_REFUTATION:
         return (struct words){"the refutation has more than " AS_TEXT(UTVPI_MOST_REFUTATION)
                               " numbers",
-                              "look for a shorter one; with --numbers this program gives one"};
-    case UTVPI_BROKEN_LIST_LENGTH:
-        return (struct words){"the list has a broken length", fault};
-    case UTVPI_SHORT_OUTPUT:
-        return (struct words){"a buffer for output is too short", fault};
-    case UTVPI_SHORT_WORK_AREA:
-        return (struct words){"the work area is too short", fault};
-    case RECORD_NO_ROOM:
-        return (struct words){"the buffer for the records is too short", fault};
-    default:
-        return (struct words){"this number is not known", fault};
-    }
-}
-
-/* The same for a refusal of records. */
-static struct words words_of_fault(int number)
-{
-    static const char again[] = "look for a damaged part, or get the file again";
-    static char length[128];
-    switch (number) {
-    case RECORD_CUT:
+                              "look for a shorter one; with --numbers this program gives one",
+                              NOTHING};
+    case UTVPI_RECORD_CUT:
         return (struct words){"the file ends before this record does, or before the record of"
                               " kind 3 that ends a list",
-                              "get the file again: the end is missing"};
-    case RECORD_UNKNOWN:
+                              "get the file again: the end is missing", NOTHING};
+    case UTVPI_RECORD_UNKNOWN:
         return (struct words){"this record's kind, its third and fourth byte, is not 1, 2 or 3",
-                              again};
-    case RECORD_LENGTH:
+                              again, NOTHING};
+    case UTVPI_RECORD_LENGTH:
         snprintf(length, sizeof length,
                  "this record's length, its first two bytes, is not %d for kind %d, %zu for kind"
                  " %d or 0 for kind %d",
                  UTVPI_VARIABLES_BYTES, UTVPI_KIND_VARIABLES, UTVPI_LINE_BYTES, UTVPI_KIND_LINE,
                  UTVPI_KIND_END);
-        return (struct words){length, again};
-    case RECORD_MISPLACED:
+        return (struct words){length, again, NOTHING};
+    case UTVPI_RECORD_MISPLACED:
         return (struct words){"this record is out of place: kind 1, the number of variables,"
                               " stands first and only there",
-                              again};
-    default:
+                              again, NOTHING};
+    case UTVPI_RECORD_AFTER_END:
         return (struct words){"something follows the record that ends the list",
-                              "cut the file off at this byte, or get it again"};
+                              "cut the file off at this byte, or get it again", NOTHING};
+    case UTVPI_NO_ROOM:
+        return (struct words){"a buffer has no room for the list, or for its file", fault,
+                              NOTHING};
     }
+    return (struct words){"this number is not known", fault, NOTHING};
 }
 
 /* Prints a refusal of records, and the byte where the record begins. */
 void print_fault(const struct list *list, int number, size_t at)
 {
-    struct words words = words_of_fault(number);
+    struct words words = words_of(number);
     fprintf(stderr, "utvpi: %s, byte %zu: refused with number %d, place %zu: %s.\n", list->file,
             at, number, at, words.what);
     fprintf(stderr, "  What to do: %s.\n", words.advice);
 }
 
 /* The rule that a refusal is about; line 0 where it is about none. */
-static struct origin offender(const struct list *list, int number, size_t place)
+static struct origin offender(const struct list *list, enum about about, size_t place)
 {
     static const struct origin none = {0, {"", 0}};
-    if (number == UTVPI_TOO_MANY_VARIABLES) {
+    if (about == VARIABLES) {
         return list->variables_from;
     }
-    if (number == UTVPI_TOO_MANY_LINES && list->count > UTVPI_MOST_LINES) {
+    if (about == RULE_TOO_MANY && list->count > UTVPI_MOST_LINES) {
         return list->origins[UTVPI_MOST_LINES];
     }
-    if (number >= UTVPI_BAD_COEFFICIENT && number <= UTVPI_BAD_BOUND &&
-        place < list->count) {
+    if (about == RULE_AT_PLACE && place < list->count) {
         return list->origins[place];
     }
     return none;
@@ -106,7 +117,7 @@ static struct origin offender(const struct list *list, int number, size_t place)
 void print_refusal(const struct list *list, const char *file, int number, size_t place)
 {
     struct words words = words_of(number);
-    struct origin origin = offender(list, number, place);
+    struct origin origin = offender(list, words.about, place);
     fprintf(stderr, "utvpi: %s", file);
     if (origin.line > 0) {
         fprintf(stderr, list->records ? ", byte %zu" : ", line %zu",

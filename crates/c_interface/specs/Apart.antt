@@ -1,5 +1,5 @@
 -- The numbers returned tell the answers apart, and what a returned yes and a returned no say of the bytes.
-use mathlib.Core.Path.{_≡_, refl, sym, ap, ap₂, _∙_}
+use mathlib.Core.Path.{_≡_, refl, sym, ap}
 use mathlib.Core.Logic.{_⊎_, inl, inr, _↔_}
 use mathlib.Core.Bool.{Bool, true, false, cond}
 use mathlib.Core.List.{List}
@@ -12,10 +12,11 @@ use lib.ListN.{length}
 use Rattle.integers.specs.Linear.{ints}
 use Rattle.integers.specs.Laws.{never}
 use Rattle.lines.specs.declared.Refusal.{Refusal}
-use Rattle.lines.specs.declared.Refusal.the-variants.{TooManyVariables, BrokenLength, TooManyLines, BadCoefficient, BadVariable, BadConstant, ShortOutput, ShortWorkArea, WrongModelLength, BadValue, LongRefutation}
+use Rattle.lines.specs.declared.Refusal.the-variants.{LongRefutation}
 use Rattle.lines.specs.declared.Validity.the-variants as validity
 use Rattle.lines.specs.Limits.{maxRefutation}
 use Rattle.lines.specs.Refusal.{numberOf, placeOf, refuseIf}
+use Rattle.lines.specs.Numbers.{number-some, one-refusal}
 use Rattle.lines.specs.Valid.{not-refused}
 use Rattle.little_endian.specs.Bytes.{le32, int32s, nat32s, length-firstOf}
 use Rattle.model.specs.declared.ModelAnswer.{ModelAnswer}
@@ -35,47 +36,6 @@ use Rattle.c_interface.specs.Codes.{noCode, refusalUnit, refusalCode, mo
 use Rattle.c_interface.specs.Calls.{numberBytes, bytesValidity, refutationOfNumbers, refutationOfBytes, checkRefutation}
 use Rattle.c_interface.specs.Laws.{valid-bytes}
 
--- ---- a refusal is known by its number and place
-refusalOf : ℕ → ℕ → Refusal
-refusalOf n k =
-    cond (eqb n 1) TooManyVariables
-    (cond (eqb n 2) BrokenLength
-    (cond (eqb n 3) TooManyLines
-    (cond (eqb n 4) (BadCoefficient k)
-    (cond (eqb n 5) (BadVariable k)
-    (cond (eqb n 6) (BadConstant k)
-    (cond (eqb n 7) (ShortOutput k)
-    (cond (eqb n 8) ShortWorkArea
-    (cond (eqb n 9) WrongModelLength
-    (cond (eqb n 10) (BadValue k) LongRefutation)))))))))
-
-refusal-back : (r : Refusal) → refusalOf (numberOf r) (placeOf r) ≡ r
-unfolding refusalOf
-refusal-back TooManyVariables = refl
-refusal-back BrokenLength = refl
-refusal-back TooManyLines = refl
-refusal-back (BadCoefficient k) = refl
-refusal-back (BadVariable k) = refl
-refusal-back (BadConstant k) = refl
-refusal-back (ShortOutput k) = refl
-refusal-back ShortWorkArea = refl
-refusal-back WrongModelLength = refl
-refusal-back (BadValue k) = refl
-refusal-back LongRefutation = refl
-
-pub number-some : (r : Refusal) → 0 < numberOf r
-number-some TooManyVariables = omega arith
-number-some BrokenLength = omega arith
-number-some TooManyLines = omega arith
-number-some (BadCoefficient k) = omega arith
-number-some (BadVariable k) = omega arith
-number-some (BadConstant k) = omega arith
-number-some (ShortOutput k) = omega arith
-number-some ShortWorkArea = omega arith
-number-some WrongModelLength = omega arith
-number-some (BadValue k) = omega arith
-number-some LongRefutation = omega arith
-
 same-number : (a b : ℕ) → negℤ (pos a) ≡ negℤ (pos b) → a ≡ b
 same-number a b = simp ints (omega arith)
 
@@ -87,9 +47,7 @@ refusals-apart : (r s : Refusal) → placeOf r < refusalUnit → placeOf s < ref
 unfolding refusalCode
 refusals-apart r s h k e =
     let q : numberOf r * refusalUnit + placeOf r ≡ numberOf s * refusalUnit + placeOf s = same-number _ _ e in
-    let n : numberOf r ≡ numberOf s = omega arith in
-    let p : placeOf r ≡ placeOf s = omega arith in
-    sym (refusal-back r) ∙ ap₂ refusalOf n p ∙ refusal-back s
+    one-refusal r s (omega arith) (omega arith)
 
 pub no-refusal : (n : ℕ) (r : Refusal) → pos n ≡ refusalCode r → ⊥
 unfolding refusalCode

@@ -1,9 +1,7 @@
 -- The number that each answer is returned as.
-use Prim.Native.Nat.{ℕ, _+_, _*_, _<_}
-use native.Mathlib.Omega.{arith}
+use Prim.Native.Nat.{ℕ, _+_, _*_}
 use lib.IntN.{ℤ, pos, negℤ}
 use Rattle.lines.specs.declared.Refusal.{Refusal}
-use Rattle.lines.specs.declared.Refusal.the-variants.{TooManyVariables, BrokenLength, TooManyLines, BadCoefficient, BadVariable, BadConstant, ShortOutput, ShortWorkArea, WrongModelLength, BadValue, LongRefutation}
 use Rattle.lines.specs.Refusal.{numberOf, placeOf}
 use Rattle.model.specs.declared.ModelAnswer.{ModelAnswer}
 use Rattle.model.specs.declared.ModelAnswer.the-variants.{Yes, No, Refused}
@@ -37,16 +35,3 @@ abbrev pub decideCode : Answer → ℤ
 decideCode decide.Yes = pos 0
 decideCode decide.No = pos noCode
 decideCode (decide.Refused r) = refusalCode r
-
-pub number-small : (r : Refusal) → numberOf r < 12
-number-small TooManyVariables = omega arith
-number-small BrokenLength = omega arith
-number-small TooManyLines = omega arith
-number-small (BadCoefficient k) = omega arith
-number-small (BadVariable k) = omega arith
-number-small (BadConstant k) = omega arith
-number-small (ShortOutput k) = omega arith
-number-small ShortWorkArea = omega arith
-number-small WrongModelLength = omega arith
-number-small (BadValue k) = omega arith
-number-small LongRefutation = omega arith

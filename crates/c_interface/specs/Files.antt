@@ -8,6 +8,7 @@ use lib.IntN.{ℤ}
 use lib.ListN.{length, take, drop}
 use Rattle.lines.specs.Limits.{lineSize, maxVariables}
 use Rattle.lines.specs.Line.{lineCount}
+use Rattle.lines.specs.Numbers.{number-some}
 use Rattle.little_endian.specs.Bytes.{AreBytes}
 use Rattle.records.specs.declared.FileRefusal.{FileRefusal}
 use Rattle.records.specs.declared.FileRefusal.the-variants.{Cut, UnknownKind, WrongLength, OutOfPlace, Trailing, NoRoom, List as OfList}
@@ -24,7 +25,6 @@ use Rattle.list_file.specs.Write as writing
 use Rattle.list_file.specs.Calls.{write-then-read, read-then-write}
 use Rattle.c_interface.specs.declared.FileRead.{FileRead}
 use Rattle.c_interface.specs.declared.FileWritten.{FileWritten}
-use Rattle.c_interface.specs.Apart.{number-some}
 
 abbrev pub fileRead : ReadAnswer → FileRead
 fileRead (read.Read z) = record { refusal = 0; place = 0; n = z .n; lines = z .lines }

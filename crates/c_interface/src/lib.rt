@@ -9,8 +9,7 @@ use lines::limits::MAX_LINES;
 use lines::limits::MAX_REFUTATION;
 use lines::limits::MAX_VARIABLES;
 use lines::list_validity;
-use lines::number_of;
-use lines::place_of;
+use lines::number_and_place;
 use list_file::ReadAnswer;
 use list_file::WriteAnswer;
 use list_file::read_list;
@@ -23,8 +22,7 @@ use model::check_model;
 use pieces::begin;
 use pieces::end;
 use pieces::take_on;
-use records::file_number;
-use records::file_place;
+use records::file_number_and_place;
 use refutation::Progress;
 use refutation::RefutationAnswer;
 ghost use mathlib.Core.Path.{_≡_};
@@ -63,7 +61,8 @@ fn refusal_code(r: Refusal) -> i64
     requires { ⌜ placeOf r < refusalUnit ⌝ }
     ensures { λ k. ⌜ k ≡ refusalCode r ⌝ }
 {
-    let code = number_of(r) * REFUSAL_UNIT + place_of(r);
+    let s = number_and_place(r);
+    let code = s.number * REFUSAL_UNIT + s.place;
     -(code as i64)
 }
 
@@ -321,12 +320,15 @@ fn read_result(a: ReadAnswer) -> FileRead
             n: z.n as u64,
             lines: z.lines as u64,
         },
-        ReadAnswer::Refused(r) => FileRead {
-            refusal: file_number(r) as u64,
-            place: file_place(r) as u64,
-            n: 0,
-            lines: 0,
-        },
+        ReadAnswer::Refused(r) => {
+            let s = file_number_and_place(r);
+            FileRead {
+                refusal: s.number as u64,
+                place: s.place as u64,
+                n: 0,
+                lines: 0,
+            }
+        }
     }
 }
 
@@ -340,11 +342,14 @@ fn write_result(a: WriteAnswer) -> FileWritten
             place: 0,
             bytes: k as u64,
         },
-        WriteAnswer::Refused(r) => FileWritten {
-            refusal: file_number(r) as u64,
-            place: file_place(r) as u64,
-            bytes: 0,
-        },
+        WriteAnswer::Refused(r) => {
+            let s = file_number_and_place(r);
+            FileWritten {
+                refusal: s.number as u64,
+                place: s.place as u64,
+                bytes: 0,
+            }
+        }
     }
 }
 

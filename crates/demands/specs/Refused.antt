@@ -23,7 +23,7 @@ use Rattle.lines.specs.declared.Validity.{Validity}
 use Rattle.lines.specs.declared.Validity.the-variants.{Valid, Refused}
 use Rattle.lines.specs.Limits.{lineSize, maxVariables, maxLines, maxConstant, maxValue, maxRefutation}
 use Rattle.lines.specs.Line.{number, lineAt, lineCount, linesOf}
-use Rattle.lines.specs.Refusal.{placeOf, _orElse_, refuseIf, coefficientsOk, variableOk, variablesOk, constantOk, lineValidity, linesValidity, validityOf}
+use Rattle.lines.specs.Refusal.{placeOf, _orElse_, refuseIf, coefficientsOk, variableOk, variablesOk, constantOk, Rule, lineRules, firstBroken, lineValidity, linesValidity, validityOf}
 use Rattle.lines.specs.Laws.{validity-from, validity-past}
 use Rattle.buffers.specs.Room.{boundsRoom, refutationRoom, workRoom, outputsValidity, decideValidity}
 use Rattle.answers.specs.Verdict.{verdictOf}
@@ -178,13 +178,37 @@ variable-test n a x = go (eqZ a (pos 0)) (zero-test a)
         let u = either-test (leZ (pos 0) x) (ltZ x (pos n)) (above-test (pos 0) x) (at-least-test x (pos n)) in
         ((λ e. inl ((λ h. false≢true (z .1 h)), u .0 e)), (λ w. ⊎-elim (λ h. u .1 (h .1)) (λ h. absurd (false≢true (z .1 (h .0)))) w))
 
+-- ---- the rules of a line: the test of each
+coefficients-test : (l : Line) → Tells (not (coefficientsOk l)) ((IsCoefficient (l .a) → ⊥) ⊎ (IsCoefficient (l .b) → ⊥))
+unfolding coefficientsOk
+coefficients-test l = either-test (isWithin 1 (l .a)) (isWithin 1 (l .b)) (not-test (coefficient-test (l .a))) (not-test (coefficient-test (l .b)))
+
+variables-test : (n : ℕ) (l : Line) → Tells (not (variablesOk n l)) (WrongVariable n (l .a) (l .x) ⊎ WrongVariable n (l .b) (l .y))
+unfolding variablesOk
+variables-test n l = either-test (variableOk n (l .a) (l .x)) (variableOk n (l .b) (l .y)) (variable-test n (l .a) (l .x)) (variable-test n (l .b) (l .y))
+
+constant-test : (l : Line) → Tells (not (constantOk l)) (Outside maxConstant (l .d))
+unfolding constantOk
+constant-test l = outside-test maxConstant (l .d)
+
+-- each rule in turn has its row: the rule's refusal of line number k, and a condition that its test tells
+Rows : ℕ → ℕ → Line → List Rule → List Row → Type 0
+Rows n k l [] [] = Unit {0}
+Rows n k l [] (row ∷ rows) = ⊥
+Rows n k l (r ∷ rs) [] = ⊥
+Rows n k l (r ∷ rs) (row ∷ rows) = (r .refusal k ≡ row .refusal) × Tells (not (r .ok n l)) (row .condition) × Rows n k l rs rows
+
+rows-give : (n k : ℕ) (l : Line) (rs : List Rule) (rows : List Row) → Rows n k l rs rows → Gives rows (firstBroken rs n k l)
+unfolding Rows
+rows-give n k l [] [] h = none
+rows-give n k l [] (row ∷ rows) h = absurd h
+rows-give n k l (r ∷ rs) [] h = absurd h
+rows-give n k l (r ∷ rs) (row ∷ rows) h = rw (h .0) (gives-row (h .1) (rows-give n k l rs rows (h .2)))
+
 -- ---- the rows of a line, of a list, and of what is asked
 line-gives : (n k : ℕ) (l : Line) → Gives (lineTable n k l) (lineValidity n k l)
-unfolding coefficientsOk variablesOk constantOk
-line-gives n k l =
-    gives-row (either-test (isWithin 1 (l .a)) (isWithin 1 (l .b)) (not-test (coefficient-test (l .a))) (not-test (coefficient-test (l .b))))
-    (gives-row (either-test (variableOk n (l .a) (l .x)) (variableOk n (l .b) (l .y)) (variable-test n (l .a) (l .x)) (variable-test n (l .b) (l .y)))
-    (gives-row (outside-test maxConstant (l .d)) none))
+unfolding Rows
+line-gives n k l = rows-give n k l lineRules (lineTable n k l) (search (coefficients-test l, variables-test n l, constant-test l))
 
 list-gives : (n : ℕ) (L : List ℤ) → Gives (listTable n L) (validityOf n L)
 unfolding validityOf

@@ -6,8 +6,7 @@ use list_file::LINE_RECORD;
 use list_file::ReadAnswer;
 use list_file::VARIABLES_RECORD;
 use list_file::read_within;
-use records::file_number;
-use records::file_place;
+use records::file_number_and_place;
 use refutation::HEAD_SIZE;
 use report::write_no;
 use report::write_refused;
@@ -76,7 +75,10 @@ pub fn report_file(bytes: &[u8], text: &mut [u8; TEXT_SIZE]) -> usize
     let mut numbers = [0i32; MOST_NUMBERS];
     match read_within(bytes, MOST_VARIABLES, &mut numbers) {
         ReadAnswer::Read(z) => report_list(z.n, &numbers[0..LINE_SIZE * z.lines], text),
-        ReadAnswer::Refused(r) => write_refused(file_number(r), file_place(r), text),
+        ReadAnswer::Refused(r) => {
+            let s = file_number_and_place(r);
+            write_refused(s.number, s.place, text)
+        }
     }
 }
 

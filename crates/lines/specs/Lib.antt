@@ -1,6 +1,7 @@
 pub mod Limits
 pub mod Line
 pub mod Refusal
+pub mod Numbers
 pub mod Laws
 pub mod Valid
 pub mod Fits

@@ -40,7 +40,7 @@ AtLine (r ∷ rs) = ((k : ℕ) → placeOf (r .refusal k) ≡ k) × AtLine rs
 
 rules-at-line : AtLine lineRules
 unfolding AtLine
-rules-at-line = ((λ k. refl), ((λ k. refl), ((λ k. refl), tt)))
+rules-at-line = search
 
 module _ (m n : ℕ) where
   placed-broken : (rs : List Rule) → AtLine rs → (k : ℕ) (l : Line) → k < m → Placed m (firstBroken rs n k l)

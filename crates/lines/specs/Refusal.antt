@@ -8,6 +8,7 @@ use lib.ListN.{length}
 use lib.Signed.{leZ, ltZ}
 use Rattle.integers.specs.Integer.{eqZ, isWithin}
 use Rattle.lines.specs.declared.Line.{Line}
+use Rattle.lines.specs.declared.Numbered.{Numbered}
 use Rattle.lines.specs.declared.Refusal.{Refusal}
 use Rattle.lines.specs.declared.Refusal.the-variants.{TooManyVariables, BrokenLength, TooManyLines, BadCoefficient, BadVariable, BadConstant, ShortOutput, ShortWorkArea, WrongModelLength, BadValue, LongRefutation}
 use Rattle.lines.specs.declared.Validity.{Validity}
@@ -15,33 +16,28 @@ use Rattle.lines.specs.declared.Validity.the-variants.{Valid, Refused}
 use Rattle.lines.specs.Limits.{lineSize, maxVariables, maxLines, maxConstant}
 use Rattle.lines.specs.Line.{lineCount, linesOf}
 
--- document 01's number of a refusal
-abbrev pub numberOf : Refusal → ℕ
-numberOf TooManyVariables = 1
-numberOf BrokenLength = 2
-numberOf TooManyLines = 3
-numberOf (BadCoefficient k) = 4
-numberOf (BadVariable k) = 5
-numberOf (BadConstant k) = 6
-numberOf (ShortOutput k) = 7
-numberOf ShortWorkArea = 8
-numberOf WrongModelLength = 9
-numberOf (BadValue k) = 10
-numberOf LongRefutation = 11
+abbrev pub numberedAt : ℕ → ℕ → Numbered
+numberedAt n k = record { number = n; place = k }
 
--- document 01's place of a refusal
+-- document 01's table: the number and the place of each refusal
+abbrev pub numberAndPlace : Refusal → Numbered
+numberAndPlace TooManyVariables = numberedAt 1 0
+numberAndPlace BrokenLength = numberedAt 2 0
+numberAndPlace TooManyLines = numberedAt 3 0
+numberAndPlace (BadCoefficient k) = numberedAt 4 k
+numberAndPlace (BadVariable k) = numberedAt 5 k
+numberAndPlace (BadConstant k) = numberedAt 6 k
+numberAndPlace (ShortOutput k) = numberedAt 7 k
+numberAndPlace ShortWorkArea = numberedAt 8 0
+numberAndPlace WrongModelLength = numberedAt 9 0
+numberAndPlace (BadValue k) = numberedAt 10 k
+numberAndPlace LongRefutation = numberedAt 11 0
+
+abbrev pub numberOf : Refusal → ℕ
+numberOf r = numberAndPlace r .number
+
 abbrev pub placeOf : Refusal → ℕ
-placeOf TooManyVariables = 0
-placeOf BrokenLength = 0
-placeOf TooManyLines = 0
-placeOf (BadCoefficient k) = k
-placeOf (BadVariable k) = k
-placeOf (BadConstant k) = k
-placeOf (ShortOutput k) = k
-placeOf ShortWorkArea = 0
-placeOf WrongModelLength = 0
-placeOf (BadValue k) = k
-placeOf LongRefutation = 0
+placeOf r = numberAndPlace r .place
 
 -- the first that applies
 infixr 20 _orElse_
@@ -87,6 +83,11 @@ lineRules =
 abbrev pub firstBroken : List Rule → ℕ → ℕ → Line → Validity
 firstBroken [] n k l = Valid
 firstBroken (r ∷ rs) n k l = refuseIf (not (r .ok n l)) (r .refusal k) orElse firstBroken rs n k l
+
+-- the test of the rule that has this refusal, wherever it stands
+abbrev pub ruleOf : (ℕ → Refusal) → List Rule → ℕ → Line → Bool
+ruleOf refusal [] n l = true
+ruleOf refusal (r ∷ rs) n l = cond (eqb (numberOf (r .refusal 0)) (numberOf (refusal 0))) (r .ok n l) (ruleOf refusal rs n l)
 
 abbrev pub lineValidity : ℕ → ℕ → Line → Validity
 lineValidity n k l = firstBroken lineRules n k l

@@ -16,12 +16,12 @@ use Rattle.integers.specs.Laws.{never, and-true, is-within, ne-eqZ}
 use Rattle.integers.specs.Sequence.{tabulate}
 use Rattle.lines.specs.declared.Line.{Line}
 use Rattle.lines.specs.declared.Refusal.{Refusal}
-use Rattle.lines.specs.declared.Refusal.the-variants.{TooManyVariables, BrokenLength, TooManyLines}
+use Rattle.lines.specs.declared.Refusal.the-variants.{TooManyVariables, BrokenLength, TooManyLines, BadCoefficient, BadVariable, BadConstant}
 use Rattle.lines.specs.declared.Validity.{Validity}
 use Rattle.lines.specs.declared.Validity.the-variants.{Valid, Refused}
 use Rattle.lines.specs.Limits.{lineSize, maxVariables, maxLines, maxConstant}
 use Rattle.lines.specs.Line.{lineAt, lineCount, linesOf}
-use Rattle.lines.specs.Refusal.{_orElse_, refuseIf, coefficientsOk, variableOk, variablesOk, constantOk, lineValidity, linesValidity, validityOf}
+use Rattle.lines.specs.Refusal.{numberOf, _orElse_, refuseIf, coefficientsOk, variableOk, variablesOk, constantOk, Rule, lineRules, firstBroken, ruleOf, lineValidity, linesValidity, validityOf}
 use Rattle.lines.specs.Laws.{validity-from}
 use Rattle.lines.specs.Solutions.{count-append, lines-append}
 
@@ -64,20 +64,44 @@ variable-ok n a x e h =
     let t = and-true (leZ (pos 0) x) (ltZ x (pos n)) (ap (λ (b : Bool). cond b (eqZ x (pos 0)) (leZ (pos 0) x && ltZ x (pos n))) (sym (ne-eqZ a (pos 0) h)) ∙ e) in
     record { low = given (t .0) (simp ints (omega arith)); high = given (t .1) (simp ints (omega arith)) }
 
+-- the rules of a line that none breaks
+module _ (n k : ℕ) (l : Line) where
+  holds : (r : Rule) {v : Validity} → (refuseIf (not (r .ok n l)) (r .refusal k) orElse v) ≡ Valid → (r .ok n l ≡ true) × (v ≡ Valid)
+  holds r e = let p = or-valid _ _ e in (not-false _ (not-refused _ _ (p .0)), p .1)
+
+  holds-in : (rs : List Rule) (refusal : ℕ → Refusal) → firstBroken rs n k l ≡ Valid → ruleOf refusal rs n l ≡ true
+  holds-in [] refusal e = refl
+  holds-in (r ∷ rs) refusal e = let h = holds r e in go (eqb (numberOf (r .refusal 0)) (numberOf (refusal 0))) (h .0) (holds-in rs refusal (h .1))
+    where
+      go : (t : Bool) → r .ok n l ≡ true → ruleOf refusal rs n l ≡ true → cond t (r .ok n l) (ruleOf refusal rs n l) ≡ true
+      go true x y = x
+      go false x y = y
+
+  -- the rule that has this refusal holds
+  pub rule-holds : (refusal : ℕ → Refusal) → lineValidity n k l ≡ Valid → ruleOf refusal lineRules n l ≡ true
+  rule-holds = holds-in lineRules
+
+  -- rules that hold among m variables where they hold among n: none is broken there either, whatever the line's number is
+  module _ (m j : ℕ) where
+    abbrev HoldMore : List Rule → Type 0
+    HoldMore [] = Unit {0}
+    HoldMore (r ∷ rs) = (r .ok n l ≡ true → r .ok m l ≡ true) × HoldMore rs
+
+    none-more : (rs : List Rule) → HoldMore rs → firstBroken rs n k l ≡ Valid → firstBroken rs m j l ≡ Valid
+    none-more [] more e = refl
+    none-more (r ∷ rs) more e = let h = holds r e in rw (more .0 (h .0)) (none-more rs (more .1) (h .1))
+
 pub line-ok : (n k : ℕ) (l : Line) → lineValidity n k l ≡ Valid → LineOk n l
 unfolding coefficientsOk variablesOk constantOk
 line-ok n k l e =
-    let p = or-valid _ _ e in
-    let q = or-valid _ _ (p .1) in
-    let r = or-valid _ _ (q .1) in
-    let c = and-true (isWithin 1 (l .a)) (isWithin 1 (l .b)) (not-false _ (not-refused _ _ (p .0))) in
-    let v = and-true (variableOk n (l .a) (l .x)) (variableOk n (l .b) (l .y)) (not-false _ (not-refused _ _ (q .0))) in
+    let c = and-true (isWithin 1 (l .a)) (isWithin 1 (l .b)) (rule-holds n k l BadCoefficient e) in
+    let v = and-true (variableOk n (l .a) (l .x)) (variableOk n (l .b) (l .y)) (rule-holds n k l BadVariable e) in
     record {
       coefficient-a = is-within 1 (l .a) (c .0);
       coefficient-b = is-within 1 (l .b) (c .1);
       variable-x = variable-ok n (l .a) (l .x) (v .0);
       variable-y = variable-ok n (l .b) (l .y) (v .1);
-      constant = is-within maxConstant (l .d) (not-false _ (not-refused _ _ (r .0)));
+      constant = is-within maxConstant (l .d) (rule-holds n k l BadConstant e);
     }
 
 module _ (n : ℕ) (L : List ℤ) (e : linesValidity n 0 (linesOf L) ≡ Valid) where
@@ -150,19 +174,17 @@ variable-ok-more n m a x h = go (eqZ a (pos 0))
         let l : ltZ x (pos m) ≡ true = given (t .1) (simp ints (omega arith)) in
         rw (t .0, l)
 
--- whatever the line's number is
-pub line-valid-more : (n m k j : ℕ) (l : Line) → n ≤ m → lineValidity n k l ≡ Valid → lineValidity m j l ≡ Valid
+variables-more : (n m : ℕ) (l : Line) → n ≤ m → variablesOk n l ≡ true → variablesOk m l ≡ true
 unfolding variablesOk
-line-valid-more n m k j l h e =
-    let p = or-valid _ _ e in
-    let q = or-valid _ _ (p .1) in
-    let r = or-valid _ _ (q .1) in
-    let v = and-true (variableOk n (l .a) (l .x)) (variableOk n (l .b) (l .y)) (not-false _ (not-refused _ _ (q .0))) in
-    let c : coefficientsOk l ≡ true = not-false _ (not-refused _ _ (p .0)) in
+variables-more n m l h e =
+    let v = and-true (variableOk n (l .a) (l .x)) (variableOk n (l .b) (l .y)) e in
     let x : variableOk m (l .a) (l .x) ≡ true = variable-ok-more n m _ _ h (v .0) in
     let y : variableOk m (l .b) (l .y) ≡ true = variable-ok-more n m _ _ h (v .1) in
-    let d : constantOk l ≡ true = not-false _ (not-refused _ _ (r .0)) in
-    rw (c, x, y, d)
+    rw (x, y)
+
+-- whatever the line's number is
+pub line-valid-more : (n m k j : ℕ) (l : Line) → n ≤ m → lineValidity n k l ≡ Valid → lineValidity m j l ≡ Valid
+line-valid-more n m k j l h = none-more n k l m j lineRules (search (variables-more n m l h))
 
 -- the same of some lines
 abbrev pub AllOk : ℕ → List Line → Type 0

@@ -7,10 +7,11 @@ use limits::MAX_CONSTANT;
 use limits::MAX_LINES;
 use limits::MAX_VARIABLES;
 ghost use mathlib.Core.Path.{_≡_};
+ghost use mathlib.Core.Bool.{not};
 ghost use Prim.Native.Nat.{_<_, _≤_};
 ghost use Rattle.lines.specs.Limits.{maxVariables};
 ghost use Rattle.lines.specs.Line.{lineAt, lineCount, linesOf, isFalse};
-ghost use Rattle.lines.specs.Refusal.{numberOf, placeOf, coefficientsOk, variableOk, variablesOk, constantOk, lineValidity, linesValidity, validityOf};
+ghost use Rattle.lines.specs.Refusal.{numberOf, placeOf, _orElse_, refuseIf, coefficientsOk, variableOk, variablesOk, constantOk, lineValidity, linesValidity, validityOf};
 ghost use Rattle.integers.specs.Integer.{isBetween};
 
 // One line: a·x + b·y <= d. x and y are the numbers of variables (the field's term: a UTVPI constraint).
@@ -43,41 +44,35 @@ pub enum Validity {
     Refused(Refusal),
 }
 
-// Document 01's number of a refusal.
-pub fn number_of(r: Refusal) -> usize
-    ensures { λ k. ⌜ k ≡ numberOf r ⌝ }
-{
-    match r {
-        Refusal::TooManyVariables => 1,
-        Refusal::BrokenLength => 2,
-        Refusal::TooManyLines => 3,
-        Refusal::BadCoefficient(_) => 4,
-        Refusal::BadVariable(_) => 5,
-        Refusal::BadConstant(_) => 6,
-        Refusal::ShortOutput(_) => 7,
-        Refusal::ShortWorkArea => 8,
-        Refusal::WrongModelLength => 9,
-        Refusal::BadValue(_) => 10,
-        Refusal::LongRefutation => 11,
-    }
+// Document 01's number and place of a refusal.
+pub struct Numbered {
+    pub number: usize,
+    pub place: usize,
 }
 
-// Document 01's place of a refusal.
-pub fn place_of(r: Refusal) -> usize
-    ensures { λ k. ⌜ k ≡ placeOf r ⌝ }
+// This number and this place.
+pub fn numbered_at(number: usize, place: usize) -> Numbered
+    ensures { λ r. ⌜ (r .number ≡ number) × (r .place ≡ place) ⌝ }
+{
+    Numbered { number, place }
+}
+
+// Document 01's table: the number and the place of each refusal.
+pub fn number_and_place(r: Refusal) -> Numbered
+    ensures { λ s. ⌜ (s .number ≡ numberOf r) × (s .place ≡ placeOf r) ⌝ }
 {
     match r {
-        Refusal::TooManyVariables => 0,
-        Refusal::BrokenLength => 0,
-        Refusal::TooManyLines => 0,
-        Refusal::BadCoefficient(k) => k,
-        Refusal::BadVariable(k) => k,
-        Refusal::BadConstant(k) => k,
-        Refusal::ShortOutput(k) => k,
-        Refusal::ShortWorkArea => 0,
-        Refusal::WrongModelLength => 0,
-        Refusal::BadValue(k) => k,
-        Refusal::LongRefutation => 0,
+        Refusal::TooManyVariables => numbered_at(1, 0),
+        Refusal::BrokenLength => numbered_at(2, 0),
+        Refusal::TooManyLines => numbered_at(3, 0),
+        Refusal::BadCoefficient(k) => numbered_at(4, k),
+        Refusal::BadVariable(k) => numbered_at(5, k),
+        Refusal::BadConstant(k) => numbered_at(6, k),
+        Refusal::ShortOutput(k) => numbered_at(7, k),
+        Refusal::ShortWorkArea => numbered_at(8, 0),
+        Refusal::WrongModelLength => numbered_at(9, 0),
+        Refusal::BadValue(k) => numbered_at(10, k),
+        Refusal::LongRefutation => numbered_at(11, 0),
     }
 }
 
@@ -136,21 +131,29 @@ fn constant_ok(line: Line) -> bool
     in_range(-MAX_CONSTANT, MAX_CONSTANT, line.d)
 }
 
-// The first rule that line number k breaks.
+// What was found before, or else the refusal of a rule that is broken.
+fn or_unless(found: Validity, ok: bool, r: Refusal) -> Validity
+    ensures { λ v. ⌜ v ≡ (found orElse refuseIf (not ok) r) ⌝ }
+{
+    if let Validity::Refused(q) = found {
+        return Validity::Refused(q);
+    }
+    if ok {
+        return Validity::Valid;
+    }
+    Validity::Refused(r)
+}
+
+// The first rule that line number k breaks: a line here for each, in the order of specs/Refusal.antt.
 pub fn line_validity(n: usize, k: usize, line: Line) -> Validity
     requires { ⌜ n ≤ maxVariables ⌝ }
     ensures { λ r. ⌜ r ≡ lineValidity n k line ⌝ }
 {
-    if !coefficients_ok(line) {
-        return Validity::Refused(Refusal::BadCoefficient(k));
-    }
-    if !variables_ok(n, line) {
-        return Validity::Refused(Refusal::BadVariable(k));
-    }
-    if !constant_ok(line) {
-        return Validity::Refused(Refusal::BadConstant(k));
-    }
-    Validity::Valid
+    let found = Validity::Valid;
+    let found = or_unless(found, coefficients_ok(line), Refusal::BadCoefficient(k));
+    let found = or_unless(found, variables_ok(n, line), Refusal::BadVariable(k));
+    let found = or_unless(found, constant_ok(line), Refusal::BadConstant(k));
+    found
 }
 
 // The first refusal among the lines.

@@ -1,8 +1,9 @@
 // The records of a file for lists: a two-byte length of the body, a two-byte kind, the body, all little-endian.
+use lines::Numbered;
 use lines::Refusal;
 use lines::limits::LINE_SIZE;
-use lines::number_of;
-use lines::place_of;
+use lines::number_and_place;
+use lines::numbered_at;
 use little_endian::u32_at;
 ghost use mathlib.Core.Path.{_≡_};
 ghost use Prim.Native.Nat.{_+_, _*_, _^_, _<_, _≤_};
@@ -57,33 +58,18 @@ pub enum Next {
     Refused(FileRefusal),
 }
 
-// The number of a refusal.
-pub fn file_number(r: FileRefusal) -> usize
-    ensures { λ k. ⌜ k ≡ fileNumber r ⌝ }
+// The number and the place of each refusal: the byte offset of its record, or document 01's of its list.
+pub fn file_number_and_place(r: FileRefusal) -> Numbered
+    ensures { λ s. ⌜ (s .number ≡ fileNumber r) × (s .place ≡ filePlace r) ⌝ }
 {
     match r {
-        FileRefusal::Cut(_) => 20,
-        FileRefusal::UnknownKind(_) => 21,
-        FileRefusal::WrongLength(_) => 22,
-        FileRefusal::OutOfPlace(_) => 23,
-        FileRefusal::Trailing(_) => 24,
-        FileRefusal::NoRoom(_) => 25,
-        FileRefusal::List(r) => number_of(r),
-    }
-}
-
-// The place of a refusal: the byte offset of its record, or document 01's place.
-pub fn file_place(r: FileRefusal) -> usize
-    ensures { λ k. ⌜ k ≡ filePlace r ⌝ }
-{
-    match r {
-        FileRefusal::Cut(k) => k,
-        FileRefusal::UnknownKind(k) => k,
-        FileRefusal::WrongLength(k) => k,
-        FileRefusal::OutOfPlace(k) => k,
-        FileRefusal::Trailing(k) => k,
-        FileRefusal::NoRoom(k) => k,
-        FileRefusal::List(r) => place_of(r),
+        FileRefusal::Cut(k) => numbered_at(20, k),
+        FileRefusal::UnknownKind(k) => numbered_at(21, k),
+        FileRefusal::WrongLength(k) => numbered_at(22, k),
+        FileRefusal::OutOfPlace(k) => numbered_at(23, k),
+        FileRefusal::Trailing(k) => numbered_at(24, k),
+        FileRefusal::NoRoom(k) => numbered_at(25, k),
+        FileRefusal::List(r) => number_and_place(r),
     }
 }
 

@@ -12,8 +12,8 @@ returns c = ap fileRead (sym (c .before .a .given .1))
 
 returns-2 : tie.Need-returns-2
 returns-2 c =
-    let n = c .before in
-    ap₂ (λ (x y : ℕ). record { refusal = x; place = y; n = 0; lines = 0 }) (n .file-number .ensures) (c .file-place .ensures) ∙ ap fileRead (sym (n .before .before .a2 .given .1))
+    let s = c .file-number-and-place .ensures in
+    ap₂ (λ (x y : ℕ). record { refusal = x; place = y; n = 0; lines = 0 }) (s .0) (s .1) ∙ ap fileRead (sym (c .before .before .a2 .given .1))
 
 pub read-result-spec : {M : Type 1} → statement M
-read-result-spec = tie.close (tie.spec (λ c. omega arith) (λ c. omega arith) (λ c. omega arith) (λ c. omega arith) returns returns-2)
+read-result-spec = tie.close (tie.spec (λ c. omega arith) (λ c. omega arith) (λ c. omega arith) returns returns-2)

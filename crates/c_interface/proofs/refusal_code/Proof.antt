@@ -7,22 +7,26 @@ use mir.Syntax.{w64}
 use mir.Facts.{toZ-pos}
 use Rattle.integers.specs.Bits.{minus-fits, minus-is}
 use Rattle.lines.specs.Refusal.{numberOf, placeOf}
-use Rattle.c_interface.specs.Codes.{refusalUnit, refusalCode, number-small}
+use Rattle.lines.specs.Numbers.{number-small}
+use Rattle.c_interface.specs.Codes.{refusalUnit, refusalCode}
 use Rattle.c_interface.proofs.refusal_code.Statement.{statement}
 use Rattle.c_interface.proofs.refusal_code.Tie as tie
 
 mul-code : tie.Need-mul-code
-mul-code c = record { fits = omega (arith, c .number-of .ensures, number-small (c .before .args .r)) }
+mul-code c = record { fits = omega (arith, c .before .number-and-place .ensures .0, number-small (c .before .before .args .r)) }
 
-module _ (c : tie.After-place-of) where
+module _ (c : tie.After-struct-known2) where
+  abbrev d : tie.After-number-and-place
+  d = c .before .before
+
   abbrev code : ℕ
-  code = c .before .number-of .result * refusalUnit + c .place-of .result
+  code = d .number-and-place .result .number * refusalUnit + d .number-and-place .result .place
+
+  code-is : code ≡ numberOf (d .before .args .r) * refusalUnit + placeOf (d .before .args .r)
+  code-is = ap₂ (λ (n p : ℕ). n * refusalUnit + p) (d .number-and-place .ensures .0) (d .number-and-place .ensures .1)
 
   small : code < 2 ^ 63
-  small = omega (arith, c .before .number-of .ensures, c .place-of .ensures, number-small (c .before .before .args .r), c .before .before .pre)
-
-  code-is : code ≡ numberOf (c .before .before .args .r) * refusalUnit + placeOf (c .before .before .args .r)
-  code-is = ap₂ (λ (n p : ℕ). n * refusalUnit + p) (c .before .number-of .ensures) (c .place-of .ensures)
+  small = omega (arith, code-is, number-small (d .before .args .r), d .before .pre)
 
 add-code : tie.Need-add-code
 add-code c = record { fits = omega (arith, small c) }
@@ -38,4 +42,4 @@ unfolding refusalCode
 returns c = rw (toZ-pos w64 (small c)) (minus-is (code c) (small c) ∙ ap (λ (n : ℕ). negℤ (pos n)) (code-is c))
 
 pub refusal-code-spec : {M : Type 1} → statement M
-refusal-code-spec = tie.close (tie.spec (λ c. omega arith) mul-code (λ c. omega arith) add-code cast-result sub-result returns)
+refusal-code-spec = tie.close (tie.spec (λ c. omega arith) mul-code add-code cast-result sub-result returns)

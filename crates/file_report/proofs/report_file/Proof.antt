@@ -39,10 +39,9 @@ returns c =
 
 returns-2 : tie.Need-returns-2
 returns-2 c =
-    let p = c .before .before in
-    let n = p .before in
-    let r = n .before .before in
-    refused-reported (r .before .before .before .read-within .ensures) (omega arith) _ (r .r .given .1) (n .file-number .ensures) (p .file-place .ensures) (c .write-refused .ensures)
+    let s = c .before .before in
+    let r = s .before .before in
+    refused-reported (r .before .before .before .read-within .ensures) (omega arith) _ (r .r .given .1) (s .file-number-and-place .ensures .0) (s .file-number-and-place .ensures .1) (c .write-refused .ensures)
 
 pub report-file-spec : {M : Type 1} → statement M
 report-file-spec =
@@ -56,7 +55,6 @@ report-file-spec =
     (search needs)
     part-end
     report-list-requires
-    (search needs)
     (search needs)
     (search needs)
     (search needs)
