@@ -1,5 +1,5 @@
 //! Tells the linker where the static library is, in the folder named by
-//! UTVPI_LIB_DIR or else in the repository's target/staticlib, and the benchmark
+//! UTVPI_LIB_DIR or else in the repository's target/lib, and the benchmark
 //! the limits of a list and the numbers of a line, from the header.
 
 use std::env;
@@ -28,18 +28,18 @@ fn link(root: &Path) {
     println!("cargo:rerun-if-env-changed=UTVPI_LIB_DIR");
     let folder = match env::var_os("UTVPI_LIB_DIR") {
         Some(folder) => PathBuf::from(folder),
-        None => root.join("target/staticlib"),
+        None => root.join("target/lib"),
     };
-    let archive = folder.join("libc_interface.a");
+    let archive = folder.join("libutvpi.a");
     // A new archive is linked anew.
     println!("cargo:rerun-if-changed={}", archive.display());
     assert!(
         archive.is_file(),
-        "{} is not there: run `rt staticlib c_interface` in the repository's root first",
+        "{} is not there: run ./build-library in the repository's root first",
         archive.display()
     );
     println!("cargo:rustc-link-search=native={}", folder.display());
-    println!("cargo:rustc-link-lib=static=c_interface");
+    println!("cargo:rustc-link-lib=static=utvpi");
 }
 
 /// The number that a line `#define NAME NUMBER` of a header gives.

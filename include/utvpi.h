@@ -1,5 +1,7 @@
 /* The C interface: a function that decides a list, and two that check a proposed
- * model of a list, and a proposed refutation of a list.
+ * model of a list, and a proposed refutation of a list; a check of a refutation that
+ * arrives in pieces, and two functions for lists in files. A program links one file,
+ * libutvpi.a, which ./build-library makes in target/lib/.
  *
  * Deciding takes and writes numbers, as the machine holds them. The two checks
  * take bytes, the lowest byte of each number first.

@@ -1,5 +1,5 @@
 //! Tells the linker where the static library is: in the folder named by
-//! UTVPI_LIB_DIR, or else in the repository's target/staticlib. Reads the limits and
+//! UTVPI_LIB_DIR, or else in the repository's target/lib. Reads the limits and
 //! lengths from the library's header, so that the tests have them from there alone.
 
 use std::path::{Path, PathBuf};
@@ -29,18 +29,18 @@ fn link(package: &Path) {
     println!("cargo:rerun-if-env-changed=UTVPI_LIB_DIR");
     let folder = match env::var_os("UTVPI_LIB_DIR") {
         Some(folder) => PathBuf::from(folder),
-        None => package.join("../target/staticlib"),
+        None => package.join("../target/lib"),
     };
-    let archive = folder.join("libc_interface.a");
+    let archive = folder.join("libutvpi.a");
     // A new archive is linked anew.
     println!("cargo:rerun-if-changed={}", archive.display());
     assert!(
         archive.is_file(),
-        "{} is not there: run `rt staticlib c_interface` in the repository's root first",
+        "{} is not there: run ./build-library in the repository's root first",
         archive.display()
     );
     println!("cargo:rustc-link-search=native={}", folder.display());
-    println!("cargo:rustc-link-lib=static=c_interface");
+    println!("cargo:rustc-link-lib=static=utvpi");
 }
 
 /// Writes the limits as constants, for src/limits.rs to take in.

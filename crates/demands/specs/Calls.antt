@@ -31,10 +31,10 @@ use Rattle.decide.specs.declared.Answer.the-variants.{Yes, No, Refused}
 use Rattle.decide.specs.Parts.{yes-verdict, no-verdict, modelIn, boundsIn, groupsIn, refutationIn, model-in, bounds-in, groups-in, refutation-in}
 use Rattle.decide.specs.Decided.{Lent, unlessRefused, decideAnswer, cleared, OnYes, OnNo, Leaves, answerFor, Decided, validityFor, decide-ok}
 use Rattle.decide.specs.Places.{Below}
-use Rattle.c_interface.specs.Codes.{noCode, refusalUnit, refusalCode, decideCode}
-use Rattle.c_interface.specs.Calls.{DecideReturns}
-use Rattle.c_interface.specs.Laws.{decision-below}
-use Rattle.c_interface.specs.Apart.{no-refusal, decisions-apart}
+use Rattle.c_codes.specs.Codes.{noCode, refusalUnit, refusalCode}
+use Rattle.c_codes.specs.Apart.{no-refusal}
+use Rattle.c_deciding.specs.Calls.{decideCode, DecideReturns}
+use Rattle.c_deciding.specs.Laws.{decision-below, decisions-apart}
 
 -- A call of `decide` that was not refused, whatever stood in the lent buffers before.
 pub record Call (n : ℕ) (L : List ℤ) : Type 0 where

@@ -74,18 +74,25 @@ use Rattle.list_file.specs.Read.{readAnswer, ReadDone}
 use Rattle.list_file.specs.Write.{WriteDone}
 use Rattle.list_file.specs.Bytes.{file-bytes}
 use Rattle.list_file.specs.Back.{OneFile, read-written, list-in-file, written-read, one-file, one-list}
-use Rattle.c_interface.specs.Codes.{refusalUnit, refusalCode, decideCode, noCode, refutationCode}
-use Rattle.c_interface.specs.Calls.{numberBytes, bytesValidity, modelOfBytes, refutationOfBytes, checkModel, checkRefutation, DecideReturns}
+use Rattle.c_codes.specs.Codes.{refusalUnit, refusalCode, noCode}
+use Rattle.c_codes.specs.ListBytes.{numberBytes, bytesValidity}
+use Rattle.c_refutation_code.specs.Code.{refutationCode}
+use Rattle.c_refutation_code.specs.Apart.{refutations-apart}
+use Rattle.c_checking.specs.Calls.{modelOfBytes, refutationOfBytes, checkModel, checkRefutation}
+use Rattle.c_checking.specs.Laws.{model-bytes-below, refutation-bytes-below}
+use Rattle.c_checking.specs.Apart.{BytesBreakAt, models-apart, returned-yes, returned-no}
+use Rattle.c_checking.specs.Bytes.{list-in-bytes, refutation-in-bytes, model-in-bytes}
+use Rattle.c_pieces.specs.Pieces.{refutationBegin, refutationEnd, takeEach, each-answered}
+use Rattle.c_deciding.specs.Calls.{decideCode, DecideReturns}
+use Rattle.c_deciding.specs.Laws.{decision-below, decisions-apart}
+use Rattle.c_files.specs.Files.{ReadReturns, WriteReturns, returned-read-back, returned-written-again}
+use Rattle.demands.specs.Accepted.{accepted-words, accepted-refutation, accepted-model}
+use Rattle.demands.specs.Pieces.{each-checked}
 use Rattle.list_file.specs.Calls.{write-then-read, read-then-write}
-use Rattle.c_interface.specs.declared.FileRead.{FileRead}
-use Rattle.c_interface.specs.declared.FileWritten.{FileWritten}
-use Rattle.c_interface.specs.Files.{ReadReturns, WriteReturns, returned-read-back, returned-written-again}
-use Rattle.c_interface.specs.Bytes.{list-in-bytes, refutation-in-bytes, model-in-bytes, accepted-words, accepted-refutation, accepted-model}
+use Rattle.c_files.specs.declared.FileRead.{FileRead}
+use Rattle.c_files.specs.declared.FileWritten.{FileWritten}
 use Rattle.file_report.specs.Report.{Reported}
 use Rattle.file_report.specs.Input.{inputSize, front-enough}
-use Rattle.c_interface.specs.Pieces.{refutationBegin, refutationEnd, takeEach, each-answered, each-checked}
-use Rattle.c_interface.specs.Laws.{model-bytes-below, refutation-bytes-below, decision-below}
-use Rattle.c_interface.specs.Apart.{BytesBreakAt, models-apart, refutations-apart, decisions-apart, returned-yes, returned-no}
 
 -- A list is valid for its n if no refusal of the list itself applies.
 abbrev pub ValidFor : ℕ → List ℤ → Type 0

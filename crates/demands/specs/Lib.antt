@@ -6,4 +6,6 @@ pub mod Versions
 pub mod DecideVersions
 pub mod Exists
 pub mod Shown
+pub mod Accepted
+pub mod Pieces
 pub mod Demands

@@ -20,8 +20,10 @@ use Rattle.refutation.specs.declared.RefutationAnswer.the-variants as refutatio
 use Rattle.refutation.specs.Answer.{refutationAnswer}
 use Rattle.decide.specs.declared.Answer.the-variants as decide
 use Rattle.decide.specs.Decided.{Lent, answerFor}
-use Rattle.c_interface.specs.Codes.{modelCode, refutationCode, decideCode}
-use Rattle.c_interface.specs.Calls.{numberBytes, valueBytes, modelOfBytes, refutationOfBytes, checkModel, checkRefutation}
+use Rattle.c_codes.specs.ListBytes.{numberBytes}
+use Rattle.c_refutation_code.specs.Code.{refutationCode}
+use Rattle.c_checking.specs.Calls.{modelCode, valueBytes, modelOfBytes, refutationOfBytes, checkModel, checkRefutation}
+use Rattle.c_deciding.specs.Calls.{decideCode}
 
 -- What is asked, for n variables: to decide a list, with these lent buffers; to check a model of a list, or a refutation; and from C both checks on bytes.
 pub data Asked : Type 0 where

@@ -43,10 +43,15 @@ use Rattle.refutation.specs.Places as refutation-places
 use Rattle.decide.specs.declared.Answer.the-variants as decide
 use Rattle.decide.specs.Decided as decision
 use Rattle.decide.specs.Decided.{Lent, decideAnswer, answerFor, validityFor}
-use Rattle.c_interface.specs.Calls.{numberBytes, valueBytes, bytesValidity, modelOfValues, refutationOfNumbers, modelOfBytes, refutationOfBytes}
-use Rattle.c_interface.specs.Codes.{refusalUnit, refusalCode, modelCode, refutationCode, decideCode}
-use Rattle.c_interface.specs.Laws.{model-bytes-below, refutation-bytes-below, decision-below}
-use Rattle.c_interface.specs.Apart.{models-apart, refutations-apart, decisions-apart}
+use Rattle.c_codes.specs.Codes.{refusalUnit, refusalCode}
+use Rattle.c_codes.specs.ListBytes.{numberBytes, bytesValidity}
+use Rattle.c_refutation_code.specs.Code.{refutationCode}
+use Rattle.c_refutation_code.specs.Apart.{refutations-apart}
+use Rattle.c_checking.specs.Calls.{valueBytes, modelOfValues, refutationOfNumbers, modelOfBytes, refutationOfBytes, modelCode}
+use Rattle.c_checking.specs.Laws.{model-bytes-below, refutation-bytes-below}
+use Rattle.c_checking.specs.Apart.{models-apart}
+use Rattle.c_deciding.specs.Calls.{decideCode}
+use Rattle.c_deciding.specs.Laws.{decision-below, decisions-apart}
 use Rattle.demands.specs.Refusals.{Asked, deciding, checking-model, checking-refutation, checking-model-bytes, checking-refutation-bytes, IsCoefficient, WrongVariable, Outside, Row, _when_, rowsFrom, lineTable, linesTable, listTable, bytesTable, valuesTable, refusalTable, NoneApplies, FirstApplies, IsRefused, returned}
 
 -- ---- a validity, read along the rows

@@ -1,7 +1,7 @@
 // The checkers called on buffers that are lent for writing: each answers what its definition says, and leaves every
 // buffer as it was.
-use c_interface::utvpi_check_model;
-use c_interface::utvpi_check_refutation;
+use c_checking::utvpi_check_model;
+use c_checking::utvpi_check_refutation;
 use model::ModelAnswer;
 use model::check_model;
 use refutation::RefutationAnswer;
@@ -9,7 +9,7 @@ use refutation::check_refutation;
 ghost use mathlib.Core.Path.{_≡_};
 ghost use Rattle.model.specs.Model.{modelAnswer};
 ghost use Rattle.refutation.specs.Answer.{refutationAnswer};
-ghost use Rattle.c_interface.specs.Calls.{checkModel, checkRefutation};
+ghost use Rattle.c_checking.specs.Calls.{checkModel, checkRefutation};
 
 pub fn model_check_only_reads(n: usize, list: &mut [i32], model: &mut [i64]) -> ModelAnswer
     ensures answer { λ r. ⌜ r ≡ modelAnswer n (now (list .entry)) (now (model .entry)) ⌝ }

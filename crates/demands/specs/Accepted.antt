@@ -1,0 +1,63 @@
+-- What the checkers accept has numbers that fit, so on its bytes the exported checks return 0.
+use mathlib.Core.Path.{_≡_, sym, ap, subst, _∙_}
+use mathlib.Core.List.{List, [], _∷_, _++_}
+use Prim.Native.Nat.{ℕ, _≤_}
+use native.Mathlib.Omega.{arith}
+use lib.IntN.{ℤ, pos}
+use lib.ListN.{length, length-append}
+use Rattle.lines.specs.Limits.{maxLines, maxRefutation}
+use Rattle.lines.specs.Line.{lineCount}
+use Rattle.lines.specs.Refusal.{validityOf}
+use Rattle.lines.specs.Valid.{valid-list, or-valid}
+use Rattle.lines.specs.Fits.{numbers-fit}
+use Rattle.little_endian.specs.Writing.{int32Bytes, nat32Bytes, int64Bytes}
+use Rattle.steps.specs.declared.Step.{Step}
+use Rattle.steps.specs.Walk.{Names}
+use Rattle.walkback.specs.Makes.{number-below}
+use Rattle.model.specs.declared.ModelAnswer.the-variants as model
+use Rattle.model.specs.Model.{modelValidity, modelAnswer}
+use Rattle.model.specs.Laws.{valid-model, value-fits}
+use Rattle.model.specs.Meaning.{yes-exactly}
+use Rattle.refutation.specs.declared.RefutationAnswer.the-variants as refutation
+use Rattle.refutation.specs.Answer.{refutationAnswer}
+use Rattle.pieces.specs.Cut.{Words}
+use Rattle.soundness.specs.Refutes.{Refutes, kind-1, kind-2, kind-3}
+use Rattle.soundness.specs.Answered.{accepted-when}
+use Rattle.c_refutation_code.specs.Code.{refutationCode}
+use Rattle.c_checking.specs.Calls.{modelCode, checkModel, checkRefutation}
+use Rattle.c_checking.specs.Bytes.{refutation-in-bytes, model-in-bytes}
+
+-- ---- what the checkers accept has numbers that fit: a step's number is below twice the lines, and the counts are no more than the numbers
+words-append : (P Q : List ℕ) → Words P → Words Q → Words (P ++ Q)
+words-append [] Q p q = q
+words-append (r ∷ P) Q p q = (p .0, words-append P Q (p .1) q)
+
+names-words : (L : List ℤ) (ks : List ℕ) (ts : List Step) → lineCount L ≤ maxLines → Names L ks ts → Words ks
+names-words L [] ts h n = tt
+names-words L (k ∷ ks) [] h n = absurd n
+names-words L (k ∷ ks) (t ∷ ts) h n = (omega (arith, number-below L k t (n .0)), names-words L ks ts h (n .1))
+
+pub accepted-words : (n : ℕ) (L : List ℤ) (R : List ℕ) → refutationAnswer n L R ≡ refutation.Yes → Words R
+accepted-words n L R e = let a = accepted-when n L R .0 e in go (valid-list n L (a .0) .count) (a .1) (a .2)
+  where
+    go : lineCount L ≤ maxLines → length R ≤ maxRefutation → Refutes L R → Words R
+    go h l (kind-1 c) =
+        let q = ap length (c .is) in
+        subst Words (sym (c .is)) (omega arith, (omega arith, (omega arith, names-words L (c .numbers) (c .walk .steps) h (c .walk .named))))
+    go h l (kind-2 c) =
+        let q = ap length (c .is) in
+        let s = length-append (c .numbers) (c .more) in
+        subst Words (sym (c .is))
+        (omega arith, (omega arith, (omega arith, words-append (c .numbers) (c .more) (names-words L (c .numbers) (c .there .steps) h (c .there .named)) (names-words L (c .more) (c .back .steps) h (c .back .named)))))
+    go h l (kind-3 c) = let f = c .false-step in subst Words (sym (c .is)) (omega arith, (omega arith, (omega arith, (omega (arith, f .is, f .within), tt))))
+
+-- ---- so on the bytes of what is accepted, 0 is returned
+pub accepted-refutation : (n : ℕ) (L : List ℤ) (R : List ℕ) → refutationAnswer n L R ≡ refutation.Yes → checkRefutation n (int32Bytes L) (nat32Bytes R) ≡ pos 0
+accepted-refutation n L R e = ap refutationCode (refutation-in-bytes n L (numbers-fit n L (accepted-when n L R .0 e .0)) R (accepted-words n L R e) ∙ e)
+
+pub accepted-model : (n : ℕ) (L m : List ℤ) → modelAnswer n L m ≡ model.Yes → checkModel n (int32Bytes L) (int64Bytes m) ≡ pos 0
+unfolding modelValidity
+accepted-model n L m e =
+    let v = yes-exactly n L m .0 e .0 in
+    let values = valid-model n L m v .values in
+    ap modelCode (model-in-bytes n L (numbers-fit n L (or-valid (validityOf n L) _ v .0)) m (λ i. value-fits _ (values i)) ∙ e)
