@@ -8,38 +8,105 @@ ghost use Prim.Native.Nat.{_+_, _*_, _≤_};
 ghost use lib.IntN.{pos};
 ghost use lib.ListN.{length, drop, replicate};
 ghost use Rattle.lines.specs.Limits.{maxVariables};
-ghost use Rattle.buffers.specs.Room.{workRoom, outputsValidity, decideValidity};
+ghost use Rattle.buffers.specs.Room.{modelRoom, boundsRoom, groupsRoom, refutationRoom, workRoom, roomsValidity, decideValidity};
+
+// The numbers of a room for each variable, for each pair of variables, and besides.
+const MODEL_EACH: usize = 1;
+
+const BOUNDS_EACH: usize = 2;
+
+const GROUPS_EACH: usize = 1;
+
+const REFUTATION_EACH: usize = 4;
+
+const REFUTATION_MORE: usize = 4;
+
+const WORK_PAIR: usize = 16;
+
+const WORK_EACH: usize = 64;
+
+const WORK_MORE: usize = 64;
+// The rooms as constants, for arrays that are lent for so few variables: no function gives an array's length.
+pub const FEW_VARIABLES: usize = 16;
+
+pub const FEW_MODEL: usize = MODEL_EACH * FEW_VARIABLES;
+
+pub const FEW_BOUNDS: usize = BOUNDS_EACH * FEW_VARIABLES;
+
+pub const FEW_GROUPS: usize = GROUPS_EACH * FEW_VARIABLES;
+
+pub const FEW_REFUTATION: usize = REFUTATION_EACH * FEW_VARIABLES + REFUTATION_MORE;
+
+pub const FEW_WORK: usize = WORK_PAIR * FEW_VARIABLES * FEW_VARIABLES
+    + WORK_EACH * FEW_VARIABLES
+    + WORK_MORE;
+
+// The room for the model.
+pub fn model_room(n: usize) -> usize
+    requires { ⌜ n ≤ maxVariables ⌝ }
+    ensures { λ r. ⌜ r ≡ modelRoom n ⌝ }
+{
+    MODEL_EACH * n
+}
+
+// The room for the bounds.
+pub fn bounds_room(n: usize) -> usize
+    requires { ⌜ n ≤ maxVariables ⌝ }
+    ensures { λ r. ⌜ r ≡ boundsRoom n ⌝ }
+{
+    BOUNDS_EACH * n
+}
+
+// The room for the groups.
+pub fn groups_room(n: usize) -> usize
+    requires { ⌜ n ≤ maxVariables ⌝ }
+    ensures { λ r. ⌜ r ≡ groupsRoom n ⌝ }
+{
+    GROUPS_EACH * n
+}
+
+// The room for a refutation.
+pub fn refutation_room(n: usize) -> usize
+    requires { ⌜ n ≤ maxVariables ⌝ }
+    ensures { λ r. ⌜ r ≡ refutationRoom n ⌝ }
+{
+    REFUTATION_EACH * n + REFUTATION_MORE
+}
 
 // The named part of the work area.
 pub fn work_room(n: usize) -> usize
     requires { ⌜ n ≤ maxVariables ⌝ }
     ensures { λ r. ⌜ r ≡ workRoom n ⌝ }
 {
-    16 * n * n + 64 * n + 64
+    WORK_PAIR * n * n + WORK_EACH * n + WORK_MORE
 }
 
-// Refusal 7, with the place of the first buffer that is too short: 1 model, 2 bounds, 3 groups, 4 refutation.
-fn outputs_validity(
+// Refusals 7 and 8: the first buffer that is too short, of those for output with its place.
+fn rooms_validity(
     n: usize,
     model: usize,
     bounds: usize,
     groups: usize,
     refutation: usize,
+    work: usize,
 ) -> Validity
     requires { ⌜ n ≤ maxVariables ⌝ }
-    ensures { λ r. ⌜ r ≡ outputsValidity n model bounds groups refutation ⌝ }
+    ensures { λ r. ⌜ r ≡ roomsValidity n (record { model = model; bounds = bounds; groups = groups; refutation = refutation; work = work }) ⌝ }
 {
-    if model < n {
+    if model < model_room(n) {
         return Validity::Refused(Refusal::ShortOutput(1));
     }
-    if bounds < 2 * n {
+    if bounds < bounds_room(n) {
         return Validity::Refused(Refusal::ShortOutput(2));
     }
-    if groups < n {
+    if groups < groups_room(n) {
         return Validity::Refused(Refusal::ShortOutput(3));
     }
-    if refutation < 4 + 4 * n {
+    if refutation < refutation_room(n) {
         return Validity::Refused(Refusal::ShortOutput(4));
+    }
+    if work < work_room(n) {
+        return Validity::Refused(Refusal::ShortWorkArea);
     }
     Validity::Valid
 }
@@ -54,20 +121,13 @@ pub fn decide_validity(
     refutation: usize,
     work: usize,
 ) -> Validity
-    ensures { λ r. ⌜ r ≡ decideValidity n (now (list .entry)) model bounds groups refutation work ⌝ }
+    ensures { λ r. ⌜ r ≡ decideValidity n (now (list .entry)) (record { model = model; bounds = bounds; groups = groups; refutation = refutation; work = work }) ⌝ }
 {
     let found = list_validity(n, list);
     if let Validity::Refused(r) = found {
         return Validity::Refused(r);
     }
-    let short = outputs_validity(n, model, bounds, groups, refutation);
-    if let Validity::Refused(r) = short {
-        return Validity::Refused(r);
-    }
-    if work < work_room(n) {
-        return Validity::Refused(Refusal::ShortWorkArea);
-    }
-    Validity::Valid
+    rooms_validity(n, model, bounds, groups, refutation, work)
 }
 
 // Zeros in the first room numbers.

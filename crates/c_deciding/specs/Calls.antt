@@ -5,7 +5,8 @@ use Prim.Native.Nat.{ℕ}
 use lib.IntN.{ℤ, pos}
 use Rattle.decide.specs.declared.Answer.{Answer}
 use Rattle.decide.specs.declared.Answer.the-variants as decide
-use Rattle.decide.specs.Decided.{Lent, answerFor, Leaves}
+use Rattle.buffers.specs.Room.{Lent}
+use Rattle.decide.specs.Decided.{answerFor, Leaves}
 use Rattle.c_codes.specs.Codes.{noCode, refusalCode}
 
 -- the number that an answer on a list is returned as

@@ -4,8 +4,6 @@ use mathlib.Core.Bool.{Bool, true, false, cond}
 use mathlib.Core.List.{List, _++_}
 use Prim.Native.Nat.{ℕ, _+_, _*_, _-_, _^_, _<_, _≤_}
 use native.Mathlib.Omega.{arith}
-use borrow.Author.Tests.{ltb-false, le-ltb}
-use lib.Dec.{ltb}
 use lib.IntN.{ℤ, pos}
 use lib.ListN.{length, drop, replicate}
 use lib.Seq.{drop-drop}
@@ -17,8 +15,8 @@ use Rattle.integers.specs.Sequence.{tabulate}
 use Rattle.lines.specs.Line.{linesOf}
 use Rattle.lines.specs.Limits.{maxVariables}
 use Rattle.distances.specs.Table.{tableStart}
-use Rattle.lines.specs.Refusal.{refuseIf, validityOf}
-use Rattle.lines.specs.Valid.{ListOk, or-valid, not-refused, valid-list}
+use Rattle.lines.specs.Refusal.{validityOf}
+use Rattle.lines.specs.Valid.{ListOk, or-valid, valid-list}
 use Rattle.bounds.specs.Table.{tableModel}
 use Rattle.tables.specs.Table.{tableOf}
 use Rattle.answering.specs.Table.{tableFor, short-table, model-agrees, bounds-agree, groups-agree, table-closed, model-ready}
@@ -26,7 +24,7 @@ use Rattle.answering.specs.Ready.{AnswersReady}
 use Rattle.answers.specs.Verdict.{verdictOf}
 use Rattle.answers.specs.Answers.{modelOf, boundsOf, groupsOf, boundAt, groupAt}
 use Rattle.answers.specs.Refuted.{Due}
-use Rattle.buffers.specs.Room.{boundsRoom, refutationRoom, workRoom, outputsValidity, decideValidity, square-small}
+use Rattle.buffers.specs.Room.{Lent, Lengths, lengthsOf, modelRoom, boundsRoom, groupsRoom, workRoom, lentRooms, HaveRoom, roomsValidity, decideValidity, valid-room, room-valid, model-room, bounds-room, groups-room, refutation-room, work-room, work-small}
 use Rattle.decide.specs.declared.Answer.{Answer}
 use Rattle.decide.specs.declared.Answer.the-variants.{Yes, No, Refused}
 use Rattle.decide.specs.Searched.{usedRoom, SearchReady, Searched, tableIn}
@@ -38,25 +36,18 @@ unlessRefused Valid a = a
 unlessRefused (validity.Refused r) a = Refused r
 
 -- buffers are given by their lengths
-unfoldable pub decideAnswer : ℕ → List ℤ → ℕ → ℕ → ℕ → ℕ → ℕ → Answer
-decideAnswer n L model bounds groups refutation work = unlessRefused (decideValidity n L model bounds groups refutation work) (cond (verdictOf n (linesOf L)) Yes No)
+unfoldable pub decideAnswer : ℕ → List ℤ → Lengths → Answer
+decideAnswer n L s = unlessRefused (decideValidity n L s) (cond (verdictOf n (linesOf L)) Yes No)
 
--- ---- the lent buffers
-pub record Lent : Type 0 where
-  pub model : List ℤ
-  pub bounds : List ℤ
-  pub groups : List ℕ
-  pub refutation : List ℕ
-  pub work : List ℤ
-
+-- ---- what the lent buffers hold
 -- the work area with zeros in its named part
 abbrev pub cleared : ℕ → List ℤ → List ℤ
 cleared n w = replicate (workRoom n) (pos 0) ++ drop (workRoom n) w
 
 pub record OnYes (n : ℕ) (L : List ℤ) (b a : Lent) : Type 0 where
-  pub model : a .model ≡ modelOf n (linesOf L) ++ drop n (b .model)
+  pub model : a .model ≡ modelOf n (linesOf L) ++ drop (modelRoom n) (b .model)
   pub bounds : a .bounds ≡ boundsOf n (linesOf L) ++ drop (boundsRoom n) (b .bounds)
-  pub groups : a .groups ≡ groupsOf n (linesOf L) ++ drop n (b .groups)
+  pub groups : a .groups ≡ groupsOf n (linesOf L) ++ drop (groupsRoom n) (b .groups)
   pub refutation : a .refutation ≡ b .refutation
   pub work : a .work ≡ cleared n (b .work)
 
@@ -78,7 +69,7 @@ Leaves n L (Refused r) b a = a ≡ b
 
 -- the answer, by what is lent
 abbrev pub answerFor : ℕ → List ℤ → Lent → Answer
-answerFor n L b = decideAnswer n L (length (b .model)) (length (b .bounds)) (length (b .groups)) (length (b .refutation)) (length (b .work))
+answerFor n L b = decideAnswer n L (lengthsOf b)
 
 pub record Decided (n : ℕ) (L : List ℤ) (answer : Answer) (b a : Lent) : Type 0 where
   pub is : answer ≡ answerFor n L b
@@ -91,32 +82,18 @@ used-room n = omega arith
 -- ---- nothing is refused
 pub record DecideOk (n : ℕ) (L : List ℤ) (b : Lent) : Type 0 where
   pub list : validityOf n L ≡ Valid
-  pub model : n ≤ length (b .model)
-  pub bounds : boundsRoom n ≤ length (b .bounds)
-  pub groups : n ≤ length (b .groups)
-  pub refutation : refutationRoom n ≤ length (b .refutation)
-  pub work : workRoom n ≤ length (b .work)
+  pub rooms : HaveRoom lentRooms n (lengthsOf b)
 
 abbrev pub validityFor : ℕ → List ℤ → Lent → Validity
-validityFor n L b = decideValidity n L (length (b .model)) (length (b .bounds)) (length (b .groups)) (length (b .refutation)) (length (b .work))
-
-room-of : (a b : ℕ) (r : Refusal) → refuseIf (ltb a b) r ≡ Valid → b ≤ a
-room-of a b r e = ltb-false a b (not-refused (ltb a b) r e)
+validityFor n L b = decideValidity n L (lengthsOf b)
 
 pub decide-ok : (n : ℕ) (L : List ℤ) (b : Lent) → validityFor n L b ≡ Valid → DecideOk n L b
-unfolding decideValidity outputsValidity
-decide-ok n L b e =
-    let p = or-valid (validityOf n L) _ e in
-    let q = or-valid (outputsValidity n (length (b .model)) (length (b .bounds)) (length (b .groups)) (length (b .refutation))) _ (p .1) in
-    let r = or-valid _ _ (q .0) in
-    let s = or-valid _ _ (r .1) in
-    let t = or-valid _ _ (s .1) in
-    record { list = p .0; model = room-of _ _ _ (r .0); bounds = room-of _ _ _ (s .0); groups = room-of _ _ _ (t .0); refutation = room-of _ _ _ (t .1); work = room-of _ _ _ (q .1) }
+unfolding decideValidity
+decide-ok n L b e = let p = or-valid (validityOf n L) (roomsValidity n (lengthsOf b)) e in record { list = p .0; rooms = valid-room n (lengthsOf b) (p .1) }
 
 pub ok-decide : (n : ℕ) (L : List ℤ) (b : Lent) → DecideOk n L b → validityFor n L b ≡ Valid
-unfolding decideValidity outputsValidity
-ok-decide n L b o =
-    rw (o .list, le-ltb (length (b .model)) n (o .model), le-ltb (length (b .bounds)) (boundsRoom n) (o .bounds), le-ltb (length (b .groups)) n (o .groups), le-ltb (length (b .refutation)) (refutationRoom n) (o .refutation), le-ltb (length (b .work)) (workRoom n) (o .work))
+unfolding decideValidity
+ok-decide n L b o = rw (o .list) (room-valid n (lengthsOf b) (o .rooms))
 
 module _ (n : ℕ) (L : List ℤ) (b : Lent) where
   pub refused : (r : Refusal) → validityFor n L b ≡ validity.Refused r → Decided n L (Refused r) b b
@@ -133,10 +110,10 @@ module _ (n : ℕ) (L : List ℤ) (b : Lent) where
     answer-no v = sym (rw (e, v))
 
     pub search-ready : SearchReady n L (b .refutation) (b .work)
-    search-ready = let o = decide-ok n L b e in record { valid = o .list; room = o .refutation; work-room = omega (arith, used-room n, o .work) }
+    search-ready = let o = decide-ok n L b e in record { valid = o .list; room = refutation-room (o .rooms); work-room = omega (arith, used-room n, work-room (o .rooms)) }
 
     pub room-left : {R₁ : List ℕ} {w₁ : List ℤ} {r : Bool} → Searched n L (b .refutation) (b .work) R₁ w₁ r → workRoom n ≤ length w₁
-    room-left k = omega (arith, k .same-length, decide-ok n L b e .work)
+    room-left k = omega (arith, k .same-length, work-room (decide-ok n L b e .rooms))
 
     pub few : n ≤ maxVariables
     few = valid-list n L (decide-ok n L b e .list) .variables
@@ -146,7 +123,7 @@ module _ (n : ℕ) (L : List ℤ) (b : Lent) where
     table-fits k = omega (arith, room-left k, used-room n)
 
     pub start-small : tableStart (2 * n) * 8 < 2 ^ 32
-    start-small = omega (arith, used-room n, square-small n few, few)
+    start-small = omega (arith, used-room n, work-small n few)
 
     behind-room : (w₁ : List ℤ) → drop (usedRoom n) w₁ ≡ drop (usedRoom n) (b .work) → drop (workRoom n) w₁ ≡ drop (workRoom n) (b .work)
     behind-room w₁ k =
@@ -178,12 +155,12 @@ module _ (n : ℕ) (L : List ℤ) (b : Lent) where
         answers-ready =
             let o = decide-ok n L b e in
             subst (λ (t : List ℤ). AnswersReady n t (b .model) (b .bounds) (b .groups)) (sym table-is)
-            (record { table = short-table n L (ok .variables) (ok .lines); closed = table-closed n L (o .list) (k .verdict); small = model-ready n L (o .list) (k .verdict); model-room = o .model; bounds-room = o .bounds; groups-room = o .groups })
+            (record { table = short-table n L (ok .variables) (ok .lines); closed = table-closed n L (o .list) (k .verdict); small = model-ready n L (o .list) (k .verdict); model-room = model-room (o .rooms); bounds-room = bounds-room (o .rooms); groups-room = groups-room (o .rooms) })
 
         pub decided-yes : (m bs : List ℤ) (g : List ℕ)
-            → (m ≡ tabulate n (tableModel n (tableOf (2 * n) (tableIn n w₁))) ++ drop n (b .model))
-            × (bs ≡ tabulate (2 * n) (boundAt (tableOf (2 * n) (tableIn n w₁))) ++ drop (2 * n) (b .bounds))
-            × (g ≡ tabulate n (groupAt (tableOf (2 * n) (tableIn n w₁))) ++ drop n (b .groups))
+            → (m ≡ tabulate n (tableModel n (tableOf (2 * n) (tableIn n w₁))) ++ drop (modelRoom n) (b .model))
+            × (bs ≡ tabulate (boundsRoom n) (boundAt (tableOf (2 * n) (tableIn n w₁))) ++ drop (boundsRoom n) (b .bounds))
+            × (g ≡ tabulate n (groupAt (tableOf (2 * n) (tableIn n w₁))) ++ drop (groupsRoom n) (b .groups))
             → (w₂ : List ℤ) → w₂ ≡ replicate (workRoom n) (pos 0) ++ drop (workRoom n) w₁
             → Decided n L Yes b (record { model = m; bounds = bs; groups = g; refutation = R₁; work = w₂ })
         decided-yes m bs g h w₂ z =
@@ -191,9 +168,9 @@ module _ (n : ℕ) (L : List ℤ) (b : Lent) where
               is = answer-yes (k .verdict);
               leaves =
                   record {
-                    model = h .0 ∙ ap (λ (x : List ℤ). x ++ drop n (b .model)) (ap (λ (q : List ℤ). tabulate n (tableModel n (tableOf (2 * n) q))) table-is ∙ model-agrees n L (ok .variables) (ok .lines));
-                    bounds = h .1 ∙ ap (λ (x : List ℤ). x ++ drop (2 * n) (b .bounds)) (ap (λ (q : List ℤ). tabulate (2 * n) (boundAt (tableOf (2 * n) q))) table-is ∙ bounds-agree n L (ok .variables) (ok .lines));
-                    groups = h .2 ∙ ap (λ (x : List ℕ). x ++ drop n (b .groups)) (ap (λ (q : List ℤ). tabulate n (groupAt (tableOf (2 * n) q))) table-is ∙ groups-agree n L (ok .variables) (ok .lines));
+                    model = h .0 ∙ ap (λ (x : List ℤ). x ++ drop (modelRoom n) (b .model)) (ap (λ (q : List ℤ). tabulate n (tableModel n (tableOf (2 * n) q))) table-is ∙ model-agrees n L (ok .variables) (ok .lines));
+                    bounds = h .1 ∙ ap (λ (x : List ℤ). x ++ drop (boundsRoom n) (b .bounds)) (ap (λ (q : List ℤ). tabulate (boundsRoom n) (boundAt (tableOf (2 * n) q))) table-is ∙ bounds-agree n L (ok .variables) (ok .lines));
+                    groups = h .2 ∙ ap (λ (x : List ℕ). x ++ drop (groupsRoom n) (b .groups)) (ap (λ (q : List ℤ). tabulate n (groupAt (tableOf (2 * n) q))) table-is ∙ groups-agree n L (ok .variables) (ok .lines));
                     refutation = k .on-yes refl .0;
                     work = cleared-is w₁ w₂ (k .behind) z;
                   };

@@ -18,19 +18,19 @@ use Rattle.soundness.specs.Head.{stepsIn}
 use Rattle.soundness.specs.Refutes.{Refutes, kind-1, kind-2, kind-3}
 use Rattle.answers.specs.Verdict.{verdictOf}
 use Rattle.answers.specs.Answers.{modelOf, boundsOf, groupsOf}
-use Rattle.buffers.specs.Room.{boundsRoom}
+use Rattle.buffers.specs.Room.{Lent, modelRoom, boundsRoom, groupsRoom}
 use Rattle.decide.specs.declared.Answer.the-variants.{Yes, No}
-use Rattle.decide.specs.Decided.{Lent, unlessRefused, decideAnswer, answerFor, validityFor, OnYes, OnNo}
+use Rattle.decide.specs.Decided.{unlessRefused, decideAnswer, answerFor, validityFor, OnYes, OnNo}
 
 -- The parts that are written: of a refutation, the 3 + p + q numbers that its counts tell.
 abbrev pub modelIn : ℕ → Lent → List ℤ
-modelIn n a = take n (a .model)
+modelIn n a = take (modelRoom n) (a .model)
 
 abbrev pub boundsIn : ℕ → Lent → List ℤ
 boundsIn n a = take (boundsRoom n) (a .bounds)
 
 abbrev pub groupsIn : ℕ → Lent → List ℕ
-groupsIn n a = take n (a .groups)
+groupsIn n a = take (groupsRoom n) (a .groups)
 
 abbrev pub stated : List ℕ → List ℕ
 stated R = take (headSize + stepsIn R) R
@@ -67,7 +67,7 @@ stated-length L R (kind-3 c) rest = rw (c .is) refl
 module _ {n : ℕ} {L : List ℤ} {b a : Lent} where
   pub model-in : OnYes n L b a → modelIn n a ≡ modelOf n (linesOf L)
   unfolding modelOf
-  model-in w = ap (take n) (w .model) ∙ take-at (modelOf n (linesOf L)) _ n (length-tabulate n _)
+  model-in w = ap (take (modelRoom n)) (w .model) ∙ take-at (modelOf n (linesOf L)) _ (modelRoom n) (length-tabulate (modelRoom n) _)
 
   pub bounds-in : OnYes n L b a → boundsIn n a ≡ boundsOf n (linesOf L)
   unfolding boundsOf
@@ -75,7 +75,7 @@ module _ {n : ℕ} {L : List ℤ} {b a : Lent} where
 
   pub groups-in : OnYes n L b a → groupsIn n a ≡ groupsOf n (linesOf L)
   unfolding groupsOf
-  groups-in w = ap (take n) (w .groups) ∙ take-at (groupsOf n (linesOf L)) _ n (length-tabulate n _)
+  groups-in w = ap (take (groupsRoom n)) (w .groups) ∙ take-at (groupsOf n (linesOf L)) _ (groupsRoom n) (length-tabulate (groupsRoom n) _)
 
   pub refutation-in : (w : OnNo n L b a) → refutationIn a ≡ w .numbers
   refutation-in w =

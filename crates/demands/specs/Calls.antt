@@ -25,11 +25,11 @@ use Rattle.answers.specs.Decided.{lines-ok, due-accepted}
 use Rattle.answers.specs.Verdict.{verdictOf}
 use Rattle.answers.specs.Answers.{modelOf, boundsOf, groupsOf}
 use Rattle.answers.specs.Refuted.{Due}
-use Rattle.buffers.specs.Room.{boundsRoom}
+use Rattle.buffers.specs.Room.{Lent, modelRoom, boundsRoom, groupsRoom}
 use Rattle.decide.specs.declared.Answer.{Answer}
 use Rattle.decide.specs.declared.Answer.the-variants.{Yes, No, Refused}
 use Rattle.decide.specs.Parts.{yes-verdict, no-verdict, modelIn, boundsIn, groupsIn, refutationIn, model-in, bounds-in, groups-in, refutation-in}
-use Rattle.decide.specs.Decided.{Lent, unlessRefused, decideAnswer, cleared, OnYes, OnNo, Leaves, answerFor, Decided, validityFor, decide-ok}
+use Rattle.decide.specs.Decided.{unlessRefused, decideAnswer, cleared, OnYes, OnNo, Leaves, answerFor, Decided, validityFor, decide-ok}
 use Rattle.decide.specs.Places.{Below}
 use Rattle.c_codes.specs.Codes.{noCode, refusalUnit, refusalCode}
 use Rattle.c_codes.specs.Apart.{no-refusal}
@@ -101,17 +101,17 @@ module _ {n : ℕ} {L : List ℤ} (c : Call n L) where
   pub call-work : c .after .work ≡ cleared n (c .before .work)
   call-work = either (λ e. on-yes e .work) (λ e. on-no e .work)
 
-  pub beyond-model : drop n (c .after .model) ≡ drop n (c .before .model)
+  pub beyond-model : drop (modelRoom n) (c .after .model) ≡ drop (modelRoom n) (c .before .model)
   unfolding modelOf
-  beyond-model = either (λ e. ap (drop n) (on-yes e .model) ∙ drop-at (modelOf n (linesOf L)) _ n (length-tabulate n _)) (λ e. ap (drop n) (on-no e .model))
+  beyond-model = either (λ e. ap (drop (modelRoom n)) (on-yes e .model) ∙ drop-at (modelOf n (linesOf L)) _ (modelRoom n) (length-tabulate (modelRoom n) _)) (λ e. ap (drop (modelRoom n)) (on-no e .model))
 
   pub beyond-bounds : drop (boundsRoom n) (c .after .bounds) ≡ drop (boundsRoom n) (c .before .bounds)
   unfolding boundsOf
   beyond-bounds = either (λ e. ap (drop (boundsRoom n)) (on-yes e .bounds) ∙ drop-at (boundsOf n (linesOf L)) _ (boundsRoom n) (length-tabulate (boundsRoom n) _)) (λ e. ap (drop (boundsRoom n)) (on-no e .bounds))
 
-  pub beyond-groups : drop n (c .after .groups) ≡ drop n (c .before .groups)
+  pub beyond-groups : drop (groupsRoom n) (c .after .groups) ≡ drop (groupsRoom n) (c .before .groups)
   unfolding groupsOf
-  beyond-groups = either (λ e. ap (drop n) (on-yes e .groups) ∙ drop-at (groupsOf n (linesOf L)) _ n (length-tabulate n _)) (λ e. ap (drop n) (on-no e .groups))
+  beyond-groups = either (λ e. ap (drop (groupsRoom n)) (on-yes e .groups) ∙ drop-at (groupsOf n (linesOf L)) _ (groupsRoom n) (length-tabulate (groupsRoom n) _)) (λ e. ap (drop (groupsRoom n)) (on-no e .groups))
 
 -- ---- the exported function: what it returned, as a call
 -- The call that a returned number tells of: 0 is its yes, 1,000,000 its no, and no other number is returned for it.

@@ -3,7 +3,7 @@
 use mathlib.Core.Path.{_≡_, refl, ap, _∙_}
 use mathlib.Core.Bool.{true, false}
 use mathlib.Core.List.{List, [], _∷_, _++_}
-use Prim.Native.Nat.{ℕ, _+_, _*_, _≤_}
+use Prim.Native.Nat.{ℕ, _*_, _≤_}
 use native.Mathlib.Omega.{arith}
 use lib.IntN.{ℤ, pos, negℤ}
 use lib.ListN.{length, take, drop, replicate}
@@ -32,9 +32,9 @@ use Rattle.answers.specs.Semantics.{absentLeast, absentGreatest}
 use Rattle.answers.specs.Verdict.{hasFalse, firstFalse, consistentHalves, verdictOf, dueKind}
 use Rattle.answers.specs.Answers.{modelOf, boundsOf, groupsOf}
 use Rattle.answers.specs.Refuted.{Due}
-use Rattle.buffers.specs.Room.{boundsRoom, workRoom}
+use Rattle.buffers.specs.Room.{Lent, modelRoom, boundsRoom, groupsRoom, refutationRoom, workRoom}
 use Rattle.decide.specs.declared.Answer.the-variants.{Yes, No}
-use Rattle.decide.specs.Decided.{Lent, OnYes, OnNo}
+use Rattle.decide.specs.Decided.{OnYes, OnNo}
 use Rattle.demands.specs.Calls.{Call, verdict-yes, verdict-no, on-yes as call-on-yes, on-no as call-on-no}
 
 -- what is written on a yes: model, bounds, groups; on a no: a refutation, here the one that document 01 names, and the sums of its walks
@@ -65,9 +65,9 @@ Gives n L c (on-yes m b g) =
     (c .answer ≡ Yes)
     × (c .after
     ≡ record {
-      model = m ++ drop n (c .before .model);
+      model = m ++ drop (modelRoom n) (c .before .model);
       bounds = b ++ drop (boundsRoom n) (c .before .bounds);
-      groups = g ++ drop n (c .before .groups);
+      groups = g ++ drop (groupsRoom n) (c .before .groups);
       refutation = c .before .refutation;
       work = replicate (workRoom n) (pos 0) ++ drop (workRoom n) (c .before .work);
     })
@@ -169,18 +169,18 @@ cases =
 leaves-yes : {n : ℕ} {L : List ℤ} {b a : Lent} → OnYes n L b a → (m bs : List ℤ) (g : List ℕ) → modelOf n (linesOf L) ≡ m → boundsOf n (linesOf L) ≡ bs → groupsOf n (linesOf L) ≡ g
     → a
     ≡ record {
-      model = m ++ drop n (b .model);
+      model = m ++ drop (modelRoom n) (b .model);
       bounds = bs ++ drop (boundsRoom n) (b .bounds);
-      groups = g ++ drop n (b .groups);
+      groups = g ++ drop (groupsRoom n) (b .groups);
       refutation = b .refutation;
       work = replicate (workRoom n) (pos 0) ++ drop (workRoom n) (b .work);
     }
 leaves-yes {n} {L} {b} {a} w m bs g e f h =
     λ t.
     record {
-      model = (w .model ∙ ap (λ (x : List ℤ). x ++ drop n (b .model)) e) t;
+      model = (w .model ∙ ap (λ (x : List ℤ). x ++ drop (modelRoom n) (b .model)) e) t;
       bounds = (w .bounds ∙ ap (λ (x : List ℤ). x ++ drop (boundsRoom n) (b .bounds)) f) t;
-      groups = (w .groups ∙ ap (λ (x : List ℕ). x ++ drop n (b .groups)) h) t;
+      groups = (w .groups ∙ ap (λ (x : List ℕ). x ++ drop (groupsRoom n) (b .groups)) h) t;
       refutation = w .refutation t;
       work = w .work t;
     }
@@ -191,7 +191,7 @@ gives-yes n L m bs g v e f h c = let y = verdict-yes c v in (y, leaves-yes (call
 
 -- on a no: the refutation is accepted, of the due kind, and short
 due-here : (n : ℕ) (L : List ℤ) (R : List ℕ) → refutationAnswer n L R ≡ accepted-yes → kindOf R ≡ dueKind n (linesOf L)
-    → (dueKind n (linesOf L) ≡ 3 → R ≡ 3 ∷ 1 ∷ 0 ∷ 2 * firstFalse 0 (linesOf L) ∷ []) → ((dueKind n (linesOf L) ≡ 3 → ⊥) → stepsIn R ≤ 4 * n) → length R ≤ 4 + 4 * n → Due n L R
+    → (dueKind n (linesOf L) ≡ 3 → R ≡ 3 ∷ 1 ∷ 0 ∷ 2 * firstFalse 0 (linesOf L) ∷ []) → ((dueKind n (linesOf L) ≡ 3 → ⊥) → stepsIn R ≤ 4 * n) → length R ≤ refutationRoom n → Due n L R
 due-here n L R e k l f s = record { refutes = accepted-when n L R .0 e .2; kind = k; lowest = l; few = f; size = s }
 
 gives-no : (n : ℕ) (L : List ℤ) (R : List ℕ) (sums : List ℤ) → verdictOf n (linesOf L) ≡ false → Due n L R → WalkSums L R sums → (c : Call n L) → Gives n L c (on-no R sums)

@@ -1,7 +1,7 @@
 -- Versions of deciding that answer idly, by guessing or with a refusal out of its order, each a definition, and at a named input what breaks the promise.
 use mathlib.Core.Path.{_≡_, refl, sym, ap, subst, _∙_}
 use mathlib.Core.Bool.{Bool, true, false, cond, not}
-use mathlib.Core.List.{List, [], _∷_, _++_}
+use mathlib.Core.List.{List, [], _∷_, _++_, reverse}
 use Prim.Native.Nat.{ℕ, zero, suc, _+_, _%_, _<_}
 use native.Mathlib.Omega.{arith}
 use lib.Dec.{eqb, ltb}
@@ -10,7 +10,7 @@ use lib.ListN.{length, getD, take, drop, replicate}
 use Rattle.integers.specs.Laws.{never}
 use Rattle.integers.specs.Sequence.{tabulate}
 use Rattle.lines.specs.declared.Line.{Line}
-use Rattle.lines.specs.declared.Refusal.the-variants.{TooManyVariables, BrokenLength, TooManyLines, BadCoefficient, BadVariable, BadConstant, ShortOutput, ShortWorkArea}
+use Rattle.lines.specs.declared.Refusal.the-variants.{TooManyVariables, BrokenLength, TooManyLines, BadCoefficient, BadVariable, BadConstant, ShortOutput}
 use Rattle.lines.specs.declared.Validity.{Validity}
 use Rattle.lines.specs.declared.Validity.the-variants as validity
 use Rattle.lines.specs.Limits.{lineSize, maxVariables, maxLines, maxConstant}
@@ -40,11 +40,11 @@ use Rattle.answers.specs.Verdict.{hasFalse, consistentHalves, verdictOf, dueKin
 use Rattle.answers.specs.Answers.{modelOf, boundsOf, groupsOf}
 use Rattle.answers.specs.Refuted.{Due, due-refutation}
 use Rattle.answers.specs.Decided.{due-accepted}
-use Rattle.buffers.specs.Room.{boundsRoom, refutationRoom, workRoom, outputsValidity, decideValidity}
+use Rattle.buffers.specs.Room.{Lent, lengthsOf, modelRoom, boundsRoom, groupsRoom, refutationRoom, workRoom, outputRooms, workRooms, firstShort, roomsValidity, decideValidity}
 use Rattle.decide.specs.declared.Answer.{Answer}
 use Rattle.decide.specs.declared.Answer.the-variants.{Yes, No, Refused}
 use Rattle.decide.specs.Parts.{no-verdict, refutationIn, refutation-in}
-use Rattle.decide.specs.Decided.{Lent, OnYes, OnNo, Leaves, Decided, cleared, unlessRefused, decideAnswer, answerFor, validityFor}
+use Rattle.decide.specs.Decided.{OnYes, OnNo, Leaves, Decided, cleared, unlessRefused, decideAnswer, answerFor, validityFor}
 use Rattle.demands.specs.Versions.{falseList}
 use Rattle.demands.specs.Cases.{list-4, list-8, list-9}
 
@@ -65,9 +65,9 @@ Keeps f = (n : ℕ) (L : List ℤ) (b : Lent) → Decided n L (f n L b .answer) 
 abbrev written : ℕ → List ℤ → List ℤ → List ℕ → Lent → Lent
 written n model bounds groups b =
     record {
-      model = model ++ drop n (b .model);
+      model = model ++ drop (modelRoom n) (b .model);
       bounds = bounds ++ drop (boundsRoom n) (b .bounds);
-      groups = groups ++ drop n (b .groups);
+      groups = groups ++ drop (groupsRoom n) (b .groups);
       refutation = b .refutation;
       work = cleared n (b .work);
     }
@@ -139,9 +139,9 @@ on-no y m k n L b e = subst (λ (a : Answer). Leaves n L a b (leftBy a b (y n L 
 abbrev roomWith : ℕ → ℕ → Lent
 roomWith n r =
     record {
-      model = replicate n (pos 0);
+      model = replicate (modelRoom n) (pos 0);
       bounds = replicate (boundsRoom n) (pos 0);
-      groups = replicate n 0;
+      groups = replicate (groupsRoom n) 0;
       refutation = replicate (refutationRoom n) r;
       work = replicate (workRoom n) (pos 0);
     }
@@ -161,15 +161,15 @@ equalPair =
     ∷ []
 
 no-lines-yes : answerFor 0 [] (room 0) ≡ Yes
-unfolding decideAnswer decideValidity outputsValidity validityOf linesValidity verdictOf hasFalse noNegative consistentHalves
+unfolding decideAnswer decideValidity roomsValidity validityOf linesValidity verdictOf hasFalse noNegative consistentHalves
 no-lines-yes = refl
 
 false-list-no : answerFor 0 falseList (room 0) ≡ No
-unfolding decideAnswer decideValidity outputsValidity validityOf linesValidity coefficientsOk variableOk variablesOk constantOk lineAt isFalse verdictOf hasFalse
+unfolding decideAnswer decideValidity roomsValidity validityOf linesValidity coefficientsOk variableOk variablesOk constantOk lineAt isFalse verdictOf hasFalse
 false-list-no = refl
 
 list-8-no : answerFor 1 list-8 (roomWith 1 9) ≡ No
-unfolding decideAnswer decideValidity outputsValidity validityOf linesValidity coefficientsOk variableOk variablesOk constantOk lineAt isFalse verdictOf hasFalse noNegative
+unfolding decideAnswer decideValidity roomsValidity validityOf linesValidity coefficientsOk variableOk variablesOk constantOk lineAt isFalse verdictOf hasFalse noNegative
     entry digit stepOf stepsOf relaxRow startRow rounds rowAt best
 list-8-no = refl
 
@@ -192,19 +192,13 @@ refusingBy v n L b = outcome (unlessRefused (v n L b) (cond (verdictOf n (linesO
 
 -- of the output buffers that are too short it names the last
 abbrev lastShortFirst : ℕ → List ℤ → Lent → Validity
-lastShortFirst n L b =
-    validityOf n L
-    orElse refuseIf (ltb (length (b .refutation)) (refutationRoom n)) (ShortOutput 4)
-    orElse refuseIf (ltb (length (b .groups)) n) (ShortOutput 3)
-    orElse refuseIf (ltb (length (b .bounds)) (boundsRoom n)) (ShortOutput 2)
-    orElse refuseIf (ltb (length (b .model)) n) (ShortOutput 1)
-    orElse refuseIf (ltb (length (b .work)) (workRoom n)) ShortWorkArea
+lastShortFirst n L b = validityOf n L orElse firstShort (reverse outputRooms ++ workRooms) n (lengthsOf b)
 
 pub namesLastShort : Version
 namesLastShort = refusingBy lastShortFirst
 
 pub names-last-short-breaks : Keeps namesLastShort → ⊥
-unfolding namesLastShort decideAnswer decideValidity outputsValidity validityOf linesValidity
+unfolding namesLastShort decideAnswer decideValidity roomsValidity validityOf linesValidity
 names-last-short-breaks k =
     let e : Refused (ShortOutput 4) ≡ Refused (ShortOutput 1) = k 1 [] (room 0) .is in
     let p : _≡_ {A = ℕ} 4 1 = cc in absurd (omega arith)
@@ -236,7 +230,7 @@ abbrev twiceWrong : List ℤ
 twiceWrong = pos 1 ∷ pos 0 ∷ pos 0 ∷ pos 0 ∷ pos (maxConstant + 1) ∷ []
 
 pub refuses-constants-first-breaks : Keeps refusesConstantsFirst → ⊥
-unfolding refusesConstantsFirst decideAnswer decideValidity outputsValidity validityOf linesValidity coefficientsOk variableOk variablesOk constantOk lineAt
+unfolding refusesConstantsFirst decideAnswer decideValidity roomsValidity validityOf linesValidity coefficientsOk variableOk variablesOk constantOk lineAt
 refuses-constants-first-breaks k = let e : Refused (BadConstant 0) ≡ Refused (BadVariable 0) = k 0 twiceWrong (room 0) .is in never (cc)
 
 -- it says yes to every list, with a model of zeros
@@ -244,7 +238,7 @@ pub yesWithZeros : Version
 yesWithZeros n L b = outcome (unlessRefused (validityFor n L b) Yes) b (written n (replicate n (pos 0)) (boundsOf n (linesOf L)) (groupsOf n (linesOf L)) b) b
 
 pub yes-with-zeros-breaks : Keeps yesWithZeros → ⊥
-unfolding yesWithZeros decideValidity outputsValidity validityOf linesValidity coefficientsOk variableOk variablesOk constantOk lineAt
+unfolding yesWithZeros decideValidity roomsValidity validityOf linesValidity coefficientsOk variableOk variablesOk constantOk lineAt
 yes-with-zeros-breaks k = let e : Yes ≡ No = k 0 falseList (room 0) .is ∙ false-list-no in never (cc)
 
 -- it says no to every list, with one stock refutation
@@ -252,7 +246,7 @@ pub noWithStock : Version
 noWithStock n L b = outcome (unlessRefused (validityFor n L b) No) b b (refuted n (3 ∷ 1 ∷ 0 ∷ 0 ∷ []) b)
 
 pub no-with-stock-breaks : Keeps noWithStock → ⊥
-unfolding noWithStock decideValidity outputsValidity validityOf linesValidity
+unfolding noWithStock decideValidity roomsValidity validityOf linesValidity
 no-with-stock-breaks k = let e : No ≡ Yes = k 0 [] (room 0) .is ∙ no-lines-yes in never (cc)
 
 -- ---- versions that answer right, and are caught by what they leave
@@ -264,7 +258,7 @@ pub writesNothing : Version
 writesNothing = leaving nothing nothing
 
 pub writes-nothing-breaks : Keeps writesNothing → ⊥
-unfolding writesNothing decideAnswer decideValidity outputsValidity validityOf linesValidity verdictOf hasFalse noNegative consistentHalves
+unfolding writesNothing decideAnswer decideValidity roomsValidity validityOf linesValidity verdictOf hasFalse noNegative consistentHalves
     stepsOf relaxRow startRow rounds rowAt best opposite boundsOf halves
 writes-nothing-breaks k =
     let s = on-yes nothing nothing k 1 [] (room 1) refl in
@@ -278,7 +272,7 @@ pub ownGroups : Version
 ownGroups = leaving ownGroupsYes rightNo
 
 pub own-groups-breaks : Keeps ownGroups → ⊥
-unfolding ownGroups decideAnswer decideValidity outputsValidity validityOf linesValidity coefficientsOk variableOk variablesOk constantOk lineAt isFalse verdictOf hasFalse noNegative consistentHalves
+unfolding ownGroups decideAnswer decideValidity roomsValidity validityOf linesValidity coefficientsOk variableOk variablesOk constantOk lineAt isFalse verdictOf hasFalse noNegative consistentHalves
     entry digit stepOf stepsOf relaxRow startRow rounds rowAt best opposite groupsOf halves tight
 own-groups-breaks k =
     let s = on-yes ownGroupsYes rightNo k 2 equalPair (room 2) refl in
@@ -296,7 +290,7 @@ pub absentBounds : Version
 absentBounds = leaving absentBoundsYes rightNo
 
 pub absent-bounds-breaks : Keeps absentBounds → ⊥
-unfolding absentBounds decideAnswer decideValidity outputsValidity validityOf linesValidity coefficientsOk variableOk variablesOk constantOk lineAt isFalse verdictOf hasFalse noNegative consistentHalves
+unfolding absentBounds decideAnswer decideValidity roomsValidity validityOf linesValidity coefficientsOk variableOk variablesOk constantOk lineAt isFalse verdictOf hasFalse noNegative consistentHalves
     entry digit stepOf stepsOf relaxRow startRow rounds rowAt best opposite boundsOf halves
 absent-bounds-breaks k =
     let s = on-yes absentBoundsYes rightNo k 1 atMost5 (room 1) refl in
@@ -360,7 +354,7 @@ zeroModel = leaving zeroModelYes rightNo
 
 -- case 9: x is at least 4
 pub zero-model-breaks : Keeps zeroModel → ⊥
-unfolding zeroModel decideAnswer decideValidity outputsValidity validityOf linesValidity coefficientsOk variableOk variablesOk constantOk lineAt isFalse verdictOf hasFalse noNegative consistentHalves
+unfolding zeroModel decideAnswer decideValidity roomsValidity validityOf linesValidity coefficientsOk variableOk variablesOk constantOk lineAt isFalse verdictOf hasFalse noNegative consistentHalves
     entry digit stepOf stepsOf relaxRow startRow rounds rowAt best opposite assign above atMost near halves tight limit pick model tableModel modelOf
 zero-model-breaks k =
     let s = on-yes zeroModelYes rightNo k 1 list-9 (room 1) refl in
@@ -377,7 +371,7 @@ pub stockRefutation : Version
 stockRefutation = leaving rightYes stockNo
 
 list-4-no : answerFor 3 list-4 (room 3) ≡ No
-unfolding decideAnswer decideValidity outputsValidity validityOf linesValidity coefficientsOk variableOk variablesOk constantOk lineAt isFalse verdictOf hasFalse noNegative consistentHalves
+unfolding decideAnswer decideValidity roomsValidity validityOf linesValidity coefficientsOk variableOk variablesOk constantOk lineAt isFalse verdictOf hasFalse noNegative consistentHalves
     entry digit stepOf stepsOf relaxRow startRow rounds rowAt best opposite halves
 list-4-no = refl
 

@@ -1,7 +1,8 @@
 -- What was demanded, in document 01's words, each statement proved by citing the rest: of deciding, of the answers and of the checkers.
 --
 -- A reader has to believe the meaning of the words (`Solves`, `Written` in answers/specs/Semantics.antt, `Refutes` and `BreaksAt` in soundness/specs),
--- the table of refusals (`refusalTable` in Refusals.antt) and what a call is (`Call` in Calls.antt), and nothing of how the answers are computed.
+-- the table of refusals (`refusalTable` in Refusals.antt, with `lentRooms` in buffers/specs/Room.antt) and what a call is (`Call` in Calls.antt), and
+-- nothing of how the answers are computed.
 --
 -- The promises of the code are equations, for every input: `decide` promises `Decided` (decide/specs/Decided.antt), `check_model` answers
 -- `modelAnswer`, `check_refutation` answers `refutationAnswer`, the exported functions return `DecideReturns`, `checkModel`,
@@ -53,10 +54,10 @@ use Rattle.answers.specs.Unique.{written-model, written-bounds, written-groups}
 use Rattle.answers.specs.Absent.{least-absent, greatest-absent}
 use Rattle.answers.specs.Longer.{no-stays, yes-before, least-stays-or-rises, greatest-stays-or-falls, groups-kept, model-kept, solves-both, longer-entails}
 use Rattle.answers.specs.Same.{same-verdict, same-written}
-use Rattle.buffers.specs.Room.{boundsRoom}
+use Rattle.buffers.specs.Room.{Lent, modelRoom, boundsRoom, groupsRoom}
 use Rattle.decide.specs.declared.Answer.{Answer}
 use Rattle.decide.specs.declared.Answer.the-variants as decide
-use Rattle.decide.specs.Decided.{Lent, cleared, answerFor, Decided, DecideOk}
+use Rattle.decide.specs.Decided.{cleared, answerFor, Decided, DecideOk}
 use Rattle.decide.specs.Parts.{modelIn, boundsIn, groupsIn, refutationIn, model-in, bounds-in, groups-in, refutation-in}
 use Rattle.demands.specs.Cases.{AllHold, cases, all-cases}
 use Rattle.demands.specs.Exists.{a-call}
@@ -147,9 +148,9 @@ pub record RightAnswer (n : ℕ) (L : List ℤ) (c : Call n L) : Type 0 where
   pub greatest-absent-exactly : c .answer ≡ decide.Yes → (x : ℕ) → x < n → (getD (boundsIn n (c .after)) (2 * x + 1) (pos 0) ≡ absentGreatest) ↔ NoGreatest (linesOf L) x
   -- A yes is shown too: the model checker accepts the model, its limits included.
   pub yes-is-shown : c .answer ≡ decide.Yes → modelAnswer n L (modelIn n (c .after)) ≡ model.Yes
-  pub beyond-model : drop n (c .after .model) ≡ drop n (c .before .model)
+  pub beyond-model : drop (modelRoom n) (c .after .model) ≡ drop (modelRoom n) (c .before .model)
   pub beyond-bounds : drop (boundsRoom n) (c .after .bounds) ≡ drop (boundsRoom n) (c .before .bounds)
-  pub beyond-groups : drop n (c .after .groups) ≡ drop n (c .before .groups)
+  pub beyond-groups : drop (groupsRoom n) (c .after .groups) ≡ drop (groupsRoom n) (c .before .groups)
   pub no-refutation : c .answer ≡ decide.Yes → c .after .refutation ≡ c .before .refutation
   -- On a no the refutation is written and nothing else, and only as many numbers as it has.
   pub no-model : c .answer ≡ decide.No → (c .after .model ≡ c .before .model) × (c .after .bounds ≡ c .before .bounds) × (c .after .groups ≡ c .before .groups)

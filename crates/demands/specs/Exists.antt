@@ -9,8 +9,9 @@ use Rattle.lines.specs.declared.Refusal.{Refusal}
 use Rattle.lines.specs.declared.Validity.{Validity}
 use Rattle.lines.specs.Line.{linesOf}
 use Rattle.answers.specs.Verdict.{verdictOf}
+use Rattle.buffers.specs.Room.{Lent}
 use Rattle.decide.specs.declared.Answer.the-variants.{Yes, No, Refused}
-use Rattle.decide.specs.Decided.{Lent, unlessRefused, decideAnswer, DecideOk, ok-decide}
+use Rattle.decide.specs.Decided.{unlessRefused, decideAnswer, DecideOk, ok-decide}
 use Rattle.demands.specs.Calls.{Call}
 use Rattle.demands.specs.DecideVersions.{right, right-keeps}
 

@@ -1,5 +1,6 @@
 -- Document 01's table of refusals: when each applies, in the order in which they go, and what it is to be the first that applies.
--- The number and the place of each are `numberOf` and `placeOf` (lines/specs/Refusal.antt).
+-- The number and the place of each are `numberOf` and `placeOf` (lines/specs/Refusal.antt); the rooms of the lent buffers, with their refusals 7 and 8 in
+-- their order, are `lentRooms` (buffers/specs/Room.antt).
 use mathlib.Core.Path.{_≡_}
 use mathlib.Core.Logic.{_⊎_}
 use mathlib.Core.List.{List, [], _∷_, _++_}
@@ -9,17 +10,17 @@ use lib.ListN.{length}
 use Rattle.integers.specs.Integer.{_⩽_, _⋖_}
 use Rattle.lines.specs.declared.Line.{Line}
 use Rattle.lines.specs.declared.Refusal.{Refusal}
-use Rattle.lines.specs.declared.Refusal.the-variants.{TooManyVariables, BrokenLength, TooManyLines, BadCoefficient, BadVariable, BadConstant, ShortOutput, ShortWorkArea, WrongModelLength, BadValue, LongRefutation}
+use Rattle.lines.specs.declared.Refusal.the-variants.{TooManyVariables, BrokenLength, TooManyLines, BadCoefficient, BadVariable, BadConstant, WrongModelLength, BadValue, LongRefutation}
 use Rattle.lines.specs.Limits.{lineSize, maxVariables, maxLines, maxConstant, maxValue, maxRefutation}
 use Rattle.lines.specs.Line.{number, lineAt, lineCount}
 use Rattle.little_endian.specs.Bytes.{int32s, int64s}
-use Rattle.buffers.specs.Room.{boundsRoom, refutationRoom, workRoom}
+use Rattle.buffers.specs.Room.{Lent, Lengths, lengthsOf, Room, lentRooms}
 use Rattle.model.specs.declared.ModelAnswer.the-variants as model
 use Rattle.model.specs.Model.{modelAnswer}
 use Rattle.refutation.specs.declared.RefutationAnswer.the-variants as refutation
 use Rattle.refutation.specs.Answer.{refutationAnswer}
 use Rattle.decide.specs.declared.Answer.the-variants as decide
-use Rattle.decide.specs.Decided.{Lent, answerFor}
+use Rattle.decide.specs.Decided.{answerFor}
 use Rattle.c_codes.specs.ListBytes.{numberBytes}
 use Rattle.c_refutation_code.specs.Code.{refutationCode}
 use Rattle.c_checking.specs.Calls.{modelCode, valueBytes, modelOfBytes, refutationOfBytes, checkModel, checkRefutation}
@@ -83,16 +84,14 @@ bytesTable n b = TooManyVariables when (maxVariables < n) ∷ BrokenLength when 
 abbrev pub valuesTable : List ℤ → List Row
 valuesTable m = rowsFrom 0 (length m) (λ k. BadValue k when Outside maxValue (number m k) ∷ [])
 
+-- 7, 8: a lent buffer is shorter than its room
+abbrev pub roomsTable : List Room → ℕ → Lengths → List Row
+roomsTable [] n s = []
+roomsTable (r ∷ rs) n s = r .refusal when (r .size s < r .room n) ∷ roomsTable rs n s
+
 -- then 7, 8 for deciding, 9, 10 for a model, 11 for a refutation
 abbrev pub refusalTable : Asked → List Row
-refusalTable (deciding n L lent) =
-    listTable n L
-    ++ (ShortOutput 1 when (length (lent .model) < n)
-    ∷ ShortOutput 2 when (length (lent .bounds) < boundsRoom n)
-    ∷ ShortOutput 3 when (length (lent .groups) < n)
-    ∷ ShortOutput 4 when (length (lent .refutation) < refutationRoom n)
-    ∷ ShortWorkArea when (length (lent .work) < workRoom n)
-    ∷ [])
+refusalTable (deciding n L lent) = listTable n L ++ roomsTable lentRooms n (lengthsOf lent)
 refusalTable (checking-model n L m) = listTable n L ++ WrongModelLength when (length m ≡ n → ⊥) ∷ valuesTable m
 refusalTable (checking-refutation n L R) = listTable n L ++ LongRefutation when (maxRefutation < length R) ∷ []
 refusalTable (checking-model-bytes n b m) = bytesTable n b ++ WrongModelLength when (length m ≡ valueBytes * n → ⊥) ∷ valuesTable (int64s m)

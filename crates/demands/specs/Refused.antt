@@ -25,7 +25,7 @@ use Rattle.lines.specs.Limits.{lineSize, maxVariables, maxLines, maxConstant, m
 use Rattle.lines.specs.Line.{number, lineAt, lineCount, linesOf}
 use Rattle.lines.specs.Refusal.{placeOf, _orElse_, refuseIf, coefficientsOk, variableOk, variablesOk, constantOk, Rule, lineRules, firstBroken, lineValidity, linesValidity, validityOf}
 use Rattle.lines.specs.Laws.{validity-from, validity-past}
-use Rattle.buffers.specs.Room.{boundsRoom, refutationRoom, workRoom, outputsValidity, decideValidity}
+use Rattle.buffers.specs.Room.{Lent, Lengths, lengthsOf, Room, lentRooms, firstShort, roomsValidity, decideValidity}
 use Rattle.answers.specs.Verdict.{verdictOf}
 use Rattle.little_endian.specs.Bytes.{le32, int32, int64, int32s, nat32s, int64s, length-firstOf}
 use Rattle.model.specs.declared.ModelAnswer.{ModelAnswer}
@@ -42,7 +42,7 @@ use Rattle.refutation.specs.Answer.{unlessRefused, refutationValidity, verdict,
 use Rattle.refutation.specs.Places as refutation-places
 use Rattle.decide.specs.declared.Answer.the-variants as decide
 use Rattle.decide.specs.Decided as decision
-use Rattle.decide.specs.Decided.{Lent, decideAnswer, answerFor, validityFor}
+use Rattle.decide.specs.Decided.{decideAnswer, answerFor, validityFor}
 use Rattle.c_codes.specs.Codes.{refusalUnit, refusalCode}
 use Rattle.c_codes.specs.ListBytes.{numberBytes, bytesValidity}
 use Rattle.c_refutation_code.specs.Code.{refutationCode}
@@ -52,7 +52,7 @@ use Rattle.c_checking.specs.Laws.{model-bytes-below, refutation-bytes-below}
 use Rattle.c_checking.specs.Apart.{models-apart}
 use Rattle.c_deciding.specs.Calls.{decideCode}
 use Rattle.c_deciding.specs.Laws.{decision-below, decisions-apart}
-use Rattle.demands.specs.Refusals.{Asked, deciding, checking-model, checking-refutation, checking-model-bytes, checking-refutation-bytes, IsCoefficient, WrongVariable, Outside, Row, _when_, rowsFrom, lineTable, linesTable, listTable, bytesTable, valuesTable, refusalTable, NoneApplies, FirstApplies, IsRefused, returned}
+use Rattle.demands.specs.Refusals.{Asked, deciding, checking-model, checking-refutation, checking-model-bytes, checking-refutation-bytes, IsCoefficient, WrongVariable, Outside, Row, _when_, rowsFrom, lineTable, linesTable, listTable, bytesTable, valuesTable, roomsTable, refusalTable, NoneApplies, FirstApplies, IsRefused, returned}
 
 -- ---- a validity, read along the rows
 data Gives : List Row → Validity → Type 1 where
@@ -230,6 +230,10 @@ values-give m = go (length m) 0 (omega arith)
     go zero k e = rw (values-past m k (omega arith)) none
     go (suc count) k e = rw (values-from m k (omega arith)) (gives-row (outside-test maxValue (number m k)) (go count (k + 1) (omega arith)))
 
+rooms-give : (rs : List Room) (n : ℕ) (s : Lengths) → Gives (roomsTable rs n s) (firstShort rs n s)
+rooms-give [] n s = none
+rooms-give (r ∷ rs) n s = gives-row (less-test (r .size s) (r .room n)) (rooms-give rs n s)
+
 -- ---- bytes: their numbers are refused by nothing that the bytes are not
 module _ (n : ℕ) (b : List ℕ) where
   whole-numbers : length b % (numberBytes * lineSize) ≡ 0 → length (int32s b) % lineSize ≡ 0
@@ -259,13 +263,8 @@ computed (checking-refutation-bytes n b R) =
     orElse cond (eqb (length R % numberBytes) 0) (refutationValidity n (int32s b) (nat32s R)) Valid
 
 table-gives : (a : Asked) → Gives (refusalTable a) (computed a)
-unfolding decideValidity outputsValidity modelValidity refutationValidity
-table-gives (deciding n L lent) =
-    gives-or (list-gives n L)
-    (gives-or
-    (gives-row (less-test (length (lent .model)) n)
-    (gives-row (less-test (length (lent .bounds)) (boundsRoom n)) (gives-row (less-test (length (lent .groups)) n) (gives-last (less-test (length (lent .refutation)) (refutationRoom n))))))
-    (gives-last (less-test (length (lent .work)) (workRoom n))))
+unfolding decideValidity roomsValidity modelValidity refutationValidity
+table-gives (deciding n L lent) = gives-or (list-gives n L) (rooms-give lentRooms n (lengthsOf lent))
 table-gives (checking-model n L m) = gives-or (list-gives n L) (gives-row (unequal-test (length m) n) (values-give m))
 table-gives (checking-refutation n L R) = gives-or (list-gives n L) (gives-last (less-test maxRefutation (length R)))
 table-gives (checking-model-bytes n b m) =

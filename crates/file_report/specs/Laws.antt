@@ -18,10 +18,10 @@ use Rattle.refutation.specs.Progress.{headSize}
 use Rattle.soundness.specs.Head.{stepsIn}
 use Rattle.answers.specs.Verdict.{verdictOf}
 use Rattle.answers.specs.Answers.{modelOf, boundsOf, groupsOf}
-use Rattle.buffers.specs.Room.{boundsRoom, refutationRoom, workRoom}
+use Rattle.buffers.specs.Room.{Lent, lengthsOf, modelRoom, boundsRoom, groupsRoom, refutationRoom, lentRooms, HaveRoom}
 use Rattle.decide.specs.declared.Answer.{Answer}
 use Rattle.decide.specs.declared.Answer.the-variants as answer
-use Rattle.decide.specs.Decided.{Lent, unlessRefused, decideAnswer, answerFor, OnYes, OnNo, validityFor, ok-decide}
+use Rattle.decide.specs.Decided.{unlessRefused, decideAnswer, answerFor, OnYes, OnNo, validityFor, ok-decide}
 use Rattle.decide.specs.Decided as decide
 use Rattle.decide.specs.Parts.{stated, yes-verdict, no-verdict, stated-length, model-in, bounds-in, groups-in, refutation-in}
 use Rattle.records.specs.declared.FileRefusal.{FileRefusal}
@@ -60,7 +60,7 @@ module _ (n : ℕ) (L : List ℤ) (b : Lent) where
 
 -- ---- what is reported
 module _ {n : ℕ} {L : List ℤ} {found : Answer} {b a : Lent} (k : decide.Decided n L found b a) where
-  pub yes-written : found ≡ answer.Yes → {i j l : ℕ} → i ≡ n → j ≡ 2 * n → l ≡ n → {d e : List ℕ} {r : ℕ}
+  pub yes-written : found ≡ answer.Yes → {i j l : ℕ} → i ≡ modelRoom n → j ≡ boundsRoom n → l ≡ groupsRoom n → {d e : List ℕ} {r : ℕ}
       → Wrote (yesText n (take i (a .model)) (take j (a .bounds)) (take l (a .groups))) d e r → Decided n L (take r e) × Behind d e r
   yes-written f x y z {d} {e} {r} w =
       let o : OnYes n L b a = subst (λ (q : Answer). decide.Leaves n L q b a) f (k .leaves) in
@@ -85,10 +85,8 @@ module _ {n : ℕ} {L : List ℤ} {found : Answer} {b a : Lent} (k : decide.Deci
         record { room = room; few = h; size = s }
 
   -- the buffers are long enough
-  pub never-refused : (r : Refusal) → found ≡ answer.Refused r → validityOf n L ≡ validity.Valid
-      → n ≤ length (b .model) → boundsRoom n ≤ length (b .bounds) → n ≤ length (b .groups) → refutationRoom n ≤ length (b .refutation) → workRoom n ≤ length (b .work) → ⊥
-  never-refused r f v h₁ h₂ h₃ h₄ h₅ =
-      refused-validity n L b r (sym f ∙ k .is) (ok-decide n L b (record { list = v; model = h₁; bounds = h₂; groups = h₃; refutation = h₄; work = h₅ }))
+  pub never-refused : (r : Refusal) → found ≡ answer.Refused r → validityOf n L ≡ validity.Valid → HaveRoom lentRooms n (lengthsOf b) → ⊥
+  never-refused r f v h = refused-validity n L b r (sym f ∙ k .is) (ok-decide n L b (record { list = v; rooms = h }))
 
 -- ---- what was read
 module _ {bytes : List ℕ} {found : ReadAnswer} {b a : List ℤ} (k : ReadDone mostVariables bytes found b a) (size : length b ≡ lineSize * mostLines) where

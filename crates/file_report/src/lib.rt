@@ -1,4 +1,13 @@
 // What the program does: the bytes of a file read, its list decided, and the answer as text.
+use buffers::FEW_BOUNDS;
+use buffers::FEW_GROUPS;
+use buffers::FEW_MODEL;
+use buffers::FEW_REFUTATION;
+use buffers::FEW_VARIABLES;
+use buffers::FEW_WORK;
+use buffers::bounds_room;
+use buffers::groups_room;
+use buffers::model_room;
 use decide::Answer;
 use decide::decide;
 use lines::limits::LINE_SIZE;
@@ -20,13 +29,11 @@ ghost use Rattle.decide.specs.Parts.{stated};
 ghost use Rattle.file_report.specs.Ready.{RefutationReady, ListReady};
 
 // The program's own limits.
-const MOST_VARIABLES: usize = 16;
+const MOST_VARIABLES: usize = FEW_VARIABLES;
 
 const MOST_LINES: usize = 256;
-// The numbers of so many lines, and the work area of so many variables.
+// The numbers of so many lines.
 const MOST_NUMBERS: usize = LINE_SIZE * MOST_LINES;
-
-const WORK_SIZE: usize = 16 * MOST_VARIABLES * MOST_VARIABLES + 64 * MOST_VARIABLES + 64;
 // Nothing beyond the bytes of so many lines, and of one line more, is looked at.
 pub const INPUT_SIZE: usize = VARIABLES_RECORD + LINE_RECORD * (MOST_LINES + 1);
 // The text of so many variables takes less.
@@ -46,11 +53,11 @@ fn report_list(n: usize, list: &[i32], text: &mut [u8]) -> usize
     requires { ⌜ ListReady n (now list) (now text) ⌝ }
     ensures { λ r. ⌜ Decided n (now (list .entry)) (take r (now (text .exit))) × Behind (now (text .entry)) (now (text .exit)) r ⌝ }
 {
-    let mut model = [0i64; MOST_VARIABLES];
-    let mut bounds = [0i64; 2 * MOST_VARIABLES];
-    let mut groups = [0u32; MOST_VARIABLES];
-    let mut refutation = [0u32; 4 + 4 * MOST_VARIABLES];
-    let mut work = [0i64; WORK_SIZE];
+    let mut model = [0i64; FEW_MODEL];
+    let mut bounds = [0i64; FEW_BOUNDS];
+    let mut groups = [0u32; FEW_GROUPS];
+    let mut refutation = [0u32; FEW_REFUTATION];
+    let mut work = [0i64; FEW_WORK];
     let answer = decide(
         n,
         list,
@@ -61,7 +68,18 @@ fn report_list(n: usize, list: &[i32], text: &mut [u8]) -> usize
         &mut work,
     );
     match answer {
-        Answer::Yes => write_yes(n, &model[0..n], &bounds[0..2 * n], &groups[0..n], text),
+        Answer::Yes => {
+            let values = model_room(n);
+            let ends = bounds_room(n);
+            let firsts = groups_room(n);
+            write_yes(
+                n,
+                &model[0..values],
+                &bounds[0..ends],
+                &groups[0..firsts],
+                text,
+            )
+        },
         Answer::No => report_no(&refutation, text),
         // Never: the buffers are as long as this many variables need.
         Answer::Refused(_) => 0,

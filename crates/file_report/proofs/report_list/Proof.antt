@@ -1,16 +1,13 @@
 -- `file_report::report_list` meets its contract.
 use mathlib.Core.Path.{_≡_}
-use Prim.Native.Nat.{ℕ, _*_, _-_, _≤_}
-use native.Mathlib.Nat.{mul-le-mul-right}
+use Prim.Native.Nat.{ℕ, _-_}
 use native.Mathlib.Omega.{arith}
 use borrow.Author.Needs.{needs}
+use Rattle.buffers.specs.Room.{fewer-room}
 use Rattle.file_report.specs.Report.{mostVariables}
 use Rattle.file_report.specs.Laws.{yes-written, no-written, no-ready, never-refused}
 use Rattle.file_report.proofs.report_list.Statement.{statement}
 use Rattle.file_report.proofs.report_list.Tie as tie
-
-square : (n : ℕ) → n ≤ mostVariables → 16 * n * n ≤ 16 * mostVariables * mostVariables
-square n h = let a : 16 * n * n ≤ 16 * mostVariables * n = mul-le-mul-right n (omega arith) in omega arith
 
 -- deciding, seen from where its answer is told apart, and the start
 abbrev decided : tie.After-work2 → tie.After-decide
@@ -28,10 +25,13 @@ report-no-requires c κs =
 returns : tie.Need-returns
 returns c =
     let w = c .before .before in
-    let t = w .before .before .before .before .before .before .before .before in
+    let g : tie.After-groups-room = w .before .before .before .before .before .before .before .before in
+    let b = g .before in
+    let m = b .before in
+    let t = m .before in
     let d = decided (t .before .before) in
-    let n : ℕ = start d .args .n in
-    yes-written (d .decide .ensures) (t .enum-told .given .1) {i = n - 0} {j = 2 * n - 0} {l = n - 0} (omega arith) (omega arith) (omega arith) (w .write-yes .ensures)
+    yes-written (d .decide .ensures) (t .enum-told .given .1) {i = m .model-room .result - 0} {j = b .bounds-room .result - 0} {l = g .groups-room .result - 0}
+    (omega (arith, m .model-room .ensures)) (omega (arith, b .bounds-room .ensures)) (omega (arith, g .groups-room .ensures)) (w .write-yes .ensures)
 
 returns-2 : tie.Need-returns-2
 returns-2 c =
@@ -43,12 +43,15 @@ returns-3 : tie.Need-returns-3
 returns-3 c =
     let d = decided (c .before .before) in
     let p = start d .pre in
-    absurd (never-refused (d .decide .ensures) _ (c .enum-told3 .given .1) (p .valid) (omega (arith, p .few)) (omega (arith, p .few)) (omega (arith, p .few)) (omega (arith, p .few)) (omega (arith, square (start d .args .n) (p .few), p .few)))
+    absurd (never-refused (d .decide .ensures) _ (c .enum-told3 .given .1) (p .valid)
+    (fewer-room (start d .args .n) mostVariables (p .few) _ (omega arith, (omega arith, (omega arith, (omega arith, (omega arith, tt)))))))
 
 pub report-list-spec : {M : Type 1} → statement M
 report-list-spec =
     tie.close
     (tie.spec
+    (search needs)
+    (search needs)
     (search needs)
     (search needs)
     (search needs)
