@@ -26,7 +26,7 @@ use Rattle.walks.specs.Negative.{notBelow0, noNegative, is-below, no-negative-f
 use Rattle.answers.specs.Graph.{ends-points, named-steps}
 use Rattle.refutation.specs.Progress.{headSize}
 use Rattle.packed_steps.specs.Steps.{StepsReady}
-use Rattle.packed_steps.specs.Scratch.{Scratch, scratch-at, scratch-wider, scratch-trans}
+use Rattle.packed_steps.specs.Scratch.{Scratch, scratch-at, scratch-ready, scratch-wider, scratch-trans}
 use Rattle.packed_steps.specs.Layout.{walksAt, rowAt, placesAt}
 use Rattle.refuting.specs.Copy.{StepNumbers, copiedTo}
 use Rattle.refuting.specs.Written.{numbers-fit, numbers-small, walk-written}
@@ -94,9 +94,6 @@ module _ {n : ℕ} {w w₁ : List ℤ} where
   }
 
   module _ (a : OnTheWay n w w₁) where
-    pub way-on : {w₂ : List ℤ} → OnTheWay n w₁ w₂ → OnTheWay n w w₂
-    way-on b = record { scratch = scratch-trans (a .scratch) (b .scratch); small = b .small }
-
     pub way-ready : {count row : ℕ} → row ≡ rowAt n → StepsReady count (walksAt n) (2 * n) w → placesAt n ≤ length w → PassReady count row (2 * n) w₁
     way-ready q r room = rw q (record {
       steps = record {
@@ -125,6 +122,28 @@ module _ {n : ℕ} {w w₁ : List ℤ} where
       on-yes = λ _. subst (λ (x : List ℕ). RefutedAtOnce n L x R′ w₂) e f;
       on-no = λ z. never (cc);
     }
+
+-- ---- passes after what is on the way, with nothing written yet
+module _ {n : ℕ} {L : List ℤ} {R R₁ : List ℕ} {w w₁ : List ℤ} (a : OnTheWay n w w₁) (e : R₁ ≡ R) where
+  pub ready-after : {count : ℕ} → AtOnceReady n L count R w → AtOnceReady n L count R₁ w₁ × SmallRow (rowAt n) (2 * n) w₁
+  ready-after r = (
+    record {
+      few = r .few;
+      valid = r .valid;
+      lines = r .lines;
+      room = rw e (r .room);
+      work-room = omega (arith, r .work-room, a .scratch .same-length);
+      steps = scratch-ready (r .steps) (a .scratch);
+    },
+    a .small,
+  )
+
+  pub at-once-after : {R′ : List ℕ} {w′ : List ℤ} {refuted : Bool} → AtOnce n L R₁ w₁ R′ w′ refuted → AtOnce n L R w R′ w′ refuted
+  at-once-after {R′} {w′} f = record {
+    scratch = scratch-trans (a .scratch) (f .scratch);
+    on-yes = λ z. subst (λ (x : List ℕ). RefutedAtOnce n L x R′ w′) e (f .on-yes z);
+    on-no = λ z. (f .on-no z .0 ∙ e, f .on-no z .1);
+  }
 
 -- ---- a closed walk of negative sum, with at most as many steps as points: its point's distance to itself is below 0
 short-negative : (E : List Step) (N : ℕ) → WithinPoints N E → (p : ℕ) → p < N → (path : List Step) → Walk E p path p → length path ≤ N → total path ⋖ pos 0 → notBelow0 (best E N p p) ≡ false

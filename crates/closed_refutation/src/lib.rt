@@ -2,6 +2,7 @@
 // term: the point's predecessor), and after each pass the marks are followed back from the last point lowered. What they
 // lead round is checked, so that nothing is asked of the passes; where it is no negative closed walk, nothing is written.
 use lines::limits::LINE_SIZE;
+use packed_steps::LIGHT;
 use packed_steps::from_in;
 use packed_steps::layout::row_at;
 use packed_steps::number_in;
@@ -17,8 +18,9 @@ ghost use Prim.Native.Nat.{_+_, _*_, _<_, _≤_};
 ghost use lib.ListN.{length};
 ghost use Rattle.walks.specs.Negative.{noNegative};
 ghost use Rattle.packed_steps.specs.Steps.{stepsIn};
+ghost use Rattle.packed_steps.specs.Layout.{rowAt};
 ghost use Rattle.closed_refutation.specs.Filled.{Filled};
-ghost use Rattle.closed_refutation.specs.Passes.{MarkReady, PassReady, Passed};
+ghost use Rattle.closed_refutation.specs.Passes.{SmallRow, MarkReady, PassReady, Passed};
 ghost use Rattle.closed_refutation.specs.Potential.{PotentialReady};
 ghost use Rattle.closed_refutation.specs.Back.{BackReady, EndsAt};
 ghost use Rattle.closed_refutation.specs.Collected.{CollectReady, Collected};
@@ -26,6 +28,8 @@ ghost use Rattle.closed_refutation.specs.AtOnce.{FromReady, AtOnceFrom, 
 
 // Numbers of a row stay above this.
 pub const LOWEST_MARK: i64 = -1_000_000_000_000_000;
+// Each step in one number is below this.
+pub const ALL: i64 = 9223372036854775807;
 
 // A value to each number from a place on, before another.
 pub fn fill(work: &mut [i64], from: usize, end: usize, value: i64)
@@ -60,22 +64,24 @@ fn mark_at_step(work: &mut [i64], i: usize, row: usize, size: usize, last: usize
     last
 }
 
-// A pass over the steps, from the first on: the last point that it lowered, or the number of points.
-pub fn mark_pass(work: &mut [i64], count: usize, row: usize, size: usize) -> usize
+// A pass over the steps below `most`, from the first on: the last point that it lowered, or the number of points.
+pub fn mark_pass(work: &mut [i64], count: usize, row: usize, size: usize, most: i64) -> usize
     requires { ⌜ PassReady count row size (now work) ⌝ }
     ensures { λ r. ⌜ Passed row size (now (work .entry)) (now (work .exit)) r ⌝ }
 {
     let mut last = size;
     let mut i = 0;
     while i < count {
-        last = mark_at_step(work, i, row, size, last);
+        if work[i] < most {
+            last = mark_at_step(work, i, row, size, last);
+        }
         i += 1;
     }
     last
 }
 
 // The same from the last step back.
-pub fn mark_pass_back(work: &mut [i64], count: usize, row: usize, size: usize) -> usize
+pub fn mark_pass_back(work: &mut [i64], count: usize, row: usize, size: usize, most: i64) -> usize
     requires { ⌜ PassReady count row size (now work) ⌝ }
     ensures { λ r. ⌜ Passed row size (now (work .entry)) (now (work .exit)) r ⌝ }
 {
@@ -83,20 +89,29 @@ pub fn mark_pass_back(work: &mut [i64], count: usize, row: usize, size: usize) -
     let mut i = count;
     while 0 < i {
         i -= 1;
-        last = mark_at_step(work, i, row, size, last);
+        if work[i] < most {
+            last = mark_at_step(work, i, row, size, last);
+        }
     }
     last
 }
 
 // Passes go up and down in turn.
-pub fn mark_turn(work: &mut [i64], count: usize, row: usize, size: usize, turn: usize) -> usize
+pub fn mark_turn(
+    work: &mut [i64],
+    count: usize,
+    row: usize,
+    size: usize,
+    turn: usize,
+    most: i64,
+) -> usize
     requires { ⌜ PassReady count row size (now work) ⌝ }
     ensures { λ r. ⌜ Passed row size (now (work .entry)) (now (work .exit)) r ⌝ }
 {
     if turn % 2 == 0 {
-        return mark_pass(work, count, row, size);
+        return mark_pass(work, count, row, size, most);
     }
-    mark_pass_back(work, count, row, size)
+    mark_pass_back(work, count, row, size, most)
 }
 
 // Whether no step lowers the row.
@@ -215,8 +230,37 @@ fn refuted_from(list: &[i32], n: usize, p: usize, refutation: &mut [u32], work: 
     true
 }
 
-// Whether the list is refuted so, after any of at most one pass more than there are points, from 0 everywhere. They end
-// where one changes nothing: no closed walk is negative then.
+// Whether the list is refuted so, after any of at most one pass more than there are points, over the steps below `most`
+// and from the row as it stands. They end where one changes nothing.
+fn refuted_by_passes(
+    list: &[i32],
+    n: usize,
+    count: usize,
+    refutation: &mut [u32],
+    work: &mut [i64],
+    most: i64,
+) -> bool
+    requires { ⌜ AtOnceReady n (now list) count (now refutation) (now work) × SmallRow (rowAt n) (2 * n) (now work) ⌝ }
+    ensures { λ r. ⌜ AtOnce n (now (list .entry)) (now (refutation .entry)) (now (work .entry)) (now (refutation .exit)) (now (work .exit)) r ⌝ }
+{
+    let size = 2 * n;
+    let row = row_at(n);
+    let mut turn = 0;
+    while turn <= size {
+        let p = mark_turn(work, count, row, size, turn, most);
+        if size <= p {
+            return false;
+        }
+        if refuted_from(list, n, p, refutation, work) {
+            return true;
+        }
+        turn += 1;
+    }
+    false
+}
+
+// Whether the list is refuted so from 0 everywhere: first over the steps of negative weight, since a pass over them is
+// short, then over all. Where a pass over all changes nothing, no closed walk is negative.
 pub fn refuted_at_once(
     list: &[i32],
     n: usize,
@@ -232,16 +276,8 @@ pub fn refuted_at_once(
     let marks = row + size;
     fill(work, row, marks, 0);
     fill(work, marks, marks + size, -1);
-    let mut turn = 0;
-    while turn <= size {
-        let p = mark_turn(work, count, row, size, turn);
-        if size <= p {
-            return false;
-        }
-        if refuted_from(list, n, p, refutation, work) {
-            return true;
-        }
-        turn += 1;
+    if refuted_by_passes(list, n, count, refutation, work, LIGHT) {
+        return true;
     }
-    false
+    refuted_by_passes(list, n, count, refutation, work, ALL)
 }

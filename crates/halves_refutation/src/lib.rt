@@ -1,6 +1,7 @@
 // A refutation of kind 2 at once: passes over the packed steps leave at each point that they lower the step, and the
 // marks are followed back from a point to its opposite, and from this to the point. What they lead along is checked, so
 // that nothing is asked of the passes; where it is no refutation, nothing is written.
+use closed_refutation::ALL;
 use closed_refutation::LOWEST_MARK;
 use closed_refutation::fill;
 use closed_refutation::mark_turn;
@@ -50,7 +51,7 @@ fn pass_all(work: &mut [i64], count: usize, row: usize, size: usize)
 {
     let mut turn = 0;
     while turn <= size {
-        let last = mark_turn(work, count, row, size, turn);
+        let last = mark_turn(work, count, row, size, turn, ALL);
         if size <= last {
             return;
         }

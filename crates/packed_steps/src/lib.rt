@@ -24,6 +24,8 @@ const POINTS: usize = 2 * MAX_VARIABLES;
 const NUMBERS: usize = 2 * MAX_LINES;
 // Added to a weight, so that it is not below 0.
 const OFFSET: i64 = 2 * MAX_CONSTANT;
+// A step in one number is below this if its weight is below 0.
+pub const LIGHT: i64 = OFFSET * (NUMBERS * POINTS * POINTS) as i64;
 
 // A weight moved to be not below 0.
 fn shifted(weight: i64) -> usize
