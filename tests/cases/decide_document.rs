@@ -1,4 +1,4 @@
-//! The cases that the description of the library names, decided: verdict, model,
+//! The cases that docs/SPECIFICATION.md names, decided: verdict, model,
 //! bounds, groups and the refutation's kind; and the limits.
 
 use utvpi_tests::buffers::{needed, Buffers};
@@ -269,7 +269,7 @@ fn the_longest_halved_walks() {
 fn case_12_which_refusal() {
     for at in [X, Y] {
         let mut line = line(1, 0, 1, 0, 5);
-        // The document's n, and the most.
+        // The specification's n, and the most.
         for n in [64, MOST_VARIABLES] {
             line[at] = n as i32;
             assert_eq!(refused(n as u64, &line), Verdict::Refused(5, 0));

@@ -1,4 +1,4 @@
-//! The cases that the description of the library names, and its table of steps.
+//! The cases that docs/SPECIFICATION.md names, and its table of steps.
 
 use utvpi_tests::bytes;
 use utvpi_tests::document::{largest, CASE_4};
@@ -166,7 +166,7 @@ fn case_11_a_broken_length() {
 fn case_12_variables_and_coefficients() {
     let list = |lines: &[Line]| bytes::list(lines);
     // Variable n of n, never taken as variable 0, and others with high bits: for
-    // the document's n, and for the most.
+    // the specification's n, and for the most.
     for n in [64, MOST_VARIABLES as i32] {
         for variable in [n, n + 1, 2 * n, 4 * n, 1 << 16, 1 << 24, 1 << 30, i32::MAX]
             .into_iter()
@@ -201,8 +201,8 @@ fn case_13_the_second_walk_breaks() {
 /// A point: a variable, and 1 for it or -1 for its negative.
 type Point = (i32, i32);
 
-/// The description's table, with 0 as x and 1 as y: a, b, then start and end of
-/// side 0, of side 1, and the factor of d in the weight.
+/// The specification's table, with 0 as x and 1 as y: a, b, then start and end
+/// of side 0, of side 1, and the factor of d in the weight.
 type Row = (
     i32,
     i32,

@@ -73,7 +73,7 @@ fn some_list(chance: &mut Chance) -> (u64, Vec<i32>) {
     (n, make::lines(chance, n, count).concat())
 }
 
-/// The one file that the description writes out.
+/// The one file that the specification writes out.
 #[test]
 fn the_file_of_the_description() {
     let mut chance = Chance::new(90);

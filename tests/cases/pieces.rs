@@ -232,7 +232,7 @@ fn random_pieces() {
     assert!(early.inputs >= 50_000 && early.yes >= 500 && early.no >= 10_000);
 }
 
-/// The description's short refutations, cut in every way there is, empty pieces
+/// The specification's short refutations, cut in every way there is, empty pieces
 /// at either end among them. A part of one that comes before its end has no head
 /// yet, or too few numbers for its counts, whatever its steps are.
 #[test]

@@ -1,4 +1,4 @@
-//! What the description of the library names and several tests use.
+//! What docs/SPECIFICATION.md names and several tests use.
 
 use crate::limits::{LARGEST_BOUND, MOST_LINES, MOST_VARIABLES};
 use crate::lines::{line, Line};

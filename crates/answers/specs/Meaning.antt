@@ -1,4 +1,4 @@
--- The computed answers have the meaning of document 01's section "Yes".
+-- The computed answers have the meaning of the specification's section "Yes".
 use mathlib.Core.Path.{_≡_, refl, sym, ap, _∙_}
 use mathlib.Core.Logic.{inl, inr, _↔_}
 use mathlib.Core.Bool.{Bool, true, false}

@@ -1,4 +1,4 @@
--- What document 01's section "Yes" says, without any algorithm: the one model, least and greatest values, groups.
+-- What the section "Yes" of docs/SPECIFICATION.md says, without any algorithm: the one model, least and greatest values, groups.
 use mathlib.Core.Path.{_≡_}
 use mathlib.Core.Logic.{_⊎_}
 use mathlib.Core.List.{List}

@@ -111,7 +111,7 @@ fn rooms_validity(
     Validity::Valid
 }
 
-// The first of document 01's refusals 1 to 8 that applies. Buffers are given by their lengths.
+// The first of refusals 1 to 8 that applies. Buffers are given by their lengths.
 pub fn decide_validity(
     n: usize,
     list: &[i32],

@@ -1,4 +1,4 @@
--- What the two exported checks return: document 01's byte rules and then the answer on numbers.
+-- What the two exported checks return: the specification's byte rules and then the answer on numbers.
 use mathlib.Core.Bool.{not, cond}
 use mathlib.Core.List.{List}
 use Prim.Native.Nat.{ℕ, _+_, _*_, _%_}

@@ -1,4 +1,4 @@
--- What deciding answers and leaves in the lent buffers, for every input: document 01's promise.
+-- What deciding answers and leaves in the lent buffers, for every input: the specification's promise.
 use mathlib.Core.Path.{_≡_, refl, sym, ap, subst, _∙_}
 use mathlib.Core.Bool.{Bool, true, false, cond}
 use mathlib.Core.List.{List, _++_}

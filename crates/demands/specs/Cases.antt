@@ -1,5 +1,5 @@
--- Document 01's starred cases, 1 to 10, as one table with one statement over it: what every call on such a list answers and leaves, proved by computing the
--- definitions.
+-- The specification's starred cases, 1 to 10, as one table with one statement over it: what every call on such a list answers and leaves, proved by
+-- computing the definitions.
 use mathlib.Core.Path.{_≡_, refl, ap, _∙_}
 use mathlib.Core.Bool.{true, false}
 use mathlib.Core.List.{List, [], _∷_, _++_}
@@ -37,7 +37,7 @@ use Rattle.decide.specs.declared.Answer.the-variants.{Yes, No}
 use Rattle.decide.specs.Decided.{OnYes, OnNo}
 use Rattle.demands.specs.Calls.{Call, verdict-yes, verdict-no, on-yes as call-on-yes, on-no as call-on-no}
 
--- what is written on a yes: model, bounds, groups; on a no: a refutation, here the one that document 01 names, and the sums of its walks
+-- what is written on a yes: model, bounds, groups; on a no: a refutation, here the one that the specification names, and the sums of its walks
 pub data Expected : Type 0 where
   on-yes : (model bounds : List ℤ) (groups : List ℕ) → Expected
   on-no : (refutation : List ℕ) (sums : List ℤ) → Expected

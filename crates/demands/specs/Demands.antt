@@ -1,4 +1,4 @@
--- What was demanded, in document 01's words, each statement proved by citing the rest: of deciding, of the answers and of the checkers.
+-- What was demanded, in the words of docs/SPECIFICATION.md, each statement proved by citing the rest: of deciding, of the answers and of the checkers.
 --
 -- A reader has to believe the meaning of the words (`Solves`, `Written` in answers/specs/Semantics.antt, `Refutes` and `BreaksAt` in soundness/specs),
 -- the table of refusals (`refusalTable` in Refusals.antt, with `lentRooms` in buffers/specs/Room.antt) and what a call is (`Call` in Calls.antt), and
@@ -105,7 +105,7 @@ Accepted n L R = refutationAnswer n L R ≡ Yes
 
 -- ---- demand 1: any list gets an answer or a numbered refusal, and a refusal changes no lent buffer
 
--- Document 01's table, for deciding and for both checks, on numbers and on bytes: a refusal is given exactly if its condition holds and none that goes
+-- The specification's table, for deciding and for both checks, on numbers and on bytes: a refusal is given exactly if its condition holds and none that goes
 -- before does.
 pub refusals-are-the-table : (a : Asked) (r : Refusal) → IsRefused a r ↔ FirstApplies (refusalTable a) r
 refusals-are-the-table a r = table-refuses a r
@@ -179,7 +179,7 @@ right-answer n L c =
 
 -- ---- demand 3: every no is shown, and nothing learned is unlearned when lines are added
 
--- A no hands over a refutation R of the due kind: in document 01's words, kind 3 with the lowest false line, or one with at most 4n steps in all.
+-- A no hands over a refutation R of the due kind: in the specification's words, kind 3 with the lowest false line, or one with at most 4n steps in all.
 pub record ShowsNo (n : ℕ) (L : List ℤ) (R : List ℕ) : Type 0 where
   pub kind : DueKind L (kindOf R)
   pub lowest : (j : ℕ) → j < lineCount L → isFalse (lineAt L j) ≡ true → (k : ℕ) × LowestFalseLine L k × (R ≡ 3 ∷ 1 ∷ 0 ∷ 2 * k ∷ [])
@@ -335,7 +335,7 @@ nothing-against-a-solution n L R = answers-no-solvable n L R
 pub accepted-stays-accepted : (n : ℕ) (L M : List ℤ) (R : List ℕ) → ValidFor n (L ++ M) → Accepted n L R → Accepted n (L ++ M) R
 accepted-stays-accepted n L M R = answers-longer n L M R
 
--- Its no carries a place, an index into the refutation: it says no exactly where the refutation breaks by the rules of request Two. A bad kind is index 0,
+-- Its no carries a place, an index into the refutation: it says no exactly where the refutation breaks by the specification's rules. A bad kind is index 0,
 -- bad counts 1, a total length that disagrees with the counts 2; then, in reading order, the first step number that names no step or doesn't join, or the
 -- last step of a walk that ends wrong; last, sums that aren't low enough give the index of the last number. In kind 3 a wrong step number is index 3. Fewer
 -- than three numbers gives index 0.

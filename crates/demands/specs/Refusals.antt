@@ -1,4 +1,4 @@
--- Document 01's table of refusals: when each applies, in the order in which they go, and what it is to be the first that applies.
+-- The specification's table of refusals: when each applies, in the order in which they go, and what it is to be the first that applies.
 -- The number and the place of each are `numberOf` and `placeOf` (lines/specs/Refusal.antt); the rooms of the lent buffers, with their refusals 7 and 8 in
 -- their order, are `lentRooms` (buffers/specs/Room.antt).
 use mathlib.Core.Path.{_≡_}

@@ -1,4 +1,4 @@
--- The limits of document 01, each in this one place; src/limits.rt has the same for the code.
+-- The specification's limits, each in this one place; src/limits.rt has the same for the code.
 use Prim.Native.Nat.{ℕ}
 
 -- the numbers of one line: a, x, b, y, d

@@ -1,4 +1,4 @@
--- Document 01's refusals of a list, 1 to 6: the first that applies.
+-- The specification's refusals of a list, 1 to 6: the first that applies.
 use mathlib.Core.Bool.{Bool, true, false, not, cond, _&&_}
 use mathlib.Core.List.{List, [], _∷_}
 use Prim.Native.Nat.{ℕ, _+_, _%_}
@@ -19,7 +19,7 @@ use Rattle.lines.specs.Line.{lineCount, linesOf}
 abbrev pub numberedAt : ℕ → ℕ → Numbered
 numberedAt n k = record { number = n; place = k }
 
--- document 01's table: the number and the place of each refusal
+-- the specification's table: the number and the place of each refusal
 abbrev pub numberAndPlace : Refusal → Numbered
 numberAndPlace TooManyVariables = numberedAt 1 0
 numberAndPlace BrokenLength = numberedAt 2 0

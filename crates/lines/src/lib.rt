@@ -1,4 +1,4 @@
-// A list of lines as document 01 gives it: its lines, and the first refusal that applies to it.
+// A list of lines as docs/SPECIFICATION.md gives it: its lines, and the first refusal that applies to it.
 pub mod limits;
 
 use integers::between;
@@ -23,7 +23,7 @@ pub struct Line {
     pub d: i32,
 }
 
-// Document 01's refusals, in the order of their numbers, each with its place where it has one.
+// The specification's refusals, in the order of their numbers, each with its place where it has one.
 pub enum Refusal {
     TooManyVariables,
     BrokenLength,
@@ -44,7 +44,7 @@ pub enum Validity {
     Refused(Refusal),
 }
 
-// Document 01's number and place of a refusal.
+// The specification's number and place of a refusal.
 pub struct Numbered {
     pub number: usize,
     pub place: usize,
@@ -57,7 +57,7 @@ pub fn numbered_at(number: usize, place: usize) -> Numbered
     Numbered { number, place }
 }
 
-// Document 01's table: the number and the place of each refusal.
+// The specification's table: the number and the place of each refusal.
 pub fn number_and_place(r: Refusal) -> Numbered
     ensures { λ s. ⌜ (s .number ≡ numberOf r) × (s .place ≡ placeOf r) ⌝ }
 {
@@ -173,7 +173,7 @@ fn lines_validity(n: usize, list: &[i32]) -> Validity
     Validity::Valid
 }
 
-// The first of document 01's refusals 1 to 6 that applies to a list for n variables.
+// The first of refusals 1 to 6 that applies to a list for n variables.
 pub fn list_validity(n: usize, list: &[i32]) -> Validity
     ensures { λ r. ⌜ r ≡ validityOf n (now (list .entry)) ⌝ }
 {

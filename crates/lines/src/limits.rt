@@ -1,4 +1,4 @@
-// The limits of document 01, each in this one place; specs/Limits.antt has the same for the definitions.
+// The specification's limits, each in this one place; specs/Limits.antt has the same for the definitions.
 
 // The numbers of one line: a, x, b, y, d.
 pub const LINE_SIZE: usize = 5;

@@ -1,4 +1,4 @@
--- What document 01 answers to a proposed model: the first refusal that applies, or else yes, or no with the first line that fails.
+-- What is answered to a proposed model: the first refusal that applies, or else yes, or no with the first line that fails.
 use mathlib.Core.Bool.{not, cond}
 use mathlib.Core.List.{List, [], _∷_}
 use Prim.Native.Nat.{ℕ, _+_}

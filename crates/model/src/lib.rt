@@ -88,7 +88,7 @@ fn values_validity(model: &[i64]) -> Validity
     Validity::Valid
 }
 
-// The first of document 01's refusals 1 to 6, 9 and 10 that applies.
+// The first of refusals 1 to 6, 9 and 10 that applies.
 fn model_validity(n: usize, list: &[i32], model: &[i64]) -> Validity
     ensures { λ r. ⌜ r ≡ modelValidity n (now (list .entry)) (now (model .entry)) ⌝ }
 {

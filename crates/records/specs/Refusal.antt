@@ -1,11 +1,11 @@
--- The number and the place that the request gives each refusal of a file.
+-- The number and the place that the specification gives each refusal of a file.
 use Prim.Native.Nat.{ℕ}
 use Rattle.lines.specs.declared.Numbered.{Numbered}
 use Rattle.lines.specs.Refusal.{numberedAt, numberAndPlace}
 use Rattle.records.specs.declared.FileRefusal.{FileRefusal}
 use Rattle.records.specs.declared.FileRefusal.the-variants.{Cut, UnknownKind, WrongLength, OutOfPlace, Trailing, NoRoom, List}
 
--- the place is the byte offset of the record, or document 01's of the list
+-- the place is the byte offset of the record, or the specification's of the list
 abbrev pub fileNumberAndPlace : FileRefusal → Numbered
 fileNumberAndPlace (Cut k) = numberedAt 20 k
 fileNumberAndPlace (UnknownKind k) = numberedAt 21 k

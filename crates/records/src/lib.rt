@@ -58,7 +58,7 @@ pub enum Next {
     Refused(FileRefusal),
 }
 
-// The number and the place of each refusal: the byte offset of its record, or document 01's of its list.
+// The number and the place of each refusal: the byte offset of its record, or the specification's of its list.
 pub fn file_number_and_place(r: FileRefusal) -> Numbered
     ensures { λ s. ⌜ (s .number ≡ fileNumber r) × (s .place ≡ filePlace r) ⌝ }
 {

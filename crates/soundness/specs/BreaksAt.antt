@@ -1,4 +1,4 @@
--- Where a refutation breaks, in the words of request Two: to be read beside it. Nothing here speaks of how the checker works.
+-- Where a refutation breaks, by the section of docs/SPECIFICATION.md of that name: to be read beside it. Nothing here speaks of how the checker works.
 use mathlib.Core.Path.{_≡_}
 use mathlib.Core.List.{List}
 use Prim.Native.Nat.{ℕ, _+_, _-_, _<_, _≤_}
@@ -67,7 +67,7 @@ pub data Fault (L : List ℤ) (R : List ℕ) : ℕ → Type 0 where
   -- kind 3: the one step number, if it is wrong
   wrong-line : kindOf R ≡ 3 → (FalseStep L (getD R headSize 0) → ⊥) → Fault L R headSize
 
--- it breaks at the first fault, since the request lists them in the order of their indices
+-- it breaks at the first fault, since the specification lists them in the order of their indices
 pub record BreaksAt (L : List ℤ) (R : List ℕ) (i : ℕ) : Type 0 where
   pub fault : Fault L R i
   pub first : (j : ℕ) → j < i → Fault L R j → ⊥

@@ -1,4 +1,4 @@
--- The checker's rule says yes exactly to document 01's three kinds.
+-- The checker's rule says yes exactly to the specification's three kinds.
 use mathlib.Core.Path.{_≡_, refl, sym, ap, ap₂, subst, _∙_}
 use mathlib.Core.Logic.{_↔_}
 use mathlib.Core.Bool.{Bool, true, false, cond, _&&_}

@@ -1,4 +1,4 @@
--- Document 01's three kinds of refutation, as it states them: what the checker's rule has to say yes to, and nothing else.
+-- The specification's three kinds of refutation, as it states them: what the checker's rule has to say yes to, and nothing else.
 use mathlib.Core.Path.{_≡_}
 use mathlib.Core.Bool.{true}
 use mathlib.Core.List.{List, [], _∷_, _++_}

@@ -1,1 +1,1 @@
-// What the refutation checker's rule means: document 01's three kinds exactly, nothing against a list with a solution, and a no where request Two says.
+// What the refutation checker's rule means: the specification's three kinds exactly, nothing against a list with a solution, and a no where it says.

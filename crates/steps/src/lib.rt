@@ -1,4 +1,4 @@
-// The steps of a list's lines, by document 01's table, and the step with a given number.
+// The steps of a list's lines, by the specification's table, and the step with a given number.
 use lines::Line;
 use lines::limits::LINE_SIZE;
 use lines::line_at;
