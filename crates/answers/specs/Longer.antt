@@ -15,7 +15,8 @@ use Rattle.lines.specs.declared.Validity.the-variants.{Valid}
 use Rattle.lines.specs.Limits.{lineSize}
 use Rattle.lines.specs.Line.{linesOf, Assignment, assignmentOf, Solves, Solvable, Entails}
 use Rattle.lines.specs.Refusal.{validityOf}
-use Rattle.lines.specs.Solutions.{solves-append, lines-append}
+use Rattle.lines.specs.LineNumbers.{lines-append}
+use Rattle.lines.specs.Solutions.{solves-append}
 use Rattle.answers.specs.Semantics.{IsModel, Together, IsGroup, LeastWritten, GreatestWritten, Written}
 use Rattle.answers.specs.Verdict.{verdictOf}
 use Rattle.answers.specs.Meaning.{only-model}

@@ -21,14 +21,14 @@ use Rattle.integers.specs.Integer.{_⩽_, _⋖_}
 use Rattle.lines.specs.declared.Refusal.{Refusal}
 use Rattle.lines.specs.declared.Validity.the-variants.{Valid}
 use Rattle.lines.specs.Limits.{lineSize, maxRefutation, maxVariables}
-use Rattle.lines.specs.Line.{Assignment, Solves, Solvable, SameSolutions, lineAt, lineCount, linesOf, assignmentOf, isFalse, number}
+use Rattle.lines.specs.Line.{Assignment, Solves, Solvable, SameSolutions, lineNumbers, lineAt, lineCount, linesOf, assignmentOf, isFalse, number}
 use Rattle.lines.specs.Refusal.{validityOf, numberOf, placeOf}
 use Rattle.lines.specs.Valid.{LineOk, valid-list, shorter-valid}
 use Rattle.little_endian.specs.Bytes.{int32s, nat32s, AreBytes}
 use mir.Syntax.{w32, w64}
 use mir.Val.{SFits}
 use Rattle.lines.specs.Fits.{numbers-fit}
-use Rattle.little_endian.specs.Writing.{int32Bytes, nat32Bytes, int64Bytes}
+use Rattle.little_endian.specs.Writing.{bytesOf, int32Bytes, nat32Bytes, int64Bytes}
 use Rattle.little_endian.specs.Back.{int32s-back, int32Bytes-small, nat32Bytes-small, int64Bytes-small}
 use Rattle.model.specs.declared.ModelAnswer.the-variants as model
 use Rattle.model.specs.Model.{modelAnswer}
@@ -516,7 +516,7 @@ pub the-file-of-x-at-most-5 : fileOf 1 (pos 1 ∷ pos 0 ∷ pos 0 ∷ pos 0 ∷ 
     ≡ 4 ∷ 0 ∷ 1 ∷ 0 ∷ 1 ∷ 0 ∷ 0 ∷ 0
     ∷ 20 ∷ 0 ∷ 2 ∷ 0 ∷ 1 ∷ 0 ∷ 0 ∷ 0 ∷ 0 ∷ 0 ∷ 0 ∷ 0 ∷ 0 ∷ 0 ∷ 0 ∷ 0 ∷ 0 ∷ 0 ∷ 0 ∷ 0 ∷ 5 ∷ 0 ∷ 0 ∷ 0
     ∷ 0 ∷ 0 ∷ 3 ∷ 0 ∷ []
-unfolding fileOf lineRecords lineBody lineAt
+unfolding fileOf lineRecords lineBody lineNumbers bytesOf lineAt
 the-file-of-x-at-most-5 = refl
 
 -- ---- the program

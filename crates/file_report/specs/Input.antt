@@ -8,7 +8,7 @@ use lib.IntN.{ℤ}
 use lib.ListN.{length, take}
 use lib.Seq.{take-take}
 use Rattle.lines.specs.Limits.{lineSize}
-use Rattle.list_file.specs.File.{recordPlace}
+use Rattle.records.specs.Table.{recordPlace}
 use Rattle.list_file.specs.Back.{is-read}
 use Rattle.list_file.specs.Front.{same-read, same-list}
 use Rattle.file_report.specs.Report.{mostVariables, mostLines, Decided, Reported, refused, decided}

@@ -1,11 +1,11 @@
 -- Lists by their elements: the list of a function's first values, and a list written from the front.
 use mathlib.Core.Path.{_≡_, refl, sym, ap, _∙_}
 use mathlib.Core.List.{List, [], _∷_, _++_, append-assoc}
-use Prim.Native.Nat.{ℕ, zero, suc, _+_, _<_, suc-le-suc}
+use Prim.Native.Nat.{ℕ, zero, suc, _+_, _<_, _≤_, suc-le-suc}
 use native.Mathlib.Nat.{suc-add, zero-add, not-suc-le-zero, le-of-suc-le-suc}
 use native.Mathlib.Numerals.{add-one}
 use native.Mathlib.Omega.{arith}
-use lib.ListN.{length, set, getD, drop}
+use lib.ListN.{length, set, getD, take, drop}
 use lib.Seq.{set-at, drop-cons}
 
 module _ {A : Type 0} where
@@ -31,6 +31,12 @@ module _ {A : Type 0} where
       go zero k f h = absurd (not-suc-le-zero h)
       go (suc n) zero f h = refl
       go (suc n) (suc k) f h = go n k (λ i. f (suc i)) (le-of-suc-le-suc h)
+
+  -- the first n elements of a list that has as many
+  pub tabulate-getD : (n : ℕ) (l : List A) (d : A) → n ≤ length l → tabulate n (λ i. getD l i d) ≡ take n l
+  tabulate-getD zero l d h = refl
+  tabulate-getD (suc n) [] d h = absurd (not-suc-le-zero h)
+  tabulate-getD (suc n) (x ∷ l) d h = ap (λ (r : List A). x ∷ r) (tabulate-getD n l d (le-of-suc-le-suc h))
 
   pub tabulate-cong : (n : ℕ) (f g : ℕ → A) → ((k : ℕ) → k < n → f k ≡ g k) → tabulate n f ≡ tabulate n g
   tabulate-cong zero f g e = refl

@@ -1,9 +1,9 @@
 -- The numbers of a valid list fit 32 bits.
-use mathlib.Core.Path.{_≡_, refl}
+use mathlib.Core.Path.{_≡_, refl, subst}
 use mathlib.Core.Bool.{Bool, true, false, not, cond, _&&_}
-use mathlib.Core.List.{List}
+use mathlib.Core.List.{List, [], _∷_}
 use Prim.Native.Nat.{ℕ, zero, suc, _+_, _*_, _/_, _%_, _<_, _≤_}
-use native.Mathlib.Nat.{add-zero}
+use native.Mathlib.Nat.{not-suc-le-zero, le-of-suc-le-suc}
 use native.Mathlib.Omega.{arith}
 use borrow.Author.Tests.{ltb-true, ltb-false, not-false}
 use lib.Dec.{ltb}
@@ -19,9 +19,10 @@ use Rattle.lines.specs.declared.Line.{Line}
 use Rattle.lines.specs.declared.Refusal.the-variants.{BadCoefficient, BadVariable}
 use Rattle.lines.specs.declared.Validity.the-variants.{Valid}
 use Rattle.lines.specs.Limits.{lineSize, maxVariables, maxConstant}
-use Rattle.lines.specs.Line.{number, lineAt, lineCount}
+use Rattle.lines.specs.Line.{number, lineNumbers, lineAt, lineCount}
+use Rattle.lines.specs.LineNumbers.{length-numbers, number-at}
 use Rattle.lines.specs.Refusal.{refuseIf, coefficientsOk, variableOk, variablesOk, lineValidity, validityOf}
-use Rattle.lines.specs.Valid.{LineOk, ListOk, or-valid, not-refused, valid-list}
+use Rattle.lines.specs.Valid.{ListOk, or-valid, not-refused, line-ok, valid-list}
 
 within-fits : (m : ℕ) (z : ℤ) → m ≤ maxConstant → Within m z → SFits w32 z
 within-fits m z l h = given₂ (h .low) (h .high) (simp ints (omega arith))
@@ -36,34 +37,36 @@ variable-fits n a x h = go (eqZ a (pos 0))
         let t = and-true (leZ (pos 0) x) (ltZ x (pos n)) e in
         given₂ (t .0) (t .1) (simp ints (omega arith))
 
-line-variables : (n k : ℕ) (l : Line) → lineValidity n k l ≡ Valid → (variableOk n (l .a) (l .x) ≡ true) × (variableOk n (l .b) (l .y) ≡ true)
-unfolding variablesOk
-line-variables n k l e =
+-- each number of a list
+abbrev Each : (ℤ → Type 0) → List ℤ → Type 0
+Each P [] = Unit {0}
+Each P (z ∷ zs) = P z × Each P zs
+
+each-at : (P : ℤ → Type 0) (zs : List ℤ) → Each P zs → (i : ℕ) → i < length zs → P (number zs i)
+each-at P [] h i l = absurd (not-suc-le-zero l)
+each-at P (z ∷ zs) h zero l = h .0
+each-at P (z ∷ zs) h (suc i) l = each-at P zs (h .1) i (le-of-suc-le-suc l)
+
+-- by the rules: each keeps its own numbers within 32 bits
+line-fits : (n k : ℕ) (l : Line) → n ≤ maxVariables → lineValidity n k l ≡ Valid → Each (SFits w32) (lineNumbers l)
+unfolding variablesOk lineNumbers
+line-fits n k l few e =
+    let ok = line-ok n k l e in
     let p = or-valid (refuseIf (not (coefficientsOk l)) (BadCoefficient k)) _ e in
     let q = or-valid (refuseIf (not (variablesOk n l)) (BadVariable k)) _ (p .1) in
-    and-true (variableOk n (l .a) (l .x)) (variableOk n (l .b) (l .y)) (not-false _ (not-refused _ _ (q .0)))
+    let v = and-true (variableOk n (l .a) (l .x)) (variableOk n (l .b) (l .y)) (not-false _ (not-refused _ _ (q .0))) in (
+      within-fits 1 _ (omega arith) (ok .coefficient-a),
+      (variable-fits n _ _ few (v .0), (within-fits 1 _ (omega arith) (ok .coefficient-b), (variable-fits n _ _ few (v .1), (within-fits maxConstant _ (omega arith) (ok .constant), tt)))),
+    )
 
 module _ (n : ℕ) (L : List ℤ) (v : validityOf n L ≡ Valid) where
   ok : ListOk n L
   ok = valid-list n L v
 
   number-fits : (k j : ℕ) → k < lineCount L → j < lineSize → SFits w32 (number L (lineSize * k + j))
-  unfolding lineAt
-  number-fits k j h l = go j l
-    where
-      line : LineOk n (lineAt L k)
-      line = ok .lines k h
-
-      variables : (variableOk n (lineAt L k .a) (lineAt L k .x) ≡ true) × (variableOk n (lineAt L k .b) (lineAt L k .y) ≡ true)
-      variables = line-variables n k (lineAt L k) (ok .each k h)
-
-      go : (j : ℕ) → j < lineSize → SFits w32 (number L (lineSize * k + j))
-      go zero l = rw (add-zero (lineSize * k)) (within-fits 1 _ (omega arith) (line .coefficient-a))
-      go (suc zero) l = variable-fits n _ _ (ok .variables) (variables .0)
-      go (suc (suc zero)) l = within-fits 1 _ (omega arith) (line .coefficient-b)
-      go (suc (suc (suc zero))) l = variable-fits n _ _ (ok .variables) (variables .1)
-      go (suc (suc (suc (suc zero)))) l = within-fits maxConstant _ (omega arith) (line .constant)
-      go (suc (suc (suc (suc (suc j))))) l = absurd (omega arith)
+  number-fits k j h l =
+      subst (SFits w32) (number-at L k h j l)
+      (each-at (SFits w32) (lineNumbers (lineAt L k)) (line-fits n k (lineAt L k) (ok .variables) (ok .each k h)) j (omega (arith, length-numbers (lineAt L k))))
 
   pub numbers-fit : (i : ℕ) → SFits w32 (number L i)
   numbers-fit i = go (ltb i (length L)) refl

@@ -1,5 +1,6 @@
 pub mod Limits
 pub mod Line
+pub mod LineNumbers
 pub mod Refusal
 pub mod Numbers
 pub mod Laws

@@ -1,7 +1,7 @@
 -- The specification's limits, each in this one place; src/limits.rt has the same for the code.
 use Prim.Native.Nat.{ℕ}
 
--- the numbers of one line: a, x, b, y, d
+-- how many numbers a line has: `lineNumbers` gives them
 abbrev pub lineSize : ℕ
 lineSize = 5
 

@@ -1,10 +1,10 @@
--- A list of numbers read as lines, and what it means that whole numbers solve it.
+-- A list of numbers read as lines, the numbers of lines, and what it means that whole numbers solve them.
 use mathlib.Core.Logic.{_↔_}
-use mathlib.Core.List.{List, [], _∷_}
+use mathlib.Core.List.{List, [], _∷_, _++_}
 use mathlib.Core.Bool.{Bool, _&&_}
-use Prim.Native.Nat.{ℕ, _+_, _*_, _/_}
+use Prim.Native.Nat.{ℕ, _*_, _/_}
 use lib.IntN.{ℤ, pos, natAbs, _+ℤ_, _*ℤ_}
-use lib.ListN.{length, getD}
+use lib.ListN.{length, getD, drop}
 use lib.Signed.{leZ, ltZ}
 use Rattle.integers.specs.Integer.{_⩽_, eqZ}
 use Rattle.integers.specs.Sequence.{tabulate}
@@ -14,22 +14,28 @@ use Rattle.lines.specs.Limits.{lineSize}
 abbrev pub number : List ℤ → ℕ → ℤ
 number L i = getD L i (pos 0)
 
+-- the numbers of a line, in their order: the one place that lists them
+unfoldable pub lineNumbers : Line → List ℤ
+lineNumbers l = l .a ∷ l .x ∷ l .b ∷ l .y ∷ l .d ∷ []
+
+-- the line with whose numbers a list begins: its inverse (specs/LineNumbers.antt)
+abbrev pub lineOf : List ℤ → Line
+lineOf ns = record { a = number ns 0; x = number ns 1; b = number ns 2; y = number ns 3; d = number ns 4 }
+
 -- line number k: its numbers as they stand in the list
 unfoldable pub lineAt : List ℤ → ℕ → Line
-lineAt L k =
-    record {
-      a = number L (lineSize * k);
-      x = number L (lineSize * k + 1);
-      b = number L (lineSize * k + 2);
-      y = number L (lineSize * k + 3);
-      d = number L (lineSize * k + 4);
-    }
+lineAt L k = lineOf (drop (lineSize * k) L)
 
 abbrev pub lineCount : List ℤ → ℕ
 lineCount L = length L / lineSize
 
 abbrev pub linesOf : List ℤ → List Line
 linesOf L = tabulate (lineCount L) (lineAt L)
+
+-- the numbers of lines, one line behind the other: its inverse
+unfoldable pub numbersOf : List Line → List ℤ
+numbersOf [] = []
+numbersOf (l ∷ ls) = lineNumbers l ++ numbersOf ls
 
 -- an assignment gives each variable a mathematical integer
 abbrev pub Assignment : Type 0

@@ -23,7 +23,7 @@ use Rattle.lines.specs.Limits.{lineSize, maxVariables, maxLines, maxCons
 use Rattle.lines.specs.Line.{lineAt, lineCount, linesOf}
 use Rattle.lines.specs.Refusal.{numberOf, _orElse_, refuseIf, coefficientsOk, variableOk, variablesOk, constantOk, Rule, lineRules, firstBroken, ruleOf, lineValidity, linesValidity, validityOf}
 use Rattle.lines.specs.Laws.{validity-from}
-use Rattle.lines.specs.Solutions.{count-append, lines-append}
+use Rattle.lines.specs.LineNumbers.{count-append, lines-append}
 
 pub record VariableOk (n : ℕ) (x : ℤ) : Type 0 where
   pub low : pos 0 ⩽ x

@@ -1,6 +1,6 @@
 // The specification's limits, each in this one place; specs/Limits.antt has the same for the definitions.
 
-// The numbers of one line: a, x, b, y, d.
+// How many numbers a line has.
 pub const LINE_SIZE: usize = 5;
 // The most variables.
 pub const MAX_VARIABLES: usize = 256;

@@ -19,6 +19,7 @@ use Rattle.records.specs.declared.FileRefusal.{FileRefusal}
 use Rattle.records.specs.declared.Next.{Next}
 use Rattle.records.specs.declared.Next.the-variants as next
 use Rattle.records.specs.Table.{headerSize}
+use Rattle.records.specs.Places.{place-is}
 use Rattle.records.specs.Scan.{scan}
 use Rattle.list_file.specs.declared.Listed.{Listed}
 use Rattle.list_file.specs.declared.ReadAnswer.{ReadAnswer}
@@ -85,7 +86,7 @@ module _ (n : ℕ) (L : List ℤ) (v : validityOf n L ≡ validity.Valid) where
 -- two valid lists with one file are one
 pub one-list : (n m : ℕ) (L M : List ℤ) → validityOf n L ≡ validity.Valid → validityOf m M ≡ validity.Valid → fileOf n L ≡ fileOf m M → (n ≡ m) × (L ≡ M)
 one-list n m L M v w e =
-    let c : lineCount L ≡ lineCount M = omega (arith, length-file n L, length-file m M, ap length e) in (
+    let c : lineCount L ≡ lineCount M = omega (arith, length-file n L, length-file m M, ap length e, place-is (lineCount L), place-is (lineCount M)) in (
       sym (n-in-file n L (omega (arith, ok n L v .variables))) ∙ ap (λ (b : List ℕ). le32 b headerSize) e ∙ n-in-file m M (omega (arith, ok m M w .variables)),
       sym (list-in-file n L v) ∙ rw (e, c) (list-in-file m M w),
     )

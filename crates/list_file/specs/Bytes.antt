@@ -1,26 +1,28 @@
 -- Numbers as bytes and back, and what stands at each place of a list's file.
-use mathlib.Core.Path.{_≡_, refl, sym, ap, _∙_}
-use mathlib.Core.List.{List, [], _∷_, _++_}
+use mathlib.Core.Path.{_≡_, refl, sym, ap, subst, _∙_}
+use mathlib.Core.List.{List, [], _∷_, _++_, append-assoc}
 use Prim.Native.Nat.{ℕ, zero, suc, _+_, _*_, _/_, _%_, _^_, _<_, _≤_}
 use native.Mathlib.Nat.{add-zero, add-assoc, div-div-eq-div-mul, mod-eq-of-lt}
 use native.Mathlib.Numerals.{towards-suc}
 use native.Mathlib.Omega.{arith}
 use lib.IntN.{ℤ}
-use lib.ListN.{length, getD, drop, length-append}
-use lib.Seq.{getD-drop, drop-cons, drop-append-add}
+use lib.ListN.{length, getD, drop, replicate, length-append}
+use lib.Seq.{getD-drop, drop-cons, drop-drop, drop-append-add}
 use mir.Syntax.{w32}
-use mir.Val.{SFits, toZ, ofZ}
+use mir.Val.{SFits, toZ}
 use mir.Facts.{ofZ-toZ}
 use Rattle.integers.specs.Sequence.{length-tabulate}
 use Rattle.lines.specs.declared.Line.{Line}
 use Rattle.lines.specs.Limits.{lineSize}
-use Rattle.lines.specs.Line.{number, lineAt, lineCount, linesOf}
+use Rattle.lines.specs.Line.{number, lineNumbers, lineAt, lineCount, linesOf}
+use Rattle.lines.specs.LineNumbers.{length-numbers, number-at}
 use Rattle.lines.specs.Laws.{lines-from, lines-past}
 use Rattle.little_endian.specs.Bytes.{AreBytes, le32, int32}
-use Rattle.little_endian.specs.Writing.{bytes16, bytes32, signedBytes}
-use Rattle.little_endian.specs.Back.{le32-bytes, int32-bytes, le32-at, Small, small-none, small-append, small16, small32}
-use Rattle.records.specs.Table.{headerSize, variablesKind, lineKind, endKind, le16}
-use Rattle.list_file.specs.File.{recordOf, lineBody, lineRecords, fileOf, lineRecord, recordPlace, fileSize, numberPlace}
+use Rattle.little_endian.specs.Writing.{bytes16, bytes32, signedBytes, int32Bytes}
+use Rattle.little_endian.specs.Back.{le32-bytes, le32-at, length-bytesOf, int32-back, Small, small-none, small-append, small16, small32, int32Bytes-small}
+use Rattle.records.specs.Table.{headerSize, variablesKind, lineKind, endKind, recordSize, totalSize, recordPlace, le16}
+use Rattle.records.specs.Places.{variables-record, line-record}
+use Rattle.list_file.specs.File.{recordOf, lineBody, lineRecords, fileOf, variablesRecord, fileSize, numberPlace}
 
 -- ---- at a place, by what stands there
 module _ (b c : List ℕ) (p : ℕ) (e : drop p b ≡ c) where
@@ -73,8 +75,7 @@ small-record kind {body} h = small-append (small16 (length body)) (small-append 
 
 small-body : (l : Line) → Small (lineBody l)
 unfolding lineBody
-small-body l =
-    small-append (small32 (ofZ w32 (l .a))) (small-append (small32 (ofZ w32 (l .x))) (small-append (small32 (ofZ w32 (l .b))) (small-append (small32 (ofZ w32 (l .y))) (small32 (ofZ w32 (l .d))))))
+small-body l = record { small = int32Bytes-small (lineNumbers l) }
 
 small-lines : (ls : List Line) → Small (lineRecords ls)
 unfolding lineRecords
@@ -92,35 +93,64 @@ number-place k j h =
     let f : (lineSize * k + j) % lineSize ≡ j = omega arith in
     rw (e, f)
 
-length-records : (ls : List Line) → length (lineRecords ls) ≡ lineRecord * length ls
-unfolding lineRecords lineBody
+-- a line's record is as long as the table says
+pub length-body : (l : Line) → length (lineBody l) ≡ 4 * lineSize
+unfolding lineBody
+length-body l = length-bytesOf 4 signedBytes (λ z. refl) (lineNumbers l) ∙ ap (λ (m : ℕ). 4 * m) (length-numbers l)
+
+length-record : (l : Line) → length (recordOf lineKind (lineBody l)) ≡ recordSize lineKind
+length-record l = omega (arith, length-body l, line-record)
+
+-- so the records of lines are as long as those of their kinds, and the next one begins behind them
+length-records : (ls : List Line) → length (lineRecords ls) ≡ totalSize (replicate (length ls) lineKind)
+unfolding lineRecords
 length-records [] = refl
-length-records (l ∷ ls) = omega (arith, length-records ls)
+length-records (l ∷ ls) = length-append (recordOf lineKind (lineBody l)) (lineRecords ls) ∙ omega (arith, length-record l, length-records ls)
+
+pub records-end : (ls : List Line) (k : ℕ) → length ls ≡ k → variablesRecord + length (lineRecords ls) ≡ recordPlace k
+unfolding recordPlace
+records-end ls k e =
+    let place : variablesRecord + length (lineRecords ls) ≡ recordPlace (length ls) = omega (arith, variables-record, length-records ls) in
+    place ∙ ap recordPlace e
+
+pub lines-end : (L : List ℤ) → variablesRecord + length (lineRecords (linesOf L)) ≡ recordPlace (lineCount L)
+lines-end L = records-end (linesOf L) (lineCount L) (length-tabulate (lineCount L) (lineAt L))
 
 pub length-file : (n : ℕ) (L : List ℤ) → length (fileOf n L) ≡ fileSize (lineCount L)
 unfolding fileOf
-length-file n L = omega (arith, length-append (lineRecords (linesOf L)) (recordOf endKind []), length-records (linesOf L), length-tabulate (lineCount L) (lineAt L))
+length-file n L =
+    length-append (recordOf variablesKind (bytes32 n)) (lineRecords (linesOf L) ++ recordOf endKind [])
+    ∙ omega (arith, length-append (lineRecords (linesOf L)) (recordOf endKind []), lines-end L)
 
-drop-records : (ls : List Line) (k : ℕ) (r : List ℕ) → k ≤ length ls → drop (lineRecord * k) (lineRecords ls ++ r) ≡ lineRecords (drop k ls) ++ r
-unfolding lineRecords lineBody
+drop-records : (ls : List Line) (k : ℕ) (r : List ℕ) → k ≤ length ls → drop (totalSize (replicate k lineKind)) (lineRecords ls ++ r) ≡ lineRecords (drop k ls) ++ r
+unfolding lineRecords
 drop-records ls zero r h = refl
 drop-records [] (suc k) r h = absurd (omega arith)
 drop-records (l ∷ ls) (suc k) r h =
-    let e : lineRecord * suc k ≡ lineRecord + lineRecord * k = omega arith in
-    rw e (drop-append-add (recordOf lineKind (lineBody l)) (lineRecords ls ++ r) (lineRecord * k) ∙ drop-records ls k r (omega arith))
+    let first = recordOf lineKind (lineBody l) in
+    let rest = totalSize (replicate k lineKind) in
+    ap (drop (recordSize lineKind + rest)) (append-assoc first (lineRecords ls) r)
+    ∙ ap (λ (i : ℕ). drop (i + rest) (first ++ (lineRecords ls ++ r))) (sym (length-record l))
+    ∙ drop-append-add first (lineRecords ls ++ r) rest
+    ∙ drop-records ls k r (omega arith)
 
 module _ (n : ℕ) (L : List ℤ) where
   -- what a file holds from the record of line k on, and from the end's
   pub drop-file : (k : ℕ) → k ≤ lineCount L → drop (recordPlace k) (fileOf n L) ≡ lineRecords (drop k (linesOf L)) ++ recordOf endKind []
-  unfolding fileOf
+  unfolding fileOf recordPlace
   drop-file k h =
-      drop-append-add (recordOf variablesKind (bytes32 n)) (lineRecords (linesOf L) ++ recordOf endKind []) (lineRecord * k)
+      let rest = totalSize (replicate k lineKind) in
+      ap (λ (i : ℕ). drop (i + rest) (fileOf n L)) variables-record
+      ∙ drop-append-add (recordOf variablesKind (bytes32 n)) (lineRecords (linesOf L) ++ recordOf endKind []) rest
       ∙ drop-records (linesOf L) k (recordOf endKind []) (omega (arith, length-tabulate (lineCount L) (lineAt L)))
 
   pub line-of-file : (k : ℕ) → k < lineCount L
       → drop (recordPlace k) (fileOf n L) ≡ recordOf lineKind (lineBody (lineAt L k)) ++ (lineRecords (drop (k + 1) (linesOf L)) ++ recordOf endKind [])
-  unfolding lineRecords lineBody
-  line-of-file k h = drop-file k (omega arith) ∙ ap (λ (ls : List Line). lineRecords ls ++ recordOf endKind []) (lines-from L k h)
+  unfolding lineRecords
+  line-of-file k h =
+      drop-file k (omega arith)
+      ∙ ap (λ (ls : List Line). lineRecords ls ++ recordOf endKind []) (lines-from L k h)
+      ∙ append-assoc (recordOf lineKind (lineBody (lineAt L k))) (lineRecords (drop (k + 1) (linesOf L))) (recordOf endKind [])
 
   pub end-of-file : drop (recordPlace (lineCount L)) (fileOf n L) ≡ recordOf endKind []
   unfolding lineRecords
@@ -136,11 +166,9 @@ module _ (n : ℕ) (L : List ℤ) where
   variables-kind = refl
 
   pub line-size : (k : ℕ) → k < lineCount L → le16 (fileOf n L) (recordPlace k) ≡ 4 * lineSize
-  unfolding lineBody
-  line-size k h = le16-first (fileOf n L) _ (recordPlace k) (line-of-file k h)
+  line-size k h = le16-first (fileOf n L) _ (recordPlace k) (line-of-file k h) ∙ ap (λ (m : ℕ). m % 256 + m / 256 % 256 * 256) (length-body (lineAt L k))
 
   pub line-kind : (k : ℕ) → k < lineCount L → le16 (fileOf n L) (recordPlace k + 2) ≡ lineKind
-  unfolding lineBody
   line-kind k h = le16-at (fileOf n L) _ (recordPlace k) (line-of-file k h) 2
 
   pub end-size : le16 (fileOf n L) (recordPlace (lineCount L)) ≡ 0
@@ -156,18 +184,16 @@ module _ (n : ℕ) (L : List ℤ) where
 
   pub number-in-line : (k j : ℕ) → k < lineCount L → j < lineSize → SFits w32 (number L (lineSize * k + j))
       → int32 (fileOf n L) (recordPlace k + headerSize + 4 * j) ≡ number L (lineSize * k + j)
-  unfolding lineBody lineAt
+  unfolding lineBody
   number-in-line k j h l f =
-      ap (int32 (fileOf n L)) (add-assoc (recordPlace k) headerSize (4 * j)) ∙ ap (toZ w32) (le32-at (fileOf n L) _ (recordPlace k) (line-of-file k h) (headerSize + 4 * j)) ∙ go j l f
-    where
-      go : (j : ℕ) → j < lineSize → SFits w32 (number L (lineSize * k + j))
-          → int32 (recordOf lineKind (lineBody (lineAt L k)) ++ (lineRecords (drop (k + 1) (linesOf L)) ++ recordOf endKind [])) (headerSize + 4 * j) ≡ number L (lineSize * k + j)
-      go zero l f = rw (add-zero (lineSize * k)) (int32-bytes _ [] (rw (add-zero (lineSize * k)) at f))
-      go (suc zero) l f = int32-bytes _ [] f
-      go (suc (suc zero)) l f = int32-bytes _ [] f
-      go (suc (suc (suc zero))) l f = int32-bytes _ [] f
-      go (suc (suc (suc (suc zero)))) l f = int32-bytes _ [] f
-      go (suc (suc (suc (suc (suc j))))) l f = absurd (omega arith)
+      let body = lineNumbers (lineAt L k) in
+      let rest = lineRecords (drop (k + 1) (linesOf L)) ++ recordOf endKind [] in
+      let there : drop (recordPlace k + headerSize) (fileOf n L) ≡ int32Bytes body ++ rest =
+      sym (drop-drop headerSize (recordPlace k) (fileOf n L)) ∙ ap (drop headerSize) (line-of-file k h) in
+      let e = number-at L k h j l in
+      ap (toZ w32) (le32-at (fileOf n L) _ (recordPlace k + headerSize) there (4 * j))
+      ∙ int32-back body rest j (omega (arith, length-numbers (lineAt L k))) (subst (SFits w32) (sym e) f)
+      ∙ e
 
   pub number-in-file : (i : ℕ) → i < lineSize * lineCount L → SFits w32 (number L i) → int32 (fileOf n L) (numberPlace i) ≡ number L i
   number-in-file i h f =

@@ -6,17 +6,18 @@ use lib.ListN.{length}
 use Rattle.integers.specs.Sequence.{tabulate}
 use Rattle.lines.specs.declared.Line.{Line}
 use Rattle.lines.specs.Limits.{lineSize}
-use Rattle.lines.specs.Line.{linesOf}
+use Rattle.lines.specs.Line.{lineNumbers, linesOf}
 use Rattle.little_endian.specs.Bytes.{int32}
-use Rattle.little_endian.specs.Writing.{bytes16, bytes32, signedBytes}
-use Rattle.records.specs.Table.{headerSize, variablesKind, lineKind, endKind}
+use Rattle.little_endian.specs.Writing.{bytes16, bytes32, int32Bytes}
+use Rattle.records.specs.Table.{headerSize, variablesKind, lineKind, endKind, recordPlace}
 
 -- ---- written
 abbrev pub recordOf : ℕ → List ℕ → List ℕ
 recordOf kind body = bytes16 (length body) ++ (bytes16 kind ++ body)
 
+-- a line's numbers, in their order
 unfoldable pub lineBody : Line → List ℕ
-lineBody l = signedBytes (l .a) ++ (signedBytes (l .x) ++ (signedBytes (l .b) ++ (signedBytes (l .y) ++ signedBytes (l .d))))
+lineBody l = int32Bytes (lineNumbers l)
 
 unfoldable pub lineRecords : List Line → List ℕ
 lineRecords [] = []
@@ -34,10 +35,7 @@ variablesRecord = headerSize + 4
 abbrev pub lineRecord : ℕ
 lineRecord = headerSize + 4 * lineSize
 
--- where the record of line k begins; so many bytes has a file of k lines, without the record of the end
-abbrev pub recordPlace : ℕ → ℕ
-recordPlace k = variablesRecord + lineRecord * k
-
+-- so many bytes has a file of k lines
 abbrev pub fileSize : ℕ → ℕ
 fileSize k = recordPlace k + headerSize
 

@@ -23,10 +23,11 @@ use Rattle.records.specs.declared.Cursor.{Cursor}
 use Rattle.records.specs.declared.FileRefusal.the-variants.{Cut}
 use Rattle.records.specs.declared.Next.{Next}
 use Rattle.records.specs.declared.Next.the-variants.{More, End, Refused}
-use Rattle.records.specs.Table.{headerSize, variablesKind, lineKind, endKind, bodySize, le16}
+use Rattle.records.specs.Table.{headerSize, variablesKind, lineKind, endKind, bodySize, recordPlace, le16}
 use Rattle.records.specs.Scan.{start, taken, sized, nextRecord, onward, scanFrom, wholeFile, scan}
 use Rattle.records.specs.Laws.{Placed, Reached, Left, Scanned, next-left, start-reached, scanned, scan-found}
-use Rattle.list_file.specs.File.{lineRecord, recordPlace, numberPlace, fileList}
+use Rattle.records.specs.Places.{place-is}
+use Rattle.list_file.specs.File.{lineRecord, numberPlace, fileList}
 use Rattle.list_file.specs.Read.{afterScan, readAnswer}
 
 -- so many bytes of a file are looked at, where the list's buffer has this room
@@ -94,8 +95,8 @@ module _ (k : ℕ) (b d : List ℕ) (same : take k b ≡ take k d) where
     in-front c h = go (c .begun) (h .placed)
       where
         go : (t : Bool) → Placed t (c .at) (c .lines) → c .at + lineRecord ≤ k
-        go false p = omega arith
-        go true p = omega (arith, h .fits)
+        go false p = omega (arith, place-is (room / lineSize + 1))
+        go true p = omega (arith, h .fits, place-is (c .lines), place-is (room / lineSize + 1))
 
     -- in as many turns as each has bytes
     same-from : (i j : ℕ) (c : Cursor) → Reached b room c → Reached d room c → length b < c .at + i → length d < c .at + j → scanFrom i b room c ≡ scanFrom j d room c
@@ -121,13 +122,13 @@ module _ (k : ℕ) (b d : List ℕ) (same : take k b ≡ take k d) where
       where
         go : (m : Next) → Scanned d room m → wholeFile b m ≡ wholeFile d m
         go (More c) s = refl
-        go (End c) s = rw (goes-past (c .at) (omega (arith, s .size, s .fits)))
+        go (End c) s = rw (goes-past (c .at) (omega (arith, s .size, s .fits, place-is (c .lines), place-is (room / lineSize + 1))))
         go (Refused r) s = refl
 
     -- ---- the list
     pub same-list : (lines : ℕ) → lineSize * lines ≤ room → fileList b lines ≡ fileList d lines
     unfolding fileList
-    same-list lines h = tabulate-cong (lineSize * lines) _ _ (λ i l. ap (toZ w32) (word (numberPlace i) (omega arith)))
+    same-list lines h = tabulate-cong (lineSize * lines) _ _ (λ i l. ap (toZ w32) (word (numberPlace i) (omega (arith, place-is (i / lineSize), place-is (room / lineSize + 1)))))
 
     pub same-read : (most : ℕ) → readAnswer most b room ≡ readAnswer most d room
     unfolding readAnswer

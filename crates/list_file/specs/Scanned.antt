@@ -18,9 +18,10 @@ use Rattle.records.specs.declared.FileRefusal.{FileRefusal}
 use Rattle.records.specs.declared.FileRefusal.the-variants.{Trailing}
 use Rattle.records.specs.declared.Next.{Next}
 use Rattle.records.specs.declared.Next.the-variants.{More, End, Refused}
-use Rattle.records.specs.Table.{headerSize, variablesKind, lineKind, endKind, bodySize, le16}
+use Rattle.records.specs.Table.{headerSize, variablesKind, lineKind, endKind, bodySize, recordPlace, le16}
 use Rattle.records.specs.Scan.{start, outOfPlace, noRoom, taken, sized, nextRecord, onward, scanFrom, wholeFile, scan}
-use Rattle.list_file.specs.File.{variablesRecord, lineRecord, recordPlace, fileSize}
+use Rattle.records.specs.Places.{line-record, place-first, place-next, place-is}
+use Rattle.list_file.specs.File.{variablesRecord, lineRecord, fileSize}
 use Rattle.list_file.specs.Layout.{Laid}
 
 -- ---- one record
@@ -138,7 +139,7 @@ scan-lines (suc f) b room n j e q = go (nextRecord b room (cursor n j)) (found b
     go _ (refused r) i q = never (cc)
     go _ (variables g s k l) i q = never (cc)
     go _ (line g s k l r) i q =
-        let z : recordPlace (j + 1) ≡ recordPlace j + headerSize + 4 * lineSize = omega arith in
+        let z : recordPlace (j + 1) ≡ recordPlace j + headerSize + 4 * lineSize = omega (arith, place-next j, line-record) in
         one-line b room n j e s k r (i (ap (λ (p : ℕ). scanFrom f b room (record { at = p; n = n; begun = true; lines = j + 1 })) z ∙ q))
     go _ (end g s k l) i q =
         let z : record { at = recordPlace j + headerSize + 0; n = n; begun = true; lines = j } ≡ e = cc in
@@ -177,7 +178,7 @@ scan-laid b room e q = first (nextRecord b room start) (found b room start) (who
     first _ (line g s k l r) q = never (cc)
     first _ (end g s k l) q = never (cc)
     first _ (variables g s k l) q =
-        let h = scan-lines (length b) b room (le32 b headerSize) 0 e q in
+        let h = scan-lines (length b) b room (le32 b headerSize) 0 e (ap (λ (p : ℕ). scanFrom (length b) b room (record { at = p; n = le32 b headerSize; begun = true; lines = 0 })) place-first ∙ q) in
         let at : e .at ≡ fileSize (e .lines) = ap (λ (c : Cursor). c .at) (h .is) in (
           record {
             size = omega (arith, h .fits, whole .1);
@@ -201,13 +202,13 @@ module _ (b : List ℕ) (room n k : ℕ) (h : Laid b n k) (r : lineSize * k ≤ 
       let z : j ≡ k = omega arith in
       rw (z, next-end b room (recordPlace k) n k (h .end-size) (h .end-kind) (omega (arith, h .size)), add-zero (fileSize k))
   laid-lines (suc f) (suc m) j e l =
-      let z : recordPlace j + headerSize + 4 * lineSize ≡ recordPlace (j + 1) = omega arith in
-      rw (next-line b room (recordPlace j) n j (h .line-size j (omega arith)) (h .line-kind j (omega arith)) (omega (arith, h .size)) (omega (arith, r)), z)
+      let z : recordPlace j + headerSize + 4 * lineSize ≡ recordPlace (j + 1) = omega (arith, place-next j, line-record) in
+      rw (next-line b room (recordPlace j) n j (h .line-size j (omega arith)) (h .line-kind j (omega arith)) (omega (arith, h .size, place-is j, place-is k)) (omega (arith, r)), z)
       (laid-lines f m (j + 1) (omega arith) (omega arith))
 
   pub laid-scan : scan b room ≡ End (record { at = fileSize k; n = n; begun = true; lines = k })
   unfolding scan scanFrom
   laid-scan =
-      rw (next-variables b room 0 0 0 (h .variables-size) (h .variables-kind) (omega (arith, h .size)), h .variables)
-      (ap (wholeFile b) (laid-lines (length b) k 0 (zero-add k) (omega (arith, h .size)))
+      rw (next-variables b room 0 0 0 (h .variables-size) (h .variables-kind) (omega (arith, h .size, place-is k)), h .variables, ← place-first)
+      (ap (wholeFile b) (laid-lines (length b) k 0 (zero-add k) (omega (arith, h .size, place-is k)))
       ∙ ap (λ (t : Bool). cond t (Refused (Trailing (fileSize k))) (End (record { at = fileSize k; n = n; begun = true; lines = k }))) (le-ltb (fileSize k) (length b) (omega (arith, h .size))))

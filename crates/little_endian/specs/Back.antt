@@ -1,8 +1,8 @@
 -- Numbers written as bytes and read back, one at a place and all of a list.
 use mathlib.Core.Path.{_≡_, refl, sym, ap, _∙_}
-use mathlib.Core.List.{List, [], _∷_, _++_}
+use mathlib.Core.List.{List, [], _∷_, _++_, append-assoc}
 use Prim.Native.Nat.{ℕ, zero, suc, _+_, _*_, _/_, _%_, _^_, _<_}
-use native.Mathlib.Nat.{mul-zero, add-assoc, div-div-eq-div-mul, mul-div-cancel-left}
+use native.Mathlib.Nat.{le-of-suc-le-suc, mul-zero, add-assoc, div-div-eq-div-mul, mul-div-cancel-left}
 use native.Mathlib.Omega.{arith}
 use lib.IntN.{ℤ, pos}
 use lib.ListN.{length, getD, drop, length-append}
@@ -57,6 +57,18 @@ module _ {A : Type 0} (size : ℕ) (read : List ℕ → ℕ → A) (write : A �
       let next : size * suc k ≡ size + size * k = omega arith in
       ap (read (write x ++ bytesOf write xs)) next ∙ at _ _ size (drop-at (write x) (bytesOf write xs) size (sized x)) (size * k)
 
+  -- number j, whatever comes behind the numbers
+  at-back : (d : A) (xs : List A) (r : List ℕ) (j : ℕ) → j < length xs → Fits (getD xs j d) → read (bytesOf write xs ++ r) (size * j) ≡ getD xs j d
+  unfolding bytesOf
+  at-back d [] r j h f = absurd (omega arith)
+  at-back d (x ∷ xs) r zero h f =
+      ap (read ((write x ++ bytesOf write xs) ++ r)) (mul-zero size) ∙ ap (λ (b : List ℕ). read b 0) (append-assoc (write x) (bytesOf write xs) r) ∙ back x _ f
+  at-back d (x ∷ xs) r (suc j) h f =
+      let next : size * suc j ≡ size + size * j = omega arith in
+      let behind : drop size ((write x ++ bytesOf write xs) ++ r) ≡ bytesOf write xs ++ r =
+      ap (drop size) (append-assoc (write x) (bytesOf write xs) r) ∙ drop-at (write x) (bytesOf write xs ++ r) size (sized x) in
+      ap (read ((write x ++ bytesOf write xs) ++ r)) next ∙ at _ _ size behind (size * j) ∙ at-back d xs r j (le-of-suc-le-suc h) f
+
   first-back : (d : A) (xs : List A) → ((i : ℕ) → Fits (getD xs i d)) → firstOf size read (bytesOf write xs) (length xs) ≡ xs
   unfolding firstOf bytesOf
   first-back d [] f = refl
@@ -71,6 +83,9 @@ module _ {A : Type 0} (size : ℕ) (read : List ℕ → ℕ → A) (write : A �
 
 pub int32s-back : (xs : List ℤ) → ((i : ℕ) → SFits w32 (getD xs i (pos 0))) → int32s (int32Bytes xs) ≡ xs
 int32s-back = numbers-back 4 int32 signedBytes (SFits w32) (omega arith) (λ z. refl) int32-bytes (λ b c p e i. ap (toZ w32) (le32-at b c p e i)) (pos 0)
+
+pub int32-back : (xs : List ℤ) (r : List ℕ) (j : ℕ) → j < length xs → SFits w32 (getD xs j (pos 0)) → int32 (int32Bytes xs ++ r) (4 * j) ≡ getD xs j (pos 0)
+int32-back = at-back 4 int32 signedBytes (SFits w32) (omega arith) (λ z. refl) int32-bytes (λ b c p e i. ap (toZ w32) (le32-at b c p e i)) (pos 0)
 
 pub nat32s-back : (xs : List ℕ) → ((i : ℕ) → getD xs i 0 < 2 ^ 32) → nat32s (nat32Bytes xs) ≡ xs
 nat32s-back = numbers-back 4 le32 bytes32 (λ v. v < 2 ^ 32) (omega arith) (λ v. refl) le32-bytes le32-at 0

@@ -18,7 +18,8 @@ use Rattle.records.specs.declared.FileRefusal.the-variants.{Cut, WrongLe
 use Rattle.records.specs.declared.Cursor.{Cursor}
 use Rattle.records.specs.declared.Next.{Next}
 use Rattle.records.specs.declared.Next.the-variants.{More, End, Refused}
-use Rattle.records.specs.Table.{headerSize, variablesKind, lineKind, endKind, bodySize, le16}
+use Rattle.records.specs.Table.{headerSize, variablesKind, lineKind, endKind, bodySize, recordPlace, le16}
+use Rattle.records.specs.Places.{line-record, place-first, place-next, place-is}
 use Rattle.records.specs.Scan.{start, outOfPlace, noRoom, taken, sized, nextRecord, onward, scanFrom, wholeFile, scan}
 
 -- what is kept of a cursor, so that no sum overflows
@@ -115,7 +116,7 @@ module _ (b : List ℕ) (room : ℕ) (c : Cursor) where
 -- nothing was read; or n, and the lines one behind the other
 abbrev pub Placed : Bool → ℕ → ℕ → Type 0
 Placed false at lines = (at ≡ 0) × (lines ≡ 0)
-Placed true at lines = at ≡ headerSize + 4 + (headerSize + 4 * lineSize) * lines
+Placed true at lines = at ≡ recordPlace lines
 
 pub record Reached (b : List ℕ) (room : ℕ) (c : Cursor) : Type 0 where
   pub within : c .at ≤ length b
@@ -125,7 +126,7 @@ pub record Reached (b : List ℕ) (room : ℕ) (c : Cursor) : Type 0 where
 -- the record of the end was read too
 pub record Ended (b : List ℕ) (room : ℕ) (c : Cursor) : Type 0 where
   pub within : c .at ≤ length b
-  pub size : headerSize + 4 + (headerSize + 4 * lineSize) * c .lines + headerSize ≡ c .at
+  pub size : recordPlace (c .lines) + headerSize ≡ c .at
   pub fits : c .lines * lineSize ≤ room
 
 pub reached-in : (b : List ℕ) (room : ℕ) (c : Cursor) → Reached b room c → InFile b c
@@ -133,7 +134,7 @@ reached-in b room c h = record { at = h .within; lines = go (c .begun) (h .place
   where
     go : (t : Bool) → Placed t (c .at) (c .lines) → lineSize * c .lines ≤ c .at
     go false p = omega arith
-    go true p = omega arith
+    go true p = omega (arith, place-is (c .lines))
 
 module _ (b : List ℕ) (room : ℕ) where
   -- what one record leaves
@@ -145,10 +146,12 @@ module _ (b : List ℕ) (room : ℕ) where
   left : (c : Cursor) (m : Next) → Outcome b room c m → Reached b room c → Left c m
   left c _ (variables w e) h =
       let p = rw e at (h .placed) in
-      (record { within = w .whole; placed = omega arith; fits = h .fits }, omega arith)
+      let first : c .at + headerSize + 4 ≡ recordPlace (c .lines) = rw (p .1) (omega (arith, p .0, place-first)) in
+      (record { within = w .whole; placed = first; fits = h .fits }, omega arith)
   left c _ (line w e r) h =
       let p = rw e at (h .placed) in
-      (record { within = w .whole; placed = rw e (omega arith); fits = omega arith }, omega arith)
+      let next : c .at + headerSize + 4 * lineSize ≡ recordPlace (c .lines + 1) = omega (arith, p, place-next (c .lines), line-record) in
+      (record { within = w .whole; placed = rw e next; fits = omega arith }, omega arith)
   left c _ (end w e) h =
       let p = rw e at (h .placed) in
       record { within = w .whole; size = omega arith; fits = h .fits }
@@ -196,7 +199,7 @@ module _ (b : List ℕ) (room : ℕ) where
 pub record Found (b : List ℕ) (room : ℕ) (c : Cursor) : Type 0 where
   pub at : c .at ≡ length b
   pub fits : c .lines * lineSize ≤ room
-  pub size : headerSize + 4 + (headerSize + 4 * lineSize) * c .lines + headerSize ≡ length b
+  pub size : recordPlace (c .lines) + headerSize ≡ length b
 
 pub scan-found : (b : List ℕ) (room : ℕ) (c : Cursor) → scan b room ≡ End c → Found b room c
 unfolding scan

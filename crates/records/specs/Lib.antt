@@ -1,4 +1,5 @@
 pub mod Table
+pub mod Places
 pub mod Scan
 pub mod Laws
 pub mod Refusal

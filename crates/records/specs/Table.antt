@@ -1,9 +1,9 @@
--- The records of a file: their kinds, and the length of each kind's body, in one table.
+-- The records of a file: their kinds, the length of each kind's body, in one table, and the places of records, by those before them.
 use mathlib.Core.Bool.{cond}
 use mathlib.Core.List.{List, [], _∷_}
 use Prim.Native.Nat.{ℕ, _+_, _*_}
 use lib.Dec.{eqb}
-use lib.ListN.{getD}
+use lib.ListN.{getD, replicate}
 use Rattle.lines.specs.Limits.{lineSize}
 use Rattle.records.specs.declared.BodySize.{BodySize}
 use Rattle.records.specs.declared.BodySize.the-variants.{Known, Unknown}
@@ -39,6 +39,28 @@ sizeIn (r ∷ rs) k = cond (eqb k (r .kind)) (Known (r .size)) (sizeIn rs k)
 
 unfoldable pub bodySize : ℕ → BodySize
 bodySize k = sizeIn table k
+
+-- ---- places
+abbrev pub sizeOf : BodySize → ℕ
+sizeOf Unknown = 0
+sizeOf (Known size) = size
+
+-- the bytes of a record of this kind
+abbrev pub recordSize : ℕ → ℕ
+recordSize kind = headerSize + sizeOf (bodySize kind)
+
+-- the bytes of records of these kinds, one behind the other: behind them the next one begins
+abbrev pub totalSize : List ℕ → ℕ
+totalSize [] = 0
+totalSize (k ∷ ks) = recordSize k + totalSize ks
+
+-- the kinds of the records before that of line k: n, and k lines
+abbrev pub kindsBefore : ℕ → List ℕ
+kindsBefore k = variablesKind ∷ replicate k lineKind
+
+-- where the record of line k begins; so many bytes has a file of k lines, without the record of the end
+unfoldable pub recordPlace : ℕ → ℕ
+recordPlace k = totalSize (kindsBefore k)
 
 -- two bytes, the first the lowest
 abbrev pub le16 : List ℕ → ℕ → ℕ

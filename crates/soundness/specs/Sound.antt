@@ -11,7 +11,7 @@ use Rattle.integers.specs.Linear.{ints}
 use Rattle.lines.specs.Limits.{lineSize}
 use Rattle.lines.specs.Line.{Assignment, Solves, linesOf, isFalse}
 use Rattle.lines.specs.Valid.{LinesOk}
-use Rattle.lines.specs.Solutions.{count-append, line-left}
+use Rattle.lines.specs.LineNumbers.{count-append, line-left}
 use Rattle.steps.specs.declared.Step.{Step}
 use Rattle.steps.specs.Point.{value, value-opposite}
 use Rattle.steps.specs.Step.{Holds}

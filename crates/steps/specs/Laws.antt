@@ -15,7 +15,7 @@ use Rattle.lines.specs.declared.Line.{Line}
 use Rattle.lines.specs.Limits.{lineSize, maxConstant}
 use Rattle.lines.specs.Line.{lineAt, lineCount}
 use Rattle.lines.specs.Valid.{VariableOk, LineOk}
-use Rattle.lines.specs.Solutions.{count-append, line-left}
+use Rattle.lines.specs.LineNumbers.{count-append, line-left}
 use Rattle.steps.specs.declared.Step.{Step}
 use Rattle.steps.specs.declared.NamedStep.the-variants.{Found, Nothing}
 use Rattle.steps.specs.Table.{entry, cell, digit, isEnd, CellRule, rule-at, digit-lt}

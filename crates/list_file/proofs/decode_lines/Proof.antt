@@ -11,7 +11,9 @@ use mir.Syntax.{w32}
 use mir.Val.{toZ, ofZ}
 use Rattle.integers.specs.Bits.{kept}
 use Rattle.lines.specs.Limits.{lineSize}
-use Rattle.list_file.specs.Putting.{readNumbers, read-none, read-more, read-all}
+use Rattle.little_endian.specs.Bytes.{int32}
+use Rattle.records.specs.Places.{place-is}
+use Rattle.list_file.specs.Putting.{number-place, readNumbers, read-none, read-more, read-all}
 use Rattle.list_file.proofs.decode_lines.Statement.{statement}
 use Rattle.list_file.proofs.decode_lines.Tie as tie
 
@@ -28,7 +30,9 @@ loop-holds : tie.Need-loop-holds Inv-loop μ-loop
 loop-holds c = (omega arith, refl, read-none (now (c .before .args .bytes)) (now (c .before .args .numbers)))
 
 i32-at-requires : tie.Need-i32-at-requires Inv-loop μ-loop
-i32-at-requires c κs = search needs
+i32-at-requires c κs =
+    let s = c .before .before .before in
+    omega (arith, s .pre .0, place-is (s .args .lines))
 
 loop-again : tie.Need-loop-again Inv-loop μ-loop
 loop-again c =
@@ -38,7 +42,8 @@ loop-again c =
       omega arith,
       search needs,
       ap (λ (m : List ℤ). set m (l .loop .i) v) (l .loop .inv .2)
-          ∙ read-more (now (s .args .bytes)) (now (s .args .numbers)) (l .loop .i) v (omega (arith, s .pre .1)) (kept w32 (c .i32-at .result) (c .i32-at .ok) ∙ c .i32-at .ensures),
+          ∙ read-more (now (s .args .bytes)) (now (s .args .numbers)) (l .loop .i) v (omega (arith, s .pre .1))
+          (kept w32 (c .i32-at .result) (c .i32-at .ok) ∙ c .i32-at .ensures ∙ ap (int32 (now (s .args .bytes))) (number-place (l .loop .i))),
     )
 
 returns : tie.Need-returns Inv-loop μ-loop

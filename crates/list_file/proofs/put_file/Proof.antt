@@ -1,9 +1,27 @@
 -- `list_file::put_file` meets its contract.
 use borrow.Author.Needs.{needs}
 use denote.Ref.{now}
+use Rattle.lines.specs.Line.{lineCount}
+use Rattle.records.specs.Places.{place-is}
 use Rattle.list_file.specs.Putting.{put-all}
 use Rattle.list_file.proofs.put_file.Statement.{statement}
 use Rattle.list_file.proofs.put_file.Tie as tie
+
+put-u32-requires : tie.Need-put-u32-requires
+put-u32-requires c κs =
+    let h = c .before .before .before in
+    let s = h .before .before .before in
+    let place = place-is (lineCount (now (s .args .list))) in
+    search needs
+
+put-header-requires-2 : tie.Need-put-header-requires-2
+put-header-requires-2 c κs =
+    let l = c .before .before .before in
+    let n = l .before .before .before .before in
+    let h = n .before .before .before .before in
+    let s = h .before .before .before in
+    let place = place-is (lineCount (now (s .args .list))) in
+    search needs
 
 returns : tie.Need-returns
 returns c =
@@ -20,10 +38,10 @@ put-file-spec =
     (tie.spec
     (search needs)
     (search needs)
+    put-u32-requires
     (search needs)
     (search needs)
     (search needs)
-    (search needs)
-    (search needs)
+    put-header-requires-2
     (search needs)
     returns)

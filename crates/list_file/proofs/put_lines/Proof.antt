@@ -1,6 +1,6 @@
 -- `list_file::put_lines` meets its contract. The invariant: the records of the first k lines are put.
 use mathlib.Core.Path.{_≡_, refl, ap, _∙_}
-use Prim.Native.Nat.{_-_, _≤_}
+use Prim.Native.Nat.{_+_, _*_, _-_, _≤_}
 use native.Mathlib.Omega.{arith}
 use borrow.Author.Needs.{needs}
 use denote.Ref.{now}
@@ -9,7 +9,8 @@ use Rattle.lines.specs.Line.{lineCount}
 use Rattle.lines.specs.declared.Line.{Line}
 use Rattle.little_endian.specs.Writing.{put}
 use Rattle.records.specs.Table.{lineKind}
-use Rattle.list_file.specs.File.{recordOf, lineBody, recordPlace}
+use Rattle.records.specs.Places.{place-is}
+use Rattle.list_file.specs.File.{recordOf, lineBody, variablesRecord, lineRecord}
 use Rattle.list_file.specs.Putting.{putLines, lines-none, lines-more, lines-all}
 use Rattle.list_file.proofs.put_lines.Statement.{statement}
 use Rattle.list_file.proofs.put_lines.Tie as tie
@@ -30,7 +31,10 @@ add-put-line : tie.Need-add-put-line Inv-loop μ-loop
 add-put-line c = search needs
 
 put-line-requires : tie.Need-put-line-requires Inv-loop μ-loop
-put-line-requires c κs = search needs
+put-line-requires c κs =
+    let l = c .before .before .before in
+    let s = l .before .before in
+    omega (arith, s .pre, place-is (lineCount (now (s .args .list))), l .loop .inv .0, l .loop .inv .1)
 
 loop-again : tie.Need-loop-again Inv-loop μ-loop
 loop-again c =
@@ -43,7 +47,7 @@ loop-again c =
       omega arith,
       search needs,
       lines-more L (now (s .args .out)) k (l .loop .inv .2)
-          (p .put-line .ensures ∙ ap (λ (x : Line). put (l .loop .out) (recordPlace k) (recordOf lineKind (lineBody x))) (r .line-at .ensures)),
+          (p .put-line .ensures ∙ ap (λ (x : Line). put (l .loop .out) (variablesRecord + lineRecord * k) (recordOf lineKind (lineBody x))) (r .line-at .ensures)),
     )
 
 returns : tie.Need-returns Inv-loop μ-loop
