@@ -1,11 +1,11 @@
 -- The numbers of a valid list fit 32 bits.
 use mathlib.Core.Path.{_≡_, refl, subst}
-use mathlib.Core.Bool.{Bool, true, false, not, cond, _&&_}
+use mathlib.Core.Bool.{Bool, true, false, cond, _&&_}
 use mathlib.Core.List.{List, [], _∷_}
 use Prim.Native.Nat.{ℕ, zero, suc, _+_, _*_, _/_, _%_, _<_, _≤_}
 use native.Mathlib.Nat.{not-suc-le-zero, le-of-suc-le-suc}
 use native.Mathlib.Omega.{arith}
-use borrow.Author.Tests.{ltb-true, ltb-false, not-false}
+use borrow.Author.Tests.{ltb-true, ltb-false}
 use lib.Dec.{ltb}
 use lib.IntN.{ℤ, pos}
 use lib.ListN.{length, List·getD-eq-default}
@@ -16,13 +16,12 @@ use Rattle.integers.specs.Integer.{eqZ, Within}
 use Rattle.integers.specs.Linear.{ints, given, given₂}
 use Rattle.integers.specs.Laws.{and-true, eqZ-true}
 use Rattle.lines.specs.declared.Line.{Line}
-use Rattle.lines.specs.declared.Refusal.the-variants.{BadCoefficient, BadVariable}
 use Rattle.lines.specs.declared.Validity.the-variants.{Valid}
 use Rattle.lines.specs.Limits.{lineSize, maxVariables, maxConstant}
 use Rattle.lines.specs.Line.{number, lineNumbers, lineAt, lineCount}
 use Rattle.lines.specs.LineNumbers.{length-numbers, number-at}
-use Rattle.lines.specs.Refusal.{refuseIf, coefficientsOk, variableOk, variablesOk, lineValidity, validityOf}
-use Rattle.lines.specs.Valid.{ListOk, or-valid, not-refused, line-ok, valid-list}
+use Rattle.lines.specs.Refusal.{variableOk, lineValidity, validityOf}
+use Rattle.lines.specs.Valid.{ListOk, line-variables, line-ok, valid-list}
 
 within-fits : (m : ℕ) (z : ℤ) → m ≤ maxConstant → Within m z → SFits w32 z
 within-fits m z l h = given₂ (h .low) (h .high) (simp ints (omega arith))
@@ -49,12 +48,10 @@ each-at P (z ∷ zs) h (suc i) l = each-at P zs (h .1) i (le-of-suc-le-suc l)
 
 -- by the rules: each keeps its own numbers within 32 bits
 line-fits : (n k : ℕ) (l : Line) → n ≤ maxVariables → lineValidity n k l ≡ Valid → Each (SFits w32) (lineNumbers l)
-unfolding variablesOk lineNumbers
+unfolding lineNumbers
 line-fits n k l few e =
     let ok = line-ok n k l e in
-    let p = or-valid (refuseIf (not (coefficientsOk l)) (BadCoefficient k)) _ e in
-    let q = or-valid (refuseIf (not (variablesOk n l)) (BadVariable k)) _ (p .1) in
-    let v = and-true (variableOk n (l .a) (l .x)) (variableOk n (l .b) (l .y)) (not-false _ (not-refused _ _ (q .0))) in (
+    let v = line-variables n k l e in (
       within-fits 1 _ (omega arith) (ok .coefficient-a),
       (variable-fits n _ _ few (v .0), (within-fits 1 _ (omega arith) (ok .coefficient-b), (variable-fits n _ _ few (v .1), (within-fits maxConstant _ (omega arith) (ok .constant), tt)))),
     )

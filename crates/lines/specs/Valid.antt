@@ -91,11 +91,15 @@ module _ (n k : ℕ) (l : Line) where
     none-more [] more e = refl
     none-more (r ∷ rs) more e = let h = holds r e in rw (more .0 (h .0)) (none-more rs (more .1) (h .1))
 
+pub line-variables : (n k : ℕ) (l : Line) → lineValidity n k l ≡ Valid → (variableOk n (l .a) (l .x) ≡ true) × (variableOk n (l .b) (l .y) ≡ true)
+unfolding variablesOk
+line-variables n k l e = and-true (variableOk n (l .a) (l .x)) (variableOk n (l .b) (l .y)) (rule-holds n k l BadVariable e)
+
 pub line-ok : (n k : ℕ) (l : Line) → lineValidity n k l ≡ Valid → LineOk n l
-unfolding coefficientsOk variablesOk constantOk
+unfolding coefficientsOk constantOk
 line-ok n k l e =
     let c = and-true (isWithin 1 (l .a)) (isWithin 1 (l .b)) (rule-holds n k l BadCoefficient e) in
-    let v = and-true (variableOk n (l .a) (l .x)) (variableOk n (l .b) (l .y)) (rule-holds n k l BadVariable e) in
+    let v = line-variables n k l e in
     record {
       coefficient-a = is-within 1 (l .a) (c .0);
       coefficient-b = is-within 1 (l .b) (c .1);
