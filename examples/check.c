@@ -186,7 +186,7 @@ static void check_merges(void)
          "  The bell's reading 64 is tick 36, one tick after the lamp.\n");
 
     tell(MODEL, "Do door 30, lamp 35 and bell 66 meet every line of the merge?",
-         check_model(list, length, 30, 35, 66), 1000000 + 3,
+         check_model(list, length, 30, 35, 66), UTVPI_NO + 3,
          "  Line 3 says that the lamp is not after the bell, but the bell's reading 66 is\n"
          "  tick 34.\n");
 }
@@ -201,16 +201,16 @@ static void check_refutations(void)
 
     /* Damage: the second step is 4 in place of 5, the other side of line 2. */
     tell(REFUTATION, "Does it if the step number at index 4 is changed from 5 to 4?",
-         check_changed(4, 4), 1000000 + 4,
+         check_changed(4, 4), UTVPI_NO + 4,
          "  Step 0 ends at -down. Step 4 is side 0 of line 2 and begins at up, so that it\n"
          "  does not join. Step 5, side 1 of this line, begins at -down.\n");
 
     /* Damage: a count that does not suit the kind, and one that is too high. */
     tell(REFUTATION, "Does it if the second count, at index 2, is changed from 2 to 0?",
-         check_changed(2, 0), 1000000 + 1,
+         check_changed(2, 0), UTVPI_NO + 1,
          "  Kind 2 has two walks, each of at least one step. Index 1 stands for both counts.\n");
     tell(REFUTATION, "Does it if the second count, at index 2, is changed from 2 to 3?",
-         check_changed(2, 3), 1000000 + 2,
+         check_changed(2, 3), UTVPI_NO + 2,
          "  The counts 2 and 3 ask for 5 steps, 8 numbers in all, and there are 7.\n");
 }
 

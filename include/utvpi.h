@@ -289,20 +289,25 @@ typedef struct utvpi_file_written {
 utvpi_file_written utvpi_write_list(uint64_t n, const int32_t *list, size_t list_len,
                                     uint8_t *out, size_t out_len);
 
+/* A no, as a result: a line's or a place's number is added. And what a refusal's
+ * number counts: every place in a result is below it. */
+#define UTVPI_NO 1000000
+#define UTVPI_REFUSAL_UNIT 100000
+
 /* What a result says, and its parts. Each takes a result as its argument. */
 #define UTVPI_IS_YES(result) ((result) == 0)
-#define UTVPI_IS_NO(result) ((result) >= 1000000)
+#define UTVPI_IS_NO(result) ((result) >= UTVPI_NO)
 #define UTVPI_IS_REFUSAL(result) ((result) < 0)
 
 /* Of a no on a model: the first line that it does not meet. Of a no on a
  * refutation: the index of the number where it breaks. Of a no of deciding, both
  * are 0 and say nothing. */
-#define UTVPI_NO_LINE(result) ((int)((result) - 1000000))
-#define UTVPI_NO_PLACE(result) ((int)((result) - 1000000))
+#define UTVPI_NO_LINE(result) ((int)((result) - UTVPI_NO))
+#define UTVPI_NO_PLACE(result) ((int)((result) - UTVPI_NO))
 
 /* Of a refusal: its number, and its place. */
-#define UTVPI_REFUSAL_NUMBER(result) ((int)(-(result) / 100000))
-#define UTVPI_REFUSAL_PLACE(result) ((int)(-(result) % 100000))
+#define UTVPI_REFUSAL_NUMBER(result) ((int)(-(result) / UTVPI_REFUSAL_UNIT))
+#define UTVPI_REFUSAL_PLACE(result) ((int)(-(result) % UTVPI_REFUSAL_UNIT))
 
 /* The refusals. Where several apply, the one given is the first of: 1, 2, 3;
  * then line by line from the first, in each line 4, 5, 6; then 7 and 8 for

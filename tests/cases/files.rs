@@ -14,7 +14,7 @@ use utvpi_tests::lines::{line, lone, zero, Line};
 use utvpi_tests::make;
 use utvpi_tests::records::{self, end, pack, packed, variables, List, Refusal};
 
-/// The file of one variable with x <= 5, byte by byte, as the description gives it.
+/// The file of one variable with x <= 5, byte by byte, as docs/SPECIFICATION.md has it.
 fn at_most_5() -> Vec<u8> {
     // What a line has beyond a, x, b, y and d is 0.
     let mut line = vec![
@@ -75,7 +75,7 @@ fn some_list(chance: &mut Chance) -> (u64, Vec<i32>) {
 
 /// The one file that the specification writes out.
 #[test]
-fn the_file_of_the_description() {
+fn the_file_of_the_specification() {
     let mut chance = Chance::new(90);
     let list = List {
         n: 1,
