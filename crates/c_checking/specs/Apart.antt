@@ -16,15 +16,15 @@ use Rattle.lines.specs.Limits.{maxRefutation}
 use Rattle.lines.specs.Refusal.{refuseIf}
 use Rattle.lines.specs.Valid.{not-refused}
 use Rattle.little_endian.specs.Bytes.{le32, int32s, nat32s, length-firstOf}
-use Rattle.model.specs.declared.ModelAnswer.{ModelAnswer}
-use Rattle.model.specs.declared.ModelAnswer.the-variants.{Yes, No, Refused}
-use Rattle.model.specs.Places as model
-use Rattle.refutation.specs.declared.RefutationAnswer.{RefutationAnswer}
-use Rattle.refutation.specs.declared.RefutationAnswer.the-variants as answer
-use Rattle.refutation.specs.Answer.{refutationAnswer}
-use Rattle.soundness.specs.BreaksAt.{BreaksAt}
-use Rattle.soundness.specs.Answered.{NotRefused, unrefused}
-use Rattle.soundness.specs.Breaks.{no-exactly-where}
+use Rattle.check_model.specs.declared.ModelAnswer.{ModelAnswer}
+use Rattle.check_model.specs.declared.ModelAnswer.the-variants.{Yes, No, Refused}
+use Rattle.check_model.specs.Places as model
+use Rattle.check_refutation.specs.declared.RefutationAnswer.{RefutationAnswer}
+use Rattle.check_refutation.specs.declared.RefutationAnswer.the-variants as answer
+use Rattle.check_refutation.specs.Answer.{refutationAnswer}
+use Rattle.check_soundness.specs.BreaksAt.{BreaksAt}
+use Rattle.check_soundness.specs.Answered.{NotRefused, unrefused}
+use Rattle.check_soundness.specs.Breaks.{no-exactly-where}
 use Rattle.c_codes.specs.Codes.{noCode, refusalUnit}
 use Rattle.c_codes.specs.Apart.{refusals-apart, no-refusal, same-pos}
 use Rattle.c_codes.specs.ListBytes.{numberBytes, bytesValidity, valid-bytes}

@@ -21,12 +21,12 @@ use Rattle.lines.specs.Refusal.{_orElse_, refuseIf, validityOf}
 use Rattle.little_endian.specs.Bytes.{int32s}
 use Rattle.little_endian.specs.Writing.{signedBytes, signedBytes64, bytes32, int32Bytes, nat32Bytes, int64Bytes}
 use Rattle.little_endian.specs.Back.{length-bytesOf, int32s-back, nat32s-back, int64s-back}
-use Rattle.model.specs.declared.ModelAnswer.{ModelAnswer}
-use Rattle.model.specs.Model.{modelValidity, modelAnswer}
-use Rattle.model.specs.Model as checked
-use Rattle.refutation.specs.declared.RefutationAnswer.{RefutationAnswer}
-use Rattle.refutation.specs.Answer.{unlessRefused, refutationValidity, refutationAnswer}
-use Rattle.pieces.specs.Cut.{Words}
+use Rattle.check_model.specs.declared.ModelAnswer.{ModelAnswer}
+use Rattle.check_model.specs.Model.{modelValidity, modelAnswer}
+use Rattle.check_model.specs.Model as checked
+use Rattle.check_refutation.specs.declared.RefutationAnswer.{RefutationAnswer}
+use Rattle.check_refutation.specs.Answer.{unlessRefused, refutationValidity, refutationAnswer}
+use Rattle.check_pieces.specs.Cut.{Words}
 use Rattle.c_codes.specs.ListBytes.{numberBytes, bytesValidity}
 use Rattle.c_checking.specs.Calls.{valueBytes, modelOfValues, refutationOfNumbers, modelOfBytes, refutationOfBytes}
 

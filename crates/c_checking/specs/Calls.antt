@@ -9,14 +9,14 @@ use Rattle.lines.specs.declared.Refusal.the-variants.{WrongModelLength, LongRef
 use Rattle.lines.specs.Limits.{maxRefutation}
 use Rattle.lines.specs.Refusal.{refuseIf}
 use Rattle.little_endian.specs.Bytes.{int32s, nat32s, int64s}
-use Rattle.model.specs.declared.ModelAnswer.{ModelAnswer}
-use Rattle.model.specs.declared.ModelAnswer.the-variants as answer
-use Rattle.model.specs.Model as model
-use Rattle.model.specs.Model.{modelAnswer}
-use Rattle.refutation.specs.declared.RefutationAnswer.{RefutationAnswer}
-use Rattle.refutation.specs.declared.RefutationAnswer.the-variants.{No}
-use Rattle.refutation.specs.Answer as refutation
-use Rattle.refutation.specs.Answer.{refutationAnswer}
+use Rattle.check_model.specs.declared.ModelAnswer.{ModelAnswer}
+use Rattle.check_model.specs.declared.ModelAnswer.the-variants as answer
+use Rattle.check_model.specs.Model as model
+use Rattle.check_model.specs.Model.{modelAnswer}
+use Rattle.check_refutation.specs.declared.RefutationAnswer.{RefutationAnswer}
+use Rattle.check_refutation.specs.declared.RefutationAnswer.the-variants.{No}
+use Rattle.check_refutation.specs.Answer as refutation
+use Rattle.check_refutation.specs.Answer.{refutationAnswer}
 use Rattle.c_codes.specs.Codes.{noCode, refusalCode}
 use Rattle.c_codes.specs.ListBytes.{numberBytes, bytesValidity}
 use Rattle.c_refutation_code.specs.Code.{refutationCode}

@@ -10,10 +10,10 @@ use Rattle.lines.specs.declared.Refusal.the-variants.{WrongModelLength, LongRef
 use Rattle.lines.specs.Limits.{maxRefutation}
 use Rattle.lines.specs.Places.{placed-if}
 use Rattle.little_endian.specs.Bytes.{int32s, nat32s, int64s}
-use Rattle.model.specs.Places as model
-use Rattle.refutation.specs.declared.RefutationAnswer.the-variants.{No}
-use Rattle.refutation.specs.Answer.{refutationAnswer}
-use Rattle.refutation.specs.Places as refutation
+use Rattle.check_model.specs.Places as model
+use Rattle.check_refutation.specs.declared.RefutationAnswer.the-variants.{No}
+use Rattle.check_refutation.specs.Answer.{refutationAnswer}
+use Rattle.check_refutation.specs.Places as refutation
 use Rattle.c_codes.specs.Codes.{refusalUnit}
 use Rattle.c_codes.specs.ListBytes.{numberBytes, bytes-placed}
 use Rattle.c_checking.specs.Calls.{valueBytes, modelOfValues, refutationOfNumbers, modelOfBytes, refutationOfBytes}

@@ -5,7 +5,7 @@ use Prim.Native.Nat.{ℕ}
 use lib.IntN.{ℤ, pos}
 use Rattle.decide.specs.declared.Answer.{Answer}
 use Rattle.decide.specs.declared.Answer.the-variants as decide
-use Rattle.buffers.specs.Room.{Lent}
+use Rattle.decide_buffers.specs.Room.{Lent}
 use Rattle.decide.specs.Decided.{answerFor, Leaves}
 use Rattle.c_codes.specs.Codes.{noCode, refusalCode}
 

@@ -6,7 +6,7 @@ use native.Mathlib.Omega.{arith}
 use lib.IntN.{ℤ}
 use Rattle.decide.specs.declared.Answer.{Answer}
 use Rattle.decide.specs.declared.Answer.the-variants as decision
-use Rattle.buffers.specs.Room.{Lent}
+use Rattle.decide_buffers.specs.Room.{Lent}
 use Rattle.decide.specs.Decided.{answerFor, Leaves, Decided}
 use Rattle.decide.specs.Places as decide
 use Rattle.c_codes.specs.Codes.{noCode, refusalUnit}

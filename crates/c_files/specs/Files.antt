@@ -10,19 +10,19 @@ use Rattle.lines.specs.Limits.{lineSize, maxVariables}
 use Rattle.lines.specs.Line.{lineCount}
 use Rattle.lines.specs.Numbers.{number-some}
 use Rattle.little_endian.specs.Bytes.{AreBytes}
-use Rattle.records.specs.declared.FileRefusal.{FileRefusal}
-use Rattle.records.specs.declared.FileRefusal.the-variants.{Cut, UnknownKind, WrongLength, OutOfPlace, Trailing, NoRoom, List as OfList}
-use Rattle.records.specs.Refusal.{fileNumber, filePlace}
-use Rattle.list_file.specs.declared.Listed.{Listed}
-use Rattle.list_file.specs.declared.ReadAnswer.{ReadAnswer}
-use Rattle.list_file.specs.declared.ReadAnswer.the-variants as read
-use Rattle.list_file.specs.declared.WriteAnswer.{WriteAnswer}
-use Rattle.list_file.specs.declared.WriteAnswer.the-variants as write
-use Rattle.list_file.specs.Read.{readAnswer, ReadDone}
-use Rattle.list_file.specs.Read as reading
-use Rattle.list_file.specs.Write.{writeAnswer, WriteDone}
-use Rattle.list_file.specs.Write as writing
-use Rattle.list_file.specs.Calls.{write-then-read, read-then-write}
+use Rattle.file_records.specs.declared.FileRefusal.{FileRefusal}
+use Rattle.file_records.specs.declared.FileRefusal.the-variants.{Cut, UnknownKind, WrongLength, OutOfPlace, Trailing, NoRoom, List as OfList}
+use Rattle.file_records.specs.Refusal.{fileNumber, filePlace}
+use Rattle.file_list.specs.declared.Listed.{Listed}
+use Rattle.file_list.specs.declared.ReadAnswer.{ReadAnswer}
+use Rattle.file_list.specs.declared.ReadAnswer.the-variants as read
+use Rattle.file_list.specs.declared.WriteAnswer.{WriteAnswer}
+use Rattle.file_list.specs.declared.WriteAnswer.the-variants as write
+use Rattle.file_list.specs.Read.{readAnswer, ReadDone}
+use Rattle.file_list.specs.Read as reading
+use Rattle.file_list.specs.Write.{writeAnswer, WriteDone}
+use Rattle.file_list.specs.Write as writing
+use Rattle.file_list.specs.Calls.{write-then-read, read-then-write}
 use Rattle.c_files.specs.declared.FileRead.{FileRead}
 use Rattle.c_files.specs.declared.FileWritten.{FileWritten}
 

@@ -1,9 +1,9 @@
 // The exported functions that read a list from the bytes of a file and write one. Each answers a struct.
-use list_file::ReadAnswer;
-use list_file::WriteAnswer;
-use list_file::read_list;
-use list_file::write_list;
-use records::file_number_and_place;
+use file_list::ReadAnswer;
+use file_list::WriteAnswer;
+use file_list::read_list;
+use file_list::write_list;
+use file_records::file_number_and_place;
 ghost use mathlib.Core.Path.{_≡_};
 ghost use Rattle.c_files.specs.Files.{fileRead, fileWritten, ReadReturns, WriteReturns};
 

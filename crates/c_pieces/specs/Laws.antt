@@ -9,11 +9,11 @@ use lib.IntN.{ℤ}
 use Rattle.lines.specs.declared.Refusal.the-variants.{LongRefutation}
 use Rattle.lines.specs.Limits.{maxRefutation}
 use Rattle.lines.specs.Places.{placed-or, placed-if, placed-list}
-use Rattle.refutation.specs.declared.Progress.{Progress}
-use Rattle.refutation.specs.declared.RefutationAnswer.the-variants.{No}
-use Rattle.refutation.specs.Answer.{verdict}
-use Rattle.refutation.specs.Places as refutation
-use Rattle.pieces.specs.Taken.{isSmall, endAnswer, small-test}
+use Rattle.check_refutation.specs.declared.Progress.{Progress}
+use Rattle.check_refutation.specs.declared.RefutationAnswer.the-variants.{No}
+use Rattle.check_refutation.specs.Answer.{verdict}
+use Rattle.check_refutation.specs.Places as refutation
+use Rattle.check_pieces.specs.Taken.{isSmall, endAnswer, small-test}
 use Rattle.c_codes.specs.Codes.{refusalUnit}
 
 pub end-below : (n : ℕ) (L : List ℤ) (s : Progress) → refutation.Below refusalUnit (endAnswer n L s)

@@ -5,12 +5,12 @@ use mathlib.Core.List.{List, [], _∷_}
 use Prim.Native.Nat.{ℕ}
 use lib.Dec.{eqb}
 use lib.IntN.{ℤ}
-use Rattle.refutation.specs.declared.Progress.{Progress}
-use Rattle.refutation.specs.Progress.{start}
-use Rattle.refutation.specs.Answer.{refutationAnswer}
-use Rattle.pieces.specs.Taken.{takeOn, takeAll, endAnswer}
-use Rattle.pieces.specs.Cut.{Words}
-use Rattle.pieces.specs.Cut as cut
+use Rattle.check_refutation.specs.declared.Progress.{Progress}
+use Rattle.check_refutation.specs.Progress.{start}
+use Rattle.check_refutation.specs.Answer.{refutationAnswer}
+use Rattle.check_pieces.specs.Taken.{takeOn, takeAll, endAnswer}
+use Rattle.check_pieces.specs.Cut.{Words}
+use Rattle.check_pieces.specs.Cut as cut
 use Rattle.c_refutation_code.specs.Code.{refutationCode}
 use Rattle.c_pieces.specs.declared.Kept.{Kept}
 

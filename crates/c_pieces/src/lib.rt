@@ -1,10 +1,10 @@
 // The exported check of a refutation that arrives in pieces: begin, take its numbers one after another, and end. What lies
 // between two of them C keeps.
 use c_refutation_code::refutation_code;
-use pieces::begin;
-use pieces::end;
-use pieces::take_on;
-use refutation::Progress;
+use check_pieces::begin;
+use check_pieces::end;
+use check_pieces::take_on;
+use check_refutation::Progress;
 ghost use mathlib.Core.Path.{_≡_};
 ghost use Rattle.c_pieces.specs.Pieces.{goodNumber, progressOf, keptOf, refutationBegin, refutationTake, refutationEnd};
 

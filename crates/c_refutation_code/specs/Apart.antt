@@ -3,9 +3,9 @@ use mathlib.Core.Path.{_≡_, refl, sym, ap}
 use Prim.Native.Nat.{ℕ, _+_}
 use native.Mathlib.Omega.{arith}
 use lib.IntN.{pos}
-use Rattle.refutation.specs.declared.RefutationAnswer.{RefutationAnswer}
-use Rattle.refutation.specs.declared.RefutationAnswer.the-variants as answer
-use Rattle.refutation.specs.Places as refutation
+use Rattle.check_refutation.specs.declared.RefutationAnswer.{RefutationAnswer}
+use Rattle.check_refutation.specs.declared.RefutationAnswer.the-variants as answer
+use Rattle.check_refutation.specs.Places as refutation
 use Rattle.c_codes.specs.Codes.{noCode, refusalUnit}
 use Rattle.c_codes.specs.Apart.{refusals-apart, no-refusal, same-pos}
 use Rattle.c_refutation_code.specs.Code.{refutationCode}

@@ -1,8 +1,8 @@
 -- The number that an answer on a refutation is returned as.
 use Prim.Native.Nat.{_+_}
 use lib.IntN.{ℤ, pos}
-use Rattle.refutation.specs.declared.RefutationAnswer.{RefutationAnswer}
-use Rattle.refutation.specs.declared.RefutationAnswer.the-variants.{Yes, No, Refused}
+use Rattle.check_refutation.specs.declared.RefutationAnswer.{RefutationAnswer}
+use Rattle.check_refutation.specs.declared.RefutationAnswer.the-variants.{Yes, No, Refused}
 use Rattle.c_codes.specs.Codes.{noCode, refusalCode}
 
 abbrev pub refutationCode : RefutationAnswer → ℤ

@@ -1,9 +1,9 @@
 // The number that an answer on a refutation is returned as, whether it was checked whole or arrived in pieces.
 use c_codes::NO;
 use c_codes::refusal_code;
-use refutation::RefutationAnswer;
+use check_refutation::RefutationAnswer;
 ghost use mathlib.Core.Path.{_≡_};
-ghost use Rattle.refutation.specs.Places as refutation;
+ghost use Rattle.check_refutation.specs.Places as refutation;
 ghost use Rattle.c_codes.specs.Codes.{refusalUnit};
 ghost use Rattle.c_refutation_code.specs.Code.{refutationCode};
 

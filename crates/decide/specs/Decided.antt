@@ -14,17 +14,17 @@ use Rattle.lines.specs.declared.Validity.the-variants as validity
 use Rattle.integers.specs.Sequence.{tabulate}
 use Rattle.lines.specs.Line.{linesOf}
 use Rattle.lines.specs.Limits.{maxVariables}
-use Rattle.distances.specs.Table.{tableStart}
+use Rattle.decide_rows.specs.Table.{tableStart}
 use Rattle.lines.specs.Refusal.{validityOf}
 use Rattle.lines.specs.Valid.{ListOk, or-valid, valid-list}
-use Rattle.bounds.specs.Table.{tableModel}
-use Rattle.tables.specs.Table.{tableOf}
-use Rattle.answering.specs.Table.{tableFor, short-table, model-agrees, bounds-agree, groups-agree, table-closed, model-ready}
-use Rattle.answering.specs.Ready.{AnswersReady}
-use Rattle.answers.specs.Verdict.{verdictOf}
-use Rattle.answers.specs.Answers.{modelOf, boundsOf, groupsOf, boundAt, groupAt}
-use Rattle.answers.specs.Refuted.{Due}
-use Rattle.buffers.specs.Room.{Lent, Lengths, lengthsOf, modelRoom, boundsRoom, groupsRoom, workRoom, lentRooms, HaveRoom, roomsValidity, decideValidity, valid-room, room-valid, model-room, bounds-room, groups-room, refutation-room, work-room, work-small}
+use Rattle.theory_bounds.specs.Table.{tableModel}
+use Rattle.decide_stored_table.specs.Table.{tableOf}
+use Rattle.decide_yes.specs.Table.{tableFor, short-table, model-agrees, bounds-agree, groups-agree, table-closed, model-ready}
+use Rattle.decide_yes.specs.Ready.{AnswersReady}
+use Rattle.theory_bounds.specs.Verdict.{verdictOf}
+use Rattle.theory_bounds.specs.Answers.{modelOf, boundsOf, groupsOf, boundAt, groupAt}
+use Rattle.theory_answers.specs.Refuted.{Due}
+use Rattle.decide_buffers.specs.Room.{Lent, Lengths, lengthsOf, modelRoom, boundsRoom, groupsRoom, workRoom, lentRooms, HaveRoom, roomsValidity, decideValidity, valid-room, room-valid, model-room, bounds-room, groups-room, refutation-room, work-room, work-small}
 use Rattle.decide.specs.declared.Answer.{Answer}
 use Rattle.decide.specs.declared.Answer.the-variants.{Yes, No, Refused}
 use Rattle.decide.specs.Searched.{usedRoom, SearchReady, Searched, tableIn}

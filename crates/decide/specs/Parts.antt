@@ -13,12 +13,12 @@ use Rattle.lines.specs.declared.Validity.{Validity}
 use Rattle.lines.specs.declared.Validity.the-variants.{Valid}
 use Rattle.lines.specs.declared.Validity.the-variants as validity
 use Rattle.lines.specs.Line.{linesOf}
-use Rattle.refutation.specs.Progress.{headSize}
-use Rattle.soundness.specs.Head.{stepsIn}
-use Rattle.soundness.specs.Refutes.{Refutes, kind-1, kind-2, kind-3}
-use Rattle.answers.specs.Verdict.{verdictOf}
-use Rattle.answers.specs.Answers.{modelOf, boundsOf, groupsOf}
-use Rattle.buffers.specs.Room.{Lent, modelRoom, boundsRoom, groupsRoom}
+use Rattle.check_refutation.specs.Progress.{headSize}
+use Rattle.check_soundness.specs.Head.{stepsIn}
+use Rattle.check_soundness.specs.Refutes.{Refutes, kind-1, kind-2, kind-3}
+use Rattle.theory_bounds.specs.Verdict.{verdictOf}
+use Rattle.theory_bounds.specs.Answers.{modelOf, boundsOf, groupsOf}
+use Rattle.decide_buffers.specs.Room.{Lent, modelRoom, boundsRoom, groupsRoom}
 use Rattle.decide.specs.declared.Answer.the-variants.{Yes, No}
 use Rattle.decide.specs.Decided.{unlessRefused, decideAnswer, answerFor, validityFor, OnYes, OnNo}
 

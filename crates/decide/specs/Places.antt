@@ -10,8 +10,8 @@ use Rattle.lines.specs.Limits.{maxLines}
 use Rattle.lines.specs.Line.{linesOf}
 use Rattle.lines.specs.Refusal.{placeOf, validityOf}
 use Rattle.lines.specs.Places.{Placed, placed-or, place-at, placed-list}
-use Rattle.answers.specs.Verdict.{verdictOf}
-use Rattle.buffers.specs.Room.{Lent, lengthsOf, mostPlace, roomsValidity, decideValidity, placed-rooms}
+use Rattle.theory_bounds.specs.Verdict.{verdictOf}
+use Rattle.decide_buffers.specs.Room.{Lent, lengthsOf, mostPlace, roomsValidity, decideValidity, placed-rooms}
 use Rattle.decide.specs.declared.Answer.{Answer}
 use Rattle.decide.specs.declared.Answer.the-variants.{Yes, No, Refused}
 use Rattle.decide.specs.Decided.{unlessRefused, decideAnswer, answerFor, Decided}

@@ -8,7 +8,6 @@ use native.Mathlib.Nat.{mul-le-mul-right}
 use native.Mathlib.Omega.{arith}
 use lib.IntN.{ℤ, pos, _+ℤ_}
 use lib.ListN.{length, take, drop}
-use lib.Seq.{drop-drop}
 use Rattle.integers.specs.Integer.{_⋖_, half}
 use Rattle.integers.specs.Laws.{never}
 use Rattle.integers.specs.Table.{allBelow}
@@ -21,28 +20,27 @@ use Rattle.lines.specs.Valid.{ListOk, valid-list}
 use Rattle.steps.specs.declared.Step.{Step}
 use Rattle.steps.specs.Point.{opposite}
 use Rattle.steps.specs.Step.{stepsOf}
-use Rattle.walks.specs.Distance.{Distance, none, some, _⊞_, halfD}
-use Rattle.walks.specs.Row.{best, some-is}
-use Rattle.walks.specs.Negative.{notBelow0, noNegative, is-below, no-negative-false}
-use Rattle.answers.specs.Verdict.{hasFalse, firstFalse, distances, halvesOk, consistentHalves, verdictOf, dueKind}
-use Rattle.answers.specs.Refuted.{Due, due-false, kind-negative, kind-halves}
-use Rattle.distances.specs.Table.{tableStart, storedTable}
-use Rattle.tables.specs.Table.{tableOf, ShortTable}
-use Rattle.outputs.specs.Agree.{Agree, ok-same, all-ok-same}
-use Rattle.outputs.specs.Bad.{firstBad, none-bad, first-bad}
-use Rattle.buffers.specs.Room.{refutationRoom}
-use Rattle.searching.specs.False.{false-none}
-use Rattle.answering.specs.Table.{agree, short-table}
-use Rattle.refutation.specs.Progress.{headSize}
-use Rattle.refuting.specs.Refutation.{ClosedReady, HalvesReady, RefutationWritten}
-use Rattle.packed_steps.specs.Steps.{StepsReady, maxSteps}
-use Rattle.packed_steps.specs.Scratch.{Scratch, scratch-trans, scratch-wider}
-use Rattle.packed_steps.specs.Layout.{rowAt, placesAt, engineEnd}
-use Rattle.packed_steps.specs.Laid.{LayReady, Laid}
-use Rattle.closed_refutation.specs.Passes.{SmallRow}
-use Rattle.closed_refutation.specs.AtOnce.{AtOnceReady, AtOnce}
-use Rattle.halves_refutation.specs.Halves.{HalvesAtOnce}
-use Rattle.table_by_elimination.specs.Found.{TableAsked, TableFound, laid-standing, standing-kept}
+use Rattle.theory_walks.specs.Distance.{Distance, none, some, _⊞_, halfD}
+use Rattle.theory_walks.specs.Row.{best, some-is}
+use Rattle.theory_walks.specs.Negative.{notBelow0, noNegative, is-below, no-negative-false}
+use Rattle.theory_bounds.specs.Verdict.{hasFalse, firstFalse, distances, halvesOk, consistentHalves, verdictOf, dueKind}
+use Rattle.theory_answers.specs.Refuted.{Due, due-false, kind-negative, kind-halves}
+use Rattle.decide_rows.specs.Table.{tableStart, storedTable}
+use Rattle.decide_stored_table.specs.Table.{tableOf, ShortTable}
+use Rattle.theory_bounds.specs.Agree.{Agree, ok-same, all-ok-same}
+use Rattle.integers.specs.Lowest.{firstFailing, none-fails, first-failing}
+use Rattle.decide_buffers.specs.Room.{refutationRoom}
+use Rattle.decide_false_line.specs.False.{false-none}
+use Rattle.decide_yes.specs.Table.{agree, short-table}
+use Rattle.check_refutation.specs.Progress.{headSize}
+use Rattle.decide_written_walks.specs.Refutation.{ClosedReady, HalvesReady, RefutationWritten}
+use Rattle.engine_packed_steps.specs.Steps.{maxSteps}
+use Rattle.engine_packed_steps.specs.Scratch.{Scratch, scratch-trans, scratch-wider}
+use Rattle.engine_packed_steps.specs.Layout.{rowAt, placesAt, engineEnd}
+use Rattle.engine_packed_steps.specs.Laid.{LayReady, Laid}
+use Rattle.engine_closed_walk.specs.AtOnce.{AtOnceReady, AtOnce}
+use Rattle.engine_halves_walks.specs.Halves.{HalvesAtOnce}
+use Rattle.engine_table.specs.Found.{TableAsked, TableFound, laid-standing, standing-kept}
 
 -- behind all that the engine works in
 abbrev pub usedRoom : ℕ → ℕ
@@ -265,20 +263,20 @@ module _ (n : ℕ) (L : List ℤ) (R : List ℕ) (w : List ℤ) (a : SearchReady
       unfolding consistentHalves
       consistent = all-ok-same n _ _ same
 
-      module _ (p : ℕ) (q : p ≡ firstBad m (tableOf m (tableIn n w₁))) where
+      module _ (p : ℕ) (q : p ≡ firstFailing m (halvesOk (tableOf m (tableIn n w₁)))) where
         -- two walks whose halves sum below 0
         module _ (l : p < m) where
           bad : consistentHalves n (linesOf L) ≡ false
           bad = go (consistentHalves n (linesOf L)) refl
             where
               go : (b : Bool) → consistentHalves n (linesOf L) ≡ b → b ≡ false
-              go true z = absurd (omega (arith, none-bad m (tableOf m (tableIn n w₁)) .1 (consistent ∙ z), q))
+              go true z = absurd (omega (arith, none-fails m (halvesOk (tableOf m (tableIn n w₁))) .1 (consistent ∙ z), q))
               go false z = refl
 
           low-halves : halvesOk (distances n (linesOf L)) p ≡ false
           low-halves =
-              let f = first-bad m (tableOf m (tableIn n w₁)) (consistent ∙ bad) in
-              subst (λ (x : ℕ). halvesOk (distances n (linesOf L)) x ≡ false) (sym q) (sym (ok-same n _ _ same _ (f .below)) ∙ f .bad)
+              let f = first-failing m (halvesOk (tableOf m (tableIn n w₁))) (consistent ∙ bad) in
+              subst (λ (x : ℕ). halvesOk (distances n (linesOf L)) x ≡ false) (sym q) (sym (ok-same n _ _ same _ (f .below)) ∙ f .fails)
 
           halves-ready : HalvesReady n L p R w₁
           halves-ready = go (best E m p (opposite p)) refl (best E m (opposite p) p) refl low-halves
@@ -330,7 +328,7 @@ module _ (n : ℕ) (L : List ℤ) (R : List ℕ) (w : List ℤ) (a : SearchReady
               where
                 go : (b : Bool) → consistentHalves n (linesOf L) ≡ b → b ≡ true
                 go true z = refl
-                go false z = absurd (omega (arith, first-bad m (tableOf m (tableIn n w₁)) (consistent ∙ z) .below, q))
+                go false z = absurd (omega (arith, first-failing m (halvesOk (tableOf m (tableIn n w₁))) (consistent ∙ z) .below, q))
 
 -- the part from the table's start to its end is the table
 pub part-is : (n : ℕ) (w : List ℤ) → take (tableStart (2 * n) + 2 * n * (2 * n) - tableStart (2 * n)) (drop (tableStart (2 * n)) w) ≡ tableIn n w

@@ -13,16 +13,16 @@ use Rattle.lines.specs.Fits.{numbers-fit}
 use Rattle.little_endian.specs.Writing.{int32Bytes, nat32Bytes, int64Bytes}
 use Rattle.steps.specs.declared.Step.{Step}
 use Rattle.steps.specs.Walk.{Names}
-use Rattle.walkback.specs.Makes.{number-below}
-use Rattle.model.specs.declared.ModelAnswer.the-variants as model
-use Rattle.model.specs.Model.{modelValidity, modelAnswer}
-use Rattle.model.specs.Laws.{valid-model, value-fits}
-use Rattle.model.specs.Meaning.{yes-exactly}
-use Rattle.refutation.specs.declared.RefutationAnswer.the-variants as refutation
-use Rattle.refutation.specs.Answer.{refutationAnswer}
-use Rattle.pieces.specs.Cut.{Words}
-use Rattle.soundness.specs.Refutes.{Refutes, kind-1, kind-2, kind-3}
-use Rattle.soundness.specs.Answered.{accepted-when}
+use Rattle.decide_walkback.specs.Makes.{number-below}
+use Rattle.check_model.specs.declared.ModelAnswer.the-variants as model
+use Rattle.check_model.specs.Model.{modelValidity, modelAnswer}
+use Rattle.check_model.specs.Laws.{valid-model, value-fits}
+use Rattle.check_model.specs.Meaning.{yes-exactly}
+use Rattle.check_refutation.specs.declared.RefutationAnswer.the-variants as refutation
+use Rattle.check_refutation.specs.Answer.{refutationAnswer}
+use Rattle.check_pieces.specs.Cut.{Words}
+use Rattle.check_soundness.specs.Refutes.{Refutes, kind-1, kind-2, kind-3}
+use Rattle.check_soundness.specs.Answered.{accepted-when}
 use Rattle.c_refutation_code.specs.Code.{refutationCode}
 use Rattle.c_checking.specs.Calls.{modelCode, checkModel, checkRefutation}
 use Rattle.c_checking.specs.Bytes.{refutation-in-bytes, model-in-bytes}

@@ -17,15 +17,15 @@ use Rattle.lines.specs.declared.Validity.the-variants.{Valid}
 use Rattle.lines.specs.declared.Validity.the-variants as validity
 use Rattle.lines.specs.Line.{linesOf}
 use Rattle.lines.specs.Refusal.{validityOf}
-use Rattle.refutation.specs.declared.RefutationAnswer.the-variants as refutation
-use Rattle.refutation.specs.Answer.{refutationAnswer}
-use Rattle.answers.specs.Semantics.{Written}
-use Rattle.answers.specs.Meaning.{computed-written}
-use Rattle.answers.specs.Decided.{lines-ok, due-accepted}
-use Rattle.answers.specs.Verdict.{verdictOf}
-use Rattle.answers.specs.Answers.{modelOf, boundsOf, groupsOf}
-use Rattle.answers.specs.Refuted.{Due}
-use Rattle.buffers.specs.Room.{Lent, modelRoom, boundsRoom, groupsRoom}
+use Rattle.check_refutation.specs.declared.RefutationAnswer.the-variants as refutation
+use Rattle.check_refutation.specs.Answer.{refutationAnswer}
+use Rattle.theory_answers.specs.Semantics.{Written}
+use Rattle.theory_answers.specs.Meaning.{computed-written}
+use Rattle.theory_answers.specs.Decided.{lines-ok, due-accepted}
+use Rattle.theory_bounds.specs.Verdict.{verdictOf}
+use Rattle.theory_bounds.specs.Answers.{modelOf, boundsOf, groupsOf}
+use Rattle.theory_answers.specs.Refuted.{Due}
+use Rattle.decide_buffers.specs.Room.{Lent, modelRoom, boundsRoom, groupsRoom}
 use Rattle.decide.specs.declared.Answer.{Answer}
 use Rattle.decide.specs.declared.Answer.the-variants.{Yes, No, Refused}
 use Rattle.decide.specs.Parts.{yes-verdict, no-verdict, modelIn, boundsIn, groupsIn, refutationIn, model-in, bounds-in, groups-in, refutation-in}

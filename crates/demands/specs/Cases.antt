@@ -15,24 +15,24 @@ use Rattle.steps.specs.Point.{opposite}
 use Rattle.steps.specs.Table.{entry, digit}
 use Rattle.steps.specs.Step.{stepOf, stepNumbered, stepsOf}
 use Rattle.steps.specs.Walk.{total, Names}
-use Rattle.refutation.specs.declared.RefutationAnswer.the-variants.{Yes as accepted-yes}
-use Rattle.refutation.specs.Progress.{headSize, countsOk, isFalseStep, headOn, joins, turns, along, advance, run, closes, accepted}
-use Rattle.refutation.specs.Answer.{verdict, refutationValidity, refutationAnswer}
-use Rattle.soundness.specs.Head.{kindOf, firstCount, stepsIn}
-use Rattle.soundness.specs.Answered.{accepted-when}
-use Rattle.walks.specs.Row.{relaxRow, startRow, rounds, rowAt, best}
-use Rattle.walks.specs.Negative.{noNegative}
-use Rattle.bounds.specs.Points.{assign}
-use Rattle.bounds.specs.Near.{above, atMost, near}
-use Rattle.bounds.specs.Tight.{halves, tight}
-use Rattle.bounds.specs.Extend.{limit, pick}
-use Rattle.bounds.specs.Model.{model}
-use Rattle.bounds.specs.Table.{tableModel}
-use Rattle.answers.specs.Semantics.{absentLeast, absentGreatest}
-use Rattle.answers.specs.Verdict.{hasFalse, firstFalse, consistentHalves, verdictOf, dueKind}
-use Rattle.answers.specs.Answers.{modelOf, boundsOf, groupsOf}
-use Rattle.answers.specs.Refuted.{Due}
-use Rattle.buffers.specs.Room.{Lent, modelRoom, boundsRoom, groupsRoom, refutationRoom, workRoom}
+use Rattle.check_refutation.specs.declared.RefutationAnswer.the-variants.{Yes as accepted-yes}
+use Rattle.check_refutation.specs.Progress.{headSize, countsOk, isFalseStep, headOn, joins, turns, along, advance, run, closes, accepted}
+use Rattle.check_refutation.specs.Answer.{verdict, refutationValidity, refutationAnswer}
+use Rattle.check_soundness.specs.Head.{kindOf, firstCount, stepsIn}
+use Rattle.check_soundness.specs.Answered.{accepted-when}
+use Rattle.theory_walks.specs.Row.{relaxRow, startRow, rounds, rowAt, best}
+use Rattle.theory_walks.specs.Negative.{noNegative}
+use Rattle.theory_bounds.specs.Points.{assign}
+use Rattle.theory_bounds.specs.Near.{above, atMost, near}
+use Rattle.theory_bounds.specs.Tight.{halves, tight}
+use Rattle.theory_bounds.specs.Extend.{limit, pick}
+use Rattle.theory_bounds.specs.Model.{model}
+use Rattle.theory_bounds.specs.Table.{tableModel}
+use Rattle.lines.specs.Limits.{absentLeast, absentGreatest}
+use Rattle.theory_bounds.specs.Verdict.{hasFalse, firstFalse, consistentHalves, verdictOf, dueKind}
+use Rattle.theory_bounds.specs.Answers.{modelOf, boundsOf, groupsOf}
+use Rattle.theory_answers.specs.Refuted.{Due}
+use Rattle.decide_buffers.specs.Room.{Lent, modelRoom, boundsRoom, groupsRoom, refutationRoom, workRoom}
 use Rattle.decide.specs.declared.Answer.the-variants.{Yes, No}
 use Rattle.decide.specs.Decided.{OnYes, OnNo}
 use Rattle.demands.specs.Calls.{Call, verdict-yes, verdict-no, on-yes as call-on-yes, on-no as call-on-no}

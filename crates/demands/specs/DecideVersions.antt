@@ -22,25 +22,25 @@ use Rattle.steps.specs.Point.{opposite}
 use Rattle.steps.specs.Table.{entry, digit}
 use Rattle.steps.specs.Step.{stepOf, stepNumbered, stepsOf}
 use Rattle.steps.specs.Walk.{Names}
-use Rattle.refutation.specs.declared.RefutationAnswer.the-variants as answer
-use Rattle.refutation.specs.Progress.{headSize, countsOk, headOn, wrongAfter, joins, turns, along, advance, run, closes, accepted, brokenAt}
-use Rattle.refutation.specs.Answer.{verdict, refutationValidity, refutationAnswer}
-use Rattle.soundness.specs.Head.{kindOf}
-use Rattle.soundness.specs.Refutes.{Refutes, kind-1, kind-2, kind-3}
-use Rattle.walks.specs.Row.{relaxRow, startRow, rounds, rowAt, best}
-use Rattle.walks.specs.Negative.{noNegative}
-use Rattle.bounds.specs.Points.{assign}
-use Rattle.bounds.specs.Near.{above, atMost, near}
-use Rattle.bounds.specs.Tight.{halves, tight}
-use Rattle.bounds.specs.Extend.{limit, pick}
-use Rattle.bounds.specs.Model.{model}
-use Rattle.bounds.specs.Table.{tableModel}
-use Rattle.answers.specs.Semantics.{absentLeast, absentGreatest}
-use Rattle.answers.specs.Verdict.{hasFalse, consistentHalves, verdictOf, dueKind}
-use Rattle.answers.specs.Answers.{modelOf, boundsOf, groupsOf}
-use Rattle.answers.specs.Refuted.{Due, due-refutation}
-use Rattle.answers.specs.Decided.{due-accepted}
-use Rattle.buffers.specs.Room.{Lent, lengthsOf, modelRoom, boundsRoom, groupsRoom, refutationRoom, workRoom, outputRooms, workRooms, firstShort, roomsValidity, decideValidity}
+use Rattle.check_refutation.specs.declared.RefutationAnswer.the-variants as answer
+use Rattle.check_refutation.specs.Progress.{headSize, countsOk, headOn, wrongAfter, joins, turns, along, advance, run, closes, accepted, brokenAt}
+use Rattle.check_refutation.specs.Answer.{verdict, refutationValidity, refutationAnswer}
+use Rattle.check_soundness.specs.Head.{kindOf}
+use Rattle.check_soundness.specs.Refutes.{Refutes, kind-1, kind-2, kind-3}
+use Rattle.theory_walks.specs.Row.{relaxRow, startRow, rounds, rowAt, best}
+use Rattle.theory_walks.specs.Negative.{noNegative}
+use Rattle.theory_bounds.specs.Points.{assign}
+use Rattle.theory_bounds.specs.Near.{above, atMost, near}
+use Rattle.theory_bounds.specs.Tight.{halves, tight}
+use Rattle.theory_bounds.specs.Extend.{limit, pick}
+use Rattle.theory_bounds.specs.Model.{model}
+use Rattle.theory_bounds.specs.Table.{tableModel}
+use Rattle.lines.specs.Limits.{absentLeast, absentGreatest}
+use Rattle.theory_bounds.specs.Verdict.{hasFalse, consistentHalves, verdictOf, dueKind}
+use Rattle.theory_bounds.specs.Answers.{modelOf, boundsOf, groupsOf}
+use Rattle.theory_answers.specs.Refuted.{Due, due-refutation}
+use Rattle.theory_answers.specs.Decided.{due-accepted}
+use Rattle.decide_buffers.specs.Room.{Lent, lengthsOf, modelRoom, boundsRoom, groupsRoom, refutationRoom, workRoom, outputRooms, workRooms, firstShort, roomsValidity, decideValidity}
 use Rattle.decide.specs.declared.Answer.{Answer}
 use Rattle.decide.specs.declared.Answer.the-variants.{Yes, No, Refused}
 use Rattle.decide.specs.Parts.{no-verdict, refutationIn, refutation-in}

@@ -1,7 +1,7 @@
 -- What was demanded, in the words of docs/SPECIFICATION.md, each statement proved by citing the rest: of deciding, of the answers and of the checkers.
 --
--- A reader has to believe the meaning of the words (`Solves`, `Written` in answers/specs/Semantics.antt, `Refutes` and `BreaksAt` in soundness/specs),
--- the table of refusals (`refusalTable` in Refusals.antt, with `lentRooms` in buffers/specs/Room.antt) and what a call is (`Call` in Calls.antt), and
+-- A reader has to believe the meaning of the words (`Solves`, `Written` in theory_answers/specs/Semantics.antt, `Refutes` and `BreaksAt` in check_soundness/specs),
+-- the table of refusals (`refusalTable` in Refusals.antt, with `lentRooms` in decide_buffers/specs/Room.antt) and what a call is (`Call` in Calls.antt), and
 -- nothing of how the answers are computed.
 --
 -- The promises of the code are equations, for every input: `decide` promises `Decided` (decide/specs/Decided.antt), `check_model` answers
@@ -30,31 +30,32 @@ use mir.Val.{SFits}
 use Rattle.lines.specs.Fits.{numbers-fit}
 use Rattle.little_endian.specs.Writing.{bytesOf, int32Bytes, nat32Bytes, int64Bytes}
 use Rattle.little_endian.specs.Back.{int32s-back, int32Bytes-small, nat32Bytes-small, int64Bytes-small}
-use Rattle.model.specs.declared.ModelAnswer.the-variants as model
-use Rattle.model.specs.Model.{modelAnswer}
-use Rattle.model.specs.Meaning.{FirstFails, yes-exactly, no-exactly}
-use Rattle.refutation.specs.declared.RefutationAnswer.the-variants.{Yes, No}
-use Rattle.refutation.specs.Progress.{start}
-use Rattle.refutation.specs.Answer.{refutationAnswer}
-use Rattle.pieces.specs.Taken.{takeAll, endAnswer}
-use Rattle.pieces.specs.Cut.{Words, takePieces, joined, resumed, in-pieces}
-use Rattle.soundness.specs.Head.{kindOf, stepsIn}
-use Rattle.soundness.specs.Refutes.{Refutes}
-use Rattle.soundness.specs.Answered.{accepted-when, answers-longer, answers-no-solvable}
-use Rattle.answers.specs.Semantics.{Agrees, IsModel, NoLeast, NoGreatest, absentLeast, absentGreatest, Written}
-use Rattle.soundness.specs.BreaksAt.{BreaksAt}
-use Rattle.soundness.specs.Breaks.{breaks-once, breaks-unless-refutes, no-exactly-where}
-use Rattle.answers.specs.Verdict.{verdictOf, dueKind}
-use Rattle.answers.specs.Answers.{modelOf, boundsOf, groupsOf}
-use Rattle.answers.specs.Small.{AllAbove, model-small}
-use Rattle.answers.specs.Refuted.{Due, due-refutation}
-use Rattle.answers.specs.Meaning.{computed-written, no-tie}
-use Rattle.answers.specs.Decided.{DueKind, LowestFalseLine, names-the-lowest, lines-ok, yes-solvable, no-unsolvable, solvable-yes, unsolvable-no, due-accepted, accepted-no, kind-due}
-use Rattle.answers.specs.Unique.{written-model, written-bounds, written-groups}
-use Rattle.answers.specs.Absent.{least-absent, greatest-absent}
-use Rattle.answers.specs.Longer.{no-stays, yes-before, least-stays-or-rises, greatest-stays-or-falls, groups-kept, model-kept, solves-both, longer-entails}
-use Rattle.answers.specs.Same.{same-verdict, same-written}
-use Rattle.buffers.specs.Room.{Lent, modelRoom, boundsRoom, groupsRoom}
+use Rattle.check_model.specs.declared.ModelAnswer.the-variants as model
+use Rattle.check_model.specs.Model.{modelAnswer}
+use Rattle.check_model.specs.Meaning.{FirstFails, yes-exactly, no-exactly}
+use Rattle.check_refutation.specs.declared.RefutationAnswer.the-variants.{Yes, No}
+use Rattle.check_refutation.specs.Progress.{start}
+use Rattle.check_refutation.specs.Answer.{refutationAnswer}
+use Rattle.check_pieces.specs.Taken.{takeAll, endAnswer}
+use Rattle.check_pieces.specs.Cut.{Words, takePieces, joined, resumed, in-pieces}
+use Rattle.check_soundness.specs.Head.{kindOf, stepsIn}
+use Rattle.check_soundness.specs.Refutes.{Refutes}
+use Rattle.check_soundness.specs.Answered.{accepted-when, answers-longer, answers-no-solvable}
+use Rattle.theory_answers.specs.Semantics.{Agrees, IsModel, NoLeast, NoGreatest, Written}
+use Rattle.lines.specs.Limits.{absentLeast, absentGreatest}
+use Rattle.check_soundness.specs.BreaksAt.{BreaksAt}
+use Rattle.check_soundness.specs.Breaks.{breaks-once, breaks-unless-refutes, no-exactly-where}
+use Rattle.theory_bounds.specs.Verdict.{verdictOf, dueKind}
+use Rattle.theory_bounds.specs.Answers.{modelOf, boundsOf, groupsOf}
+use Rattle.theory_answers.specs.Small.{AllAbove, model-small}
+use Rattle.theory_answers.specs.Refuted.{Due, due-refutation}
+use Rattle.theory_answers.specs.Meaning.{computed-written, no-tie}
+use Rattle.theory_answers.specs.Decided.{DueKind, LowestFalseLine, names-the-lowest, lines-ok, yes-solvable, no-unsolvable, solvable-yes, unsolvable-no, due-accepted, accepted-no, kind-due}
+use Rattle.theory_answers.specs.Unique.{written-model, written-bounds, written-groups}
+use Rattle.theory_answers.specs.Absent.{least-absent, greatest-absent}
+use Rattle.theory_answers.specs.Longer.{no-stays, yes-before, least-stays-or-rises, greatest-stays-or-falls, groups-kept, model-kept, solves-both, longer-entails}
+use Rattle.theory_answers.specs.Same.{same-verdict, same-written}
+use Rattle.decide_buffers.specs.Room.{Lent, modelRoom, boundsRoom, groupsRoom}
 use Rattle.decide.specs.declared.Answer.{Answer}
 use Rattle.decide.specs.declared.Answer.the-variants as decide
 use Rattle.decide.specs.Decided.{cleared, answerFor, Decided, DecideOk}
@@ -65,16 +66,16 @@ use Rattle.demands.specs.Shown.{model-accepted}
 use Rattle.demands.specs.Calls.{Call, call-valid, call-yes, call-no, verdict-yes, verdict-no, on-yes, on-no, call-written, call-work, beyond-model, beyond-bounds, beyond-groups, Returned, returned-call, returned-unchanged, call-due, call-accepted}
 use Rattle.demands.specs.Refusals.{Asked, deciding, checking-model, listTable, refusalTable, NoneApplies, FirstApplies, IsRefused, returned}
 use Rattle.demands.specs.Refused.{table-refuses, table-valid, table-passes, list-valid, code-refused}
-use Rattle.list_file.specs.declared.Listed.{Listed}
-use Rattle.list_file.specs.declared.ReadAnswer.{ReadAnswer}
-use Rattle.list_file.specs.declared.ReadAnswer.the-variants.{Read}
-use Rattle.list_file.specs.declared.WriteAnswer.{WriteAnswer}
-use Rattle.list_file.specs.declared.WriteAnswer.the-variants as write
-use Rattle.list_file.specs.File.{fileOf, fileList, lineRecords, lineBody}
-use Rattle.list_file.specs.Read.{readAnswer, ReadDone}
-use Rattle.list_file.specs.Write.{WriteDone}
-use Rattle.list_file.specs.Bytes.{file-bytes}
-use Rattle.list_file.specs.Back.{OneFile, read-written, list-in-file, written-read, one-file, one-list}
+use Rattle.file_list.specs.declared.Listed.{Listed}
+use Rattle.file_list.specs.declared.ReadAnswer.{ReadAnswer}
+use Rattle.file_list.specs.declared.ReadAnswer.the-variants.{Read}
+use Rattle.file_list.specs.declared.WriteAnswer.{WriteAnswer}
+use Rattle.file_list.specs.declared.WriteAnswer.the-variants as write
+use Rattle.file_list.specs.File.{fileOf, fileList, lineRecords, lineBody}
+use Rattle.file_list.specs.Read.{readAnswer, ReadDone}
+use Rattle.file_list.specs.Write.{WriteDone}
+use Rattle.file_list.specs.Bytes.{file-bytes}
+use Rattle.file_list.specs.Back.{OneFile, read-written, list-in-file, written-read, one-file, one-list}
 use Rattle.c_codes.specs.Codes.{refusalUnit, refusalCode, noCode}
 use Rattle.c_codes.specs.ListBytes.{numberBytes, bytesValidity}
 use Rattle.c_refutation_code.specs.Code.{refutationCode}
@@ -89,7 +90,7 @@ use Rattle.c_deciding.specs.Laws.{decision-below, decisions-apart}
 use Rattle.c_files.specs.Files.{ReadReturns, WriteReturns, returned-read-back, returned-written-again}
 use Rattle.demands.specs.Accepted.{accepted-words, accepted-refutation, accepted-model}
 use Rattle.demands.specs.Pieces.{each-checked}
-use Rattle.list_file.specs.Calls.{write-then-read, read-then-write}
+use Rattle.file_list.specs.Calls.{write-then-read, read-then-write}
 use Rattle.c_files.specs.declared.FileRead.{FileRead}
 use Rattle.c_files.specs.declared.FileWritten.{FileWritten}
 use Rattle.file_report.specs.Report.{Reported}

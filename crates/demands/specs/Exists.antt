@@ -8,8 +8,8 @@ use Rattle.integers.specs.Laws.{never}
 use Rattle.lines.specs.declared.Refusal.{Refusal}
 use Rattle.lines.specs.declared.Validity.{Validity}
 use Rattle.lines.specs.Line.{linesOf}
-use Rattle.answers.specs.Verdict.{verdictOf}
-use Rattle.buffers.specs.Room.{Lent}
+use Rattle.theory_bounds.specs.Verdict.{verdictOf}
+use Rattle.decide_buffers.specs.Room.{Lent}
 use Rattle.decide.specs.declared.Answer.the-variants.{Yes, No, Refused}
 use Rattle.decide.specs.Decided.{unlessRefused, decideAnswer, DecideOk, ok-decide}
 use Rattle.demands.specs.Calls.{Call}

@@ -14,10 +14,10 @@ use Rattle.lines.specs.declared.Validity.the-variants.{Valid, Refused}
 use Rattle.lines.specs.Limits.{lineSize, maxVariables, maxRefutation}
 use Rattle.lines.specs.Refusal.{_orElse_, refuseIf, validityOf}
 use Rattle.little_endian.specs.Bytes.{AreBytes, le32, int32, firstOf, int32s, nat32s, length-firstOf, next}
-use Rattle.refutation.specs.declared.RefutationAnswer.{RefutationAnswer}
-use Rattle.refutation.specs.Progress.{start, run}
-use Rattle.refutation.specs.Answer.{unlessRefused, verdict, refutationValidity, refutationAnswer}
-use Rattle.pieces.specs.Cut.{Words, words-snoc}
+use Rattle.check_refutation.specs.declared.RefutationAnswer.{RefutationAnswer}
+use Rattle.check_refutation.specs.Progress.{start, run}
+use Rattle.check_refutation.specs.Answer.{unlessRefused, verdict, refutationValidity, refutationAnswer}
+use Rattle.check_pieces.specs.Cut.{Words, words-snoc}
 use Rattle.c_codes.specs.ListBytes.{numberBytes, bytesValidity, bytes-as-numbers}
 use Rattle.c_refutation_code.specs.Code.{refutationCode}
 use Rattle.c_checking.specs.Calls.{refutationOfNumbers, refutationOfBytes, checkRefutation}

@@ -1,6 +1,6 @@
 -- The specification's table of refusals: when each applies, in the order in which they go, and what it is to be the first that applies.
 -- The number and the place of each are `numberOf` and `placeOf` (lines/specs/Refusal.antt); the rooms of the lent buffers, with their refusals 7 and 8 in
--- their order, are `lentRooms` (buffers/specs/Room.antt).
+-- their order, are `lentRooms` (decide_buffers/specs/Room.antt).
 use mathlib.Core.Path.{_≡_}
 use mathlib.Core.Logic.{_⊎_}
 use mathlib.Core.List.{List, [], _∷_, _++_}
@@ -14,11 +14,11 @@ use Rattle.lines.specs.declared.Refusal.the-variants.{TooManyVariables, BrokenL
 use Rattle.lines.specs.Limits.{lineSize, maxVariables, maxLines, maxConstant, maxValue, maxRefutation}
 use Rattle.lines.specs.Line.{number, lineAt, lineCount}
 use Rattle.little_endian.specs.Bytes.{int32s, int64s}
-use Rattle.buffers.specs.Room.{Lent, Lengths, lengthsOf, Room, lentRooms}
-use Rattle.model.specs.declared.ModelAnswer.the-variants as model
-use Rattle.model.specs.Model.{modelAnswer}
-use Rattle.refutation.specs.declared.RefutationAnswer.the-variants as refutation
-use Rattle.refutation.specs.Answer.{refutationAnswer}
+use Rattle.decide_buffers.specs.Room.{Lent, Lengths, lengthsOf, Room, lentRooms}
+use Rattle.check_model.specs.declared.ModelAnswer.the-variants as model
+use Rattle.check_model.specs.Model.{modelAnswer}
+use Rattle.check_refutation.specs.declared.RefutationAnswer.the-variants as refutation
+use Rattle.check_refutation.specs.Answer.{refutationAnswer}
 use Rattle.decide.specs.declared.Answer.the-variants as decide
 use Rattle.decide.specs.Decided.{answerFor}
 use Rattle.c_codes.specs.ListBytes.{numberBytes}

@@ -25,21 +25,21 @@ use Rattle.lines.specs.Limits.{lineSize, maxVariables, maxLines, maxConstant, m
 use Rattle.lines.specs.Line.{number, lineAt, lineCount, linesOf}
 use Rattle.lines.specs.Refusal.{placeOf, _orElse_, refuseIf, coefficientsOk, variableOk, variablesOk, constantOk, Rule, lineRules, firstBroken, lineValidity, linesValidity, validityOf}
 use Rattle.lines.specs.Laws.{validity-from, validity-past}
-use Rattle.buffers.specs.Room.{Lent, Lengths, lengthsOf, Room, lentRooms, firstShort, roomsValidity, decideValidity}
-use Rattle.answers.specs.Verdict.{verdictOf}
+use Rattle.decide_buffers.specs.Room.{Lent, Lengths, lengthsOf, Room, lentRooms, firstShort, roomsValidity, decideValidity}
+use Rattle.theory_bounds.specs.Verdict.{verdictOf}
 use Rattle.little_endian.specs.Bytes.{le32, int32, int64, int32s, nat32s, int64s, length-firstOf}
-use Rattle.model.specs.declared.ModelAnswer.{ModelAnswer}
-use Rattle.model.specs.declared.ModelAnswer.the-variants as model
-use Rattle.model.specs.Model as model-check
-use Rattle.model.specs.Model.{valuesValidity, modelValidity}
-use Rattle.model.specs.Laws.{values-from, values-past}
-use Rattle.model.specs.Meaning.{refused-exactly}
-use Rattle.model.specs.Places as model-places
-use Rattle.refutation.specs.declared.RefutationAnswer.{RefutationAnswer}
-use Rattle.refutation.specs.declared.RefutationAnswer.the-variants as refutation
-use Rattle.refutation.specs.Progress.{start, run, accepted, brokenAt}
-use Rattle.refutation.specs.Answer.{unlessRefused, refutationValidity, verdict, refutationAnswer}
-use Rattle.refutation.specs.Places as refutation-places
+use Rattle.check_model.specs.declared.ModelAnswer.{ModelAnswer}
+use Rattle.check_model.specs.declared.ModelAnswer.the-variants as model
+use Rattle.check_model.specs.Model as model-check
+use Rattle.check_model.specs.Model.{valuesValidity, modelValidity}
+use Rattle.check_model.specs.Laws.{values-from, values-past}
+use Rattle.check_model.specs.Meaning.{refused-exactly}
+use Rattle.check_model.specs.Places as model-places
+use Rattle.check_refutation.specs.declared.RefutationAnswer.{RefutationAnswer}
+use Rattle.check_refutation.specs.declared.RefutationAnswer.the-variants as refutation
+use Rattle.check_refutation.specs.Progress.{start, run, accepted, brokenAt}
+use Rattle.check_refutation.specs.Answer.{unlessRefused, refutationValidity, verdict, refutationAnswer}
+use Rattle.check_refutation.specs.Places as refutation-places
 use Rattle.decide.specs.declared.Answer.the-variants as decide
 use Rattle.decide.specs.Decided as decision
 use Rattle.decide.specs.Decided.{decideAnswer, answerFor, validityFor}

@@ -12,12 +12,12 @@ use Rattle.lines.specs.Limits.{maxConstant, maxValue}
 use Rattle.lines.specs.Line.{linesOf, assignmentOf}
 use Rattle.lines.specs.Refusal.{validityOf}
 use Rattle.lines.specs.Valid.{valid-list}
-use Rattle.model.specs.declared.ModelAnswer.the-variants.{Yes}
-use Rattle.model.specs.Model.{valuesValidity, modelValidity, modelAnswer}
-use Rattle.model.specs.Meaning.{yes-exactly}
-use Rattle.answers.specs.Semantics.{Written}
-use Rattle.answers.specs.Small.{all-above, model-small}
-use Rattle.answers.specs.Decided.{lines-ok}
+use Rattle.check_model.specs.declared.ModelAnswer.the-variants.{Yes}
+use Rattle.check_model.specs.Model.{valuesValidity, modelValidity, modelAnswer}
+use Rattle.check_model.specs.Meaning.{yes-exactly}
+use Rattle.theory_answers.specs.Semantics.{Written}
+use Rattle.theory_answers.specs.Small.{all-above, model-small}
+use Rattle.theory_answers.specs.Decided.{lines-ok}
 
 values-valid : (j : ℕ) (m : List ℤ) → ((k : ℕ) → k < length m → natAbs (getD m k (pos 0)) ≤ maxValue) → valuesValidity j m ≡ Valid
 unfolding valuesValidity

@@ -14,16 +14,16 @@ use Rattle.lines.specs.declared.Validity.the-variants.{Valid}
 use Rattle.lines.specs.Limits.{maxRefutation}
 use Rattle.lines.specs.Line.{lineAt, leftSide, isFalse}
 use Rattle.lines.specs.Refusal.{coefficientsOk, variableOk, variablesOk, constantOk, linesValidity, validityOf}
-use Rattle.model.specs.declared.ModelAnswer.{ModelAnswer}
-use Rattle.model.specs.declared.ModelAnswer.the-variants as model
-use Rattle.model.specs.Model as model-check
-use Rattle.model.specs.Model.{valuesValidity, modelValidity, firstFailing, modelAnswer}
-use Rattle.refutation.specs.declared.RefutationAnswer.{RefutationAnswer}
-use Rattle.refutation.specs.declared.RefutationAnswer.the-variants.{Yes, No, Refused}
-use Rattle.refutation.specs.Progress.{headSize, countsOk, isFalseStep, headOn, advance, run, closes, accepted, brokenAt}
-use Rattle.refutation.specs.Answer.{unlessRefused, verdict, refutationValidity, refutationAnswer}
-use Rattle.soundness.specs.Breaks.{breaks-once, no-exactly-where}
-use Rattle.soundness.specs.BreaksAt.{lastIndex, BreaksAt}
+use Rattle.check_model.specs.declared.ModelAnswer.{ModelAnswer}
+use Rattle.check_model.specs.declared.ModelAnswer.the-variants as model
+use Rattle.check_model.specs.Model as model-check
+use Rattle.check_model.specs.Model.{valuesValidity, modelValidity, firstFailing, modelAnswer}
+use Rattle.check_refutation.specs.declared.RefutationAnswer.{RefutationAnswer}
+use Rattle.check_refutation.specs.declared.RefutationAnswer.the-variants.{Yes, No, Refused}
+use Rattle.check_refutation.specs.Progress.{headSize, countsOk, isFalseStep, headOn, advance, run, closes, accepted, brokenAt}
+use Rattle.check_refutation.specs.Answer.{unlessRefused, verdict, refutationValidity, refutationAnswer}
+use Rattle.check_soundness.specs.Breaks.{breaks-once, no-exactly-where}
+use Rattle.check_soundness.specs.BreaksAt.{lastIndex, BreaksAt}
 
 -- ---- the refutation checker's promise, of any version of it
 abbrev KeepsRefutation : (ℕ → List ℤ → List ℕ → RefutationAnswer) → Type 0

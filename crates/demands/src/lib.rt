@@ -2,13 +2,13 @@
 // buffer as it was.
 use c_checking::utvpi_check_model;
 use c_checking::utvpi_check_refutation;
-use model::ModelAnswer;
-use model::check_model;
-use refutation::RefutationAnswer;
-use refutation::check_refutation;
+use check_model::ModelAnswer;
+use check_model::check_model;
+use check_refutation::RefutationAnswer;
+use check_refutation::check_refutation;
 ghost use mathlib.Core.Path.{_≡_};
-ghost use Rattle.model.specs.Model.{modelAnswer};
-ghost use Rattle.refutation.specs.Answer.{refutationAnswer};
+ghost use Rattle.check_model.specs.Model.{modelAnswer};
+ghost use Rattle.check_refutation.specs.Answer.{refutationAnswer};
 ghost use Rattle.c_checking.specs.Calls.{checkModel, checkRefutation};
 
 pub fn model_check_only_reads(n: usize, list: &mut [i32], model: &mut [i64]) -> ModelAnswer

@@ -8,9 +8,9 @@ use lib.IntN.{ℤ}
 use lib.ListN.{length, take}
 use lib.Seq.{take-take}
 use Rattle.lines.specs.Limits.{lineSize}
-use Rattle.records.specs.Table.{recordPlace}
-use Rattle.list_file.specs.Back.{is-read}
-use Rattle.list_file.specs.Front.{same-read, same-list}
+use Rattle.file_records.specs.Table.{recordPlace}
+use Rattle.file_list.specs.Back.{is-read}
+use Rattle.file_list.specs.Front.{same-read, same-list}
 use Rattle.file_report.specs.Report.{mostVariables, mostLines, Decided, Reported, refused, decided}
 
 -- the bytes of the most lines and of one line more: then the first refusal, or the end and a byte after it, has been seen

@@ -2,7 +2,7 @@
 use mathlib.Core.Path.{_≡_, sym, ap, ap₂, subst, _∙_}
 use mathlib.Core.Bool.{Bool, true, false, cond}
 use mathlib.Core.List.{List, _++_}
-use Prim.Native.Nat.{ℕ, _+_, _*_, _-_, _≤_}
+use Prim.Native.Nat.{ℕ, _+_, _*_, _≤_}
 use native.Mathlib.Omega.{arith}
 use lib.IntN.{ℤ}
 use lib.ListN.{length, take, drop, length-append}
@@ -14,27 +14,27 @@ use Rattle.lines.specs.declared.Validity.the-variants as validity
 use Rattle.lines.specs.Limits.{lineSize}
 use Rattle.lines.specs.Line.{linesOf}
 use Rattle.lines.specs.Refusal.{validityOf}
-use Rattle.refutation.specs.Progress.{headSize}
-use Rattle.soundness.specs.Head.{stepsIn}
-use Rattle.answers.specs.Verdict.{verdictOf}
-use Rattle.answers.specs.Answers.{modelOf, boundsOf, groupsOf}
-use Rattle.buffers.specs.Room.{Lent, lengthsOf, modelRoom, boundsRoom, groupsRoom, refutationRoom, lentRooms, HaveRoom}
+use Rattle.check_refutation.specs.Progress.{headSize}
+use Rattle.check_soundness.specs.Head.{stepsIn}
+use Rattle.theory_bounds.specs.Verdict.{verdictOf}
+use Rattle.theory_bounds.specs.Answers.{modelOf, boundsOf, groupsOf}
+use Rattle.decide_buffers.specs.Room.{Lent, lengthsOf, modelRoom, boundsRoom, groupsRoom, refutationRoom, lentRooms, HaveRoom}
 use Rattle.decide.specs.declared.Answer.{Answer}
 use Rattle.decide.specs.declared.Answer.the-variants as answer
 use Rattle.decide.specs.Decided.{unlessRefused, decideAnswer, answerFor, OnYes, OnNo, validityFor, ok-decide}
 use Rattle.decide.specs.Decided as decide
 use Rattle.decide.specs.Parts.{stated, yes-verdict, no-verdict, stated-length, model-in, bounds-in, groups-in, refutation-in}
-use Rattle.records.specs.declared.FileRefusal.{FileRefusal}
-use Rattle.records.specs.Refusal.{fileNumber, filePlace}
-use Rattle.list_file.specs.declared.Listed.{Listed}
-use Rattle.list_file.specs.declared.ReadAnswer.{ReadAnswer}
-use Rattle.list_file.specs.declared.ReadAnswer.the-variants.{Read, Refused}
-use Rattle.list_file.specs.File.{fileList}
-use Rattle.list_file.specs.Read.{readAnswer, Leaves, ReadDone}
-use Rattle.list_file.specs.Layout.{length-fileList}
-use Rattle.list_file.specs.Back.{IsRead, is-read}
-use Rattle.report.specs.Text.{yesText, noText, refusedText}
-use Rattle.report.specs.Put.{Wrote}
+use Rattle.file_records.specs.declared.FileRefusal.{FileRefusal}
+use Rattle.file_records.specs.Refusal.{fileNumber, filePlace}
+use Rattle.file_list.specs.declared.Listed.{Listed}
+use Rattle.file_list.specs.declared.ReadAnswer.{ReadAnswer}
+use Rattle.file_list.specs.declared.ReadAnswer.the-variants.{Read, Refused}
+use Rattle.file_list.specs.File.{fileList}
+use Rattle.file_list.specs.Read.{readAnswer, Leaves, ReadDone}
+use Rattle.file_list.specs.Layout.{length-fileList}
+use Rattle.file_list.specs.Back.{IsRead, is-read}
+use Rattle.file_text.specs.Text.{yesText, noText, refusedText}
+use Rattle.file_text.specs.Put.{Wrote}
 use Rattle.file_report.specs.Report.{mostVariables, mostLines, Behind, Decided, yes, no, Reported, refused, decided}
 use Rattle.file_report.specs.Ready.{textSize, RefutationReady, ListReady}
 

@@ -6,9 +6,9 @@ use lib.IntN.{ℤ}
 use lib.ListN.{length}
 use Rattle.lines.specs.declared.Validity.the-variants.{Valid}
 use Rattle.lines.specs.Refusal.{validityOf}
-use Rattle.refutation.specs.Progress.{headSize}
-use Rattle.soundness.specs.Head.{stepsIn}
-use Rattle.buffers.specs.Room.{refutationRoom}
+use Rattle.check_refutation.specs.Progress.{headSize}
+use Rattle.check_soundness.specs.Head.{stepsIn}
+use Rattle.decide_buffers.specs.Room.{refutationRoom}
 use Rattle.file_report.specs.Report.{mostVariables}
 
 -- the room for text that the program has

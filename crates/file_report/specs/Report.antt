@@ -7,16 +7,16 @@ use lib.ListN.{drop}
 use Rattle.io.specs.Counts.{Counts}
 use Rattle.lines.specs.Limits.{lineSize}
 use Rattle.lines.specs.Line.{linesOf}
-use Rattle.answers.specs.Verdict.{verdictOf}
-use Rattle.answers.specs.Answers.{modelOf, boundsOf, groupsOf}
-use Rattle.answers.specs.Refuted.{Due}
-use Rattle.records.specs.declared.FileRefusal.{FileRefusal}
-use Rattle.records.specs.Refusal.{fileNumber, filePlace}
-use Rattle.list_file.specs.declared.Listed.{Listed}
-use Rattle.list_file.specs.declared.ReadAnswer.the-variants.{Read, Refused}
-use Rattle.list_file.specs.File.{fileList}
-use Rattle.list_file.specs.Read.{readAnswer}
-use Rattle.report.specs.Text.{yesText, noText, refusedText}
+use Rattle.theory_bounds.specs.Verdict.{verdictOf}
+use Rattle.theory_bounds.specs.Answers.{modelOf, boundsOf, groupsOf}
+use Rattle.theory_answers.specs.Refuted.{Due}
+use Rattle.file_records.specs.declared.FileRefusal.{FileRefusal}
+use Rattle.file_records.specs.Refusal.{fileNumber, filePlace}
+use Rattle.file_list.specs.declared.Listed.{Listed}
+use Rattle.file_list.specs.declared.ReadAnswer.the-variants.{Read, Refused}
+use Rattle.file_list.specs.File.{fileList}
+use Rattle.file_list.specs.Read.{readAnswer}
+use Rattle.file_text.specs.Text.{yesText, noText, refusedText}
 
 -- the program's own limits
 abbrev pub mostVariables : ℕ

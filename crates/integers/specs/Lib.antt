@@ -5,3 +5,4 @@ pub mod Products
 pub mod Bits
 pub mod Table
 pub mod Sequence
+pub mod Lowest

@@ -14,7 +14,7 @@ use mir.Val.{SFits, hbits}
 use mir.Facts.{toZ-ofZ}
 use native.Mathlib.Omega.{arith}
 use lib.Dec.{T, ltb, leb→le, le→leb, ltb→lt, lt→ltb, nltb→le}
-use lib.IntN.{ℤ, pos, negsuc, negℤ, subℕ, _+ℤ_, _-ℤ_, _*ℤ_, natAbs, sucℤ, predℤ, *ℤ-comm, +ℤ-one, -ℤ-one, negℤ-negℤ}
+use lib.IntN.{ℤ, pos, negsuc, negℤ, subℕ, _+ℤ_, _*ℤ_, natAbs, sucℤ, predℤ, *ℤ-comm, +ℤ-one, -ℤ-one, negℤ-negℤ}
 use lib.Signed.{_≤ℤ_, _<ℤ_, leZ, ltZ, ltZ-no, shrZ, mag}
 use Rattle.integers.specs.Integer.{_⩽_, half, minZ, maxZ}
 
@@ -97,14 +97,6 @@ pub neg-part-neg : (a : ℤ) → negPart (negℤ a) ≡ posPart a
 neg-part-neg (pos zero) = refl
 neg-part-neg (pos (suc n)) = refl
 neg-part-neg (negsuc n) = refl
-
-pub difference-parts : (a b : ℤ) → posPart (a -ℤ b) + (negPart a + posPart b) ≡ negPart (a -ℤ b) + (posPart a + negPart b)
-difference-parts a b = omega (arith, sum-parts a (negℤ b), pos-part-neg b, neg-part-neg b)
-
--- only one part is not zero
-pub one-sided : (a : ℤ) → min (posPart a) (negPart a) ≡ 0
-one-sided (pos n) = omega arith
-one-sided (negsuc n) = omega arith
 
 pub half-shr : (z : ℤ) → half z ≡ shrZ z 2
 half-shr (pos n) = refl
@@ -385,9 +377,6 @@ given a f = f a
 
 pub given₂ : {A B C : Type 0} → A → B → (A → B → C) → C
 given₂ a b f = f a b
-
-pub given₃ : {A B C D : Type 0} → A → B → C → (A → B → C → D) → D
-given₃ a b c f = f a b c
 
 pub ≤ℤ-trans : {a b c : ℤ} → a ⩽ b → b ⩽ c → a ⩽ c
 ≤ℤ-trans {a} {b} {c} h k = omega zs

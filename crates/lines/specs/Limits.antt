@@ -1,5 +1,6 @@
 -- The specification's limits, each in this one place; src/limits.rt has the same for the code.
-use Prim.Native.Nat.{ℕ}
+use Prim.Native.Nat.{ℕ, _-_, _^_}
+use lib.IntN.{ℤ, pos, negsuc}
 
 -- how many numbers a line has: `lineNumbers` gives them
 abbrev pub lineSize : ℕ
@@ -24,3 +25,10 @@ maxValue = 1_000_000_000_000
 -- the most numbers of a proposed refutation
 abbrev pub maxRefutation : ℕ
 maxRefutation = 65_536
+
+-- the numbers that stand for an absent bound: the lowest 64-bit number for a least value, the highest for a greatest one
+abbrev pub absentLeast : ℤ
+absentLeast = negsuc (2 ^ 63 - 1)
+
+abbrev pub absentGreatest : ℤ
+absentGreatest = pos (2 ^ 63 - 1)

@@ -8,7 +8,7 @@ use borrow.Author.Tests.{leb-false}
 use lib.Dec.{T}
 use lib.IntN.{ℤ, pos, negsuc, natAbs, _-ℤ_}
 use lib.ListN.{length, set, take, drop}
-use lib.Seq.{sets, length-sets, sets-eq}
+use lib.Seq.{sets, sets-eq}
 use lib.Signed.{leZ, nonNeg}
 use mir.Syntax.{w32, w64}
 use mir.Val.{Fits, SFits, ofZ}
@@ -53,10 +53,6 @@ module _ {A : Type 0} where
   -- l with vs from place i on, one stored after the other
   unfoldable pub put : List A → ℕ → List A → List A
   put l i vs = sets l i vs
-
-  pub length-put : (l : List A) (i : ℕ) (vs : List A) → length (put l i vs) ≡ length l
-  unfolding put
-  length-put l i vs = length-sets l i vs
 
   -- where there is room: what lies before and behind is as it was
   pub put-is : (l : List A) (i : ℕ) (vs : List A) → i + length vs ≤ length l → put l i vs ≡ take i l ++ vs ++ drop (i + length vs) l

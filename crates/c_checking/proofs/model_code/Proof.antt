@@ -1,11 +1,11 @@
 -- `c_checking::model_code` meets its contract.
-use mathlib.Core.Path.{_≡_, sym, ap, subst, _∙_}
+use mathlib.Core.Path.{sym, ap, subst, _∙_}
 use native.Mathlib.Omega.{arith}
 use Prim.Native.Nat.{_<_}
 use mir.Syntax.{w64}
 use mir.Facts.{toZ-pos}
 use Rattle.integers.specs.Bits.{kept}
-use Rattle.model.specs.Places.{Below}
+use Rattle.check_model.specs.Places.{Below}
 use Rattle.c_codes.specs.Codes.{refusalUnit}
 use Rattle.c_checking.specs.Calls.{modelCode}
 use Rattle.c_checking.proofs.model_code.Statement.{statement}

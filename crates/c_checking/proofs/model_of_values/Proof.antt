@@ -8,7 +8,7 @@ use lib.IntN.{ℤ}
 use lib.ListN.{length, take}
 use lib.Seq.{take-at}
 use Rattle.little_endian.specs.Bytes.{int64, int64s, length-firstOf}
-use Rattle.model.specs.Model.{modelAnswer}
+use Rattle.check_model.specs.Model.{modelAnswer}
 use Rattle.c_checking.specs.Calls.{valueBytes, modelOfValues}
 use Rattle.c_checking.proofs.model_of_values.Statement.{statement}
 use Rattle.c_checking.proofs.model_of_values.Tie as tie

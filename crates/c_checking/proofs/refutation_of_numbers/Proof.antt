@@ -1,13 +1,13 @@
 -- `c_checking::refutation_of_numbers` meets its contract.
-use mathlib.Core.Path.{_≡_, ap, _∙_}
+use mathlib.Core.Path.{ap, _∙_}
 use Prim.Native.Nat.{_*_, _%_}
 use native.Mathlib.Omega.{arith}
 use borrow.Author.Tests.{lt-ltb, le-ltb, eq-eqb, ne-eqb}
 use lib.ListN.{length}
 use Rattle.lines.specs.Limits.{maxRefutation}
 use Rattle.little_endian.specs.Bytes.{nat32s}
-use Rattle.pieces.specs.Taken.{endAnswer}
-use Rattle.pieces.specs.Cut.{whole}
+use Rattle.check_pieces.specs.Taken.{endAnswer}
+use Rattle.check_pieces.specs.Cut.{whole}
 use Rattle.c_codes.specs.ListBytes.{numberBytes}
 use Rattle.c_checking.specs.Calls.{refutationOfNumbers}
 use Rattle.c_checking.proofs.refutation_of_numbers.Statement.{statement}

@@ -5,10 +5,10 @@ use Prim.Native.Nat.{ℕ, _*_, _/_, _-_, _≤_}
 use native.Mathlib.Omega.{arith}
 use lib.ListN.{length}
 use Rattle.little_endian.specs.Bytes.{le32, firstOf, next}
-use Rattle.refutation.specs.declared.Progress.{Progress}
-use Rattle.refutation.specs.Progress.{start}
-use Rattle.pieces.specs.Taken.{takeOn, takeAll}
-use Rattle.pieces.specs.Cut.{Words, words-snoc, take-snoc}
+use Rattle.check_refutation.specs.declared.Progress.{Progress}
+use Rattle.check_refutation.specs.Progress.{start}
+use Rattle.check_pieces.specs.Taken.{takeOn, takeAll}
+use Rattle.check_pieces.specs.Cut.{Words, words-snoc, take-snoc}
 use Rattle.c_codes.specs.ListBytes.{numberBytes}
 use Rattle.c_checking.proofs.take_bytes.Statement.{statement}
 use Rattle.c_checking.proofs.take_bytes.Tie as tie

@@ -8,13 +8,12 @@ use lib.ListN.{length, take}
 use mir.Syntax.{w64}
 use Rattle.integers.specs.Bits.{kept}
 use Rattle.lines.specs.declared.Validity.{Validity}
-use Rattle.lines.specs.declared.Validity.the-variants.{Valid, Refused}
+use Rattle.lines.specs.declared.Validity.the-variants.{Valid}
 use Rattle.lines.specs.Places.{Placed, place-at}
 use Rattle.little_endian.specs.Bytes.{int32s}
-use Rattle.refutation.specs.Answer.{unlessRefused}
-use Rattle.refutation.specs.Places.{Below}
+use Rattle.check_refutation.specs.Answer.{unlessRefused}
 use Rattle.c_codes.specs.Codes.{refusalUnit}
-use Rattle.c_codes.specs.ListBytes.{numberBytes, bytesValidity, BytesOk, valid-bytes, bytes-placed}
+use Rattle.c_codes.specs.ListBytes.{numberBytes, BytesOk, valid-bytes, bytes-placed}
 use Rattle.c_refutation_code.specs.Code.{refutationCode}
 use Rattle.c_checking.specs.Calls.{refutationOfNumbers, refutationOfBytes}
 use Rattle.c_checking.specs.Laws.{refutation-below}

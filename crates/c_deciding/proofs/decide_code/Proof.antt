@@ -1,5 +1,5 @@
 -- `c_deciding::decide_code` meets its contract.
-use mathlib.Core.Path.{_≡_, sym, ap, subst, _∙_}
+use mathlib.Core.Path.{sym, ap, subst, _∙_}
 use native.Mathlib.Omega.{arith}
 use mir.Syntax.{w64}
 use Rattle.integers.specs.Bits.{kept}

@@ -1,5 +1,5 @@
 -- `c_deciding::utvpi_decide` meets its contract.
-use mathlib.Core.Path.{_≡_, _∙_}
+use mathlib.Core.Path.{_∙_}
 use native.Mathlib.Omega.{arith}
 use mir.Syntax.{w64}
 use Rattle.integers.specs.Bits.{kept}

@@ -1,5 +1,4 @@
 -- `c_files::utvpi_read_list` meets its contract.
-use mathlib.Core.Path.{_≡_}
 use native.Mathlib.Omega.{arith}
 use Rattle.c_files.specs.Files.{read-returns}
 use Rattle.c_files.proofs.utvpi_read_list.Statement.{statement}

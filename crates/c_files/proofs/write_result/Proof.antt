@@ -1,8 +1,7 @@
 -- `c_files::write_result` meets its contract.
-use mathlib.Core.Path.{_≡_, sym, ap, ap₂, _∙_}
+use mathlib.Core.Path.{sym, ap, ap₂, _∙_}
 use Prim.Native.Nat.{ℕ}
 use native.Mathlib.Omega.{arith}
-use Rattle.c_files.specs.declared.FileWritten.{FileWritten}
 use Rattle.c_files.specs.Files.{fileWritten}
 use Rattle.c_files.proofs.write_result.Statement.{statement}
 use Rattle.c_files.proofs.write_result.Tie as tie

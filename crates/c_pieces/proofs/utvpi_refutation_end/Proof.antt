@@ -4,7 +4,7 @@ use native.Mathlib.Omega.{arith}
 use borrow.Author.Needs.{needs}
 use mir.Syntax.{w64}
 use Rattle.integers.specs.Bits.{kept}
-use Rattle.pieces.specs.Taken.{endAnswer}
+use Rattle.check_pieces.specs.Taken.{endAnswer}
 use Rattle.c_refutation_code.specs.Code.{refutationCode}
 use Rattle.c_pieces.specs.Laws.{end-below}
 use Rattle.c_pieces.proofs.utvpi_refutation_end.Statement.{statement}

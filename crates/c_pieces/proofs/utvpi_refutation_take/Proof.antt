@@ -1,8 +1,8 @@
 -- `c_pieces::utvpi_refutation_take` meets its contract.
 use mathlib.Core.Path.{ap, _∙_}
 use borrow.Author.Needs.{needs}
-use Rattle.refutation.specs.declared.Progress.{Progress}
-use Rattle.pieces.specs.Taken.{takeOn}
+use Rattle.check_refutation.specs.declared.Progress.{Progress}
+use Rattle.check_pieces.specs.Taken.{takeOn}
 use Rattle.c_pieces.specs.Pieces.{keptOf}
 use Rattle.c_pieces.proofs.utvpi_refutation_take.Statement.{statement}
 use Rattle.c_pieces.proofs.utvpi_refutation_take.Tie as tie

@@ -1,11 +1,11 @@
 -- `c_refutation_code::refutation_code` meets its contract.
-use mathlib.Core.Path.{_≡_, sym, ap, subst, _∙_}
+use mathlib.Core.Path.{sym, ap, subst, _∙_}
 use native.Mathlib.Omega.{arith}
 use Prim.Native.Nat.{_<_}
 use mir.Syntax.{w64}
 use mir.Facts.{toZ-pos}
 use Rattle.integers.specs.Bits.{kept}
-use Rattle.refutation.specs.Places.{Below}
+use Rattle.check_refutation.specs.Places.{Below}
 use Rattle.c_codes.specs.Codes.{refusalUnit}
 use Rattle.c_refutation_code.specs.Code.{refutationCode}
 use Rattle.c_refutation_code.proofs.refutation_code.Statement.{statement}

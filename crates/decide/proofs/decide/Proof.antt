@@ -3,7 +3,7 @@ use mathlib.Core.Path.{_≡_, sym, _∙_}
 use native.Mathlib.Omega.{arith}
 use borrow.Author.Needs.{needs}
 use Rattle.lines.specs.declared.Validity.the-variants.{Valid}
-use Rattle.buffers.specs.Room.{Lent}
+use Rattle.decide_buffers.specs.Room.{Lent}
 use Rattle.decide.specs.Searched.{part-is}
 use Rattle.decide.specs.Decided.{validityFor, refused, search-ready, room-left, few, table-fits, start-small, decided-no, answers-ready, decided-yes}
 use Rattle.decide.proofs.decide.Statement.{statement}

@@ -3,7 +3,7 @@ use mathlib.Core.Path.{subst}
 use mathlib.Core.Bool.{Bool, false}
 use borrow.Author.Needs.{needs}
 use denote.Ref.{now}
-use Rattle.halves_refutation.specs.Halves.{HalvesAtOnce, halves-after, halves-written-after}
+use Rattle.engine_halves_walks.specs.Halves.{HalvesAtOnce, halves-after, halves-written-after}
 use Rattle.decide.proofs.refute_by_halves.Statement.{statement}
 use Rattle.decide.proofs.refute_by_halves.Tie as tie
 

@@ -5,8 +5,8 @@ use native.Mathlib.Omega.{arith}
 use borrow.Author.Needs.{needs}
 use Rattle.lines.specs.Line.{linesOf}
 use Rattle.lines.specs.Valid.{valid-list}
-use Rattle.answers.specs.Verdict.{hasFalse}
-use Rattle.searching.specs.False.{false-found}
+use Rattle.theory_bounds.specs.Verdict.{hasFalse}
+use Rattle.decide_false_line.specs.False.{false-found}
 use Rattle.decide.specs.Searched.{by-false}
 use Rattle.decide.proofs.refuted.Statement.{statement}
 use Rattle.decide.proofs.refuted.Tie as tie

@@ -1,10 +1,9 @@
 -- `file_report::report_file` meets its contract.
-use mathlib.Core.Path.{_≡_}
 use Prim.Native.Nat.{ℕ, _*_, _-_}
 use native.Mathlib.Omega.{arith}
 use borrow.Author.Needs.{needs}
 use Rattle.lines.specs.Limits.{lineSize}
-use Rattle.list_file.specs.Back.{IsRead}
+use Rattle.file_list.specs.Back.{IsRead}
 use Rattle.file_report.specs.Report.{mostVariables, mostLines}
 use Rattle.file_report.specs.Laws.{is-listed, list-ready, read-reported, refused-reported}
 use Rattle.file_report.proofs.report_file.Statement.{statement}

@@ -5,7 +5,7 @@ use native.Mathlib.Omega.{arith}
 use borrow.Author.Needs.{needs}
 use lib.ListN.{take}
 use lib.Seq.{take-all}
-use Rattle.records.specs.Places.{place-is}
+use Rattle.file_records.specs.Places.{place-is}
 use Rattle.file_report.specs.Report.{mostLines}
 use Rattle.file_report.specs.Input.{held}
 use Rattle.file_report.proofs.report_input.Statement.{statement}

@@ -1,9 +1,8 @@
 -- `file_report::report_list` meets its contract.
-use mathlib.Core.Path.{_≡_}
-use Prim.Native.Nat.{ℕ, _-_}
+use Prim.Native.Nat.{_-_}
 use native.Mathlib.Omega.{arith}
 use borrow.Author.Needs.{needs}
-use Rattle.buffers.specs.Room.{fewer-room}
+use Rattle.decide_buffers.specs.Room.{fewer-room}
 use Rattle.file_report.specs.Report.{mostVariables}
 use Rattle.file_report.specs.Laws.{yes-written, no-written, no-ready, never-refused}
 use Rattle.file_report.proofs.report_list.Statement.{statement}

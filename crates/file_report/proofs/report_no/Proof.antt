@@ -1,12 +1,11 @@
 -- `file_report::report_no` meets its contract.
-use mathlib.Core.Path.{_≡_}
 use mathlib.Core.List.{List}
 use Prim.Native.Nat.{ℕ, _+_, _-_}
 use native.Mathlib.Omega.{arith}
 use borrow.Author.Needs.{needs}
 use lib.ListN.{getD}
-use Rattle.refutation.specs.Progress.{headSize}
-use Rattle.soundness.specs.Head.{stepsIn}
+use Rattle.check_refutation.specs.Progress.{headSize}
+use Rattle.check_soundness.specs.Head.{stepsIn}
 use Rattle.file_report.specs.Laws.{same-text}
 use Rattle.file_report.proofs.report_no.Statement.{statement}
 use Rattle.file_report.proofs.report_no.Tie as tie

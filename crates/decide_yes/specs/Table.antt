@@ -1,0 +1,102 @@
+-- The stored table of a valid list holds the distances themselves: so the model, bounds and groups read off it are those of the definitions.
+use mathlib.Core.Path.{_≡_, sym, ap, _∙_}
+use mathlib.Core.Bool.{true}
+use mathlib.Core.List.{List}
+use Prim.Native.Nat.{ℕ, _*_, _<_, _≤_}
+use native.Mathlib.Nat.{mul-le-mul-right}
+use native.Mathlib.Omega.{arith}
+use lib.IntN.{ℤ, natAbs}
+use Rattle.integers.specs.Integer.{Within}
+use Rattle.integers.specs.Laws.{abs-within}
+use Rattle.integers.specs.Sequence.{tabulate, tabulate-cong}
+use Rattle.lines.specs.declared.Validity.the-variants.{Valid}
+use Rattle.lines.specs.Limits.{maxVariables, maxConstant}
+use Rattle.lines.specs.Line.{linesOf, assignmentOf}
+use Rattle.lines.specs.Refusal.{validityOf}
+use Rattle.lines.specs.Valid.{LinesOk, valid-list}
+use Rattle.steps.specs.Point.{opposite}
+use Rattle.steps.specs.Step.{stepsOf}
+use Rattle.theory_walks.specs.Row.{best}
+use Rattle.theory_bounds.specs.Points.{opposite-below}
+use Rattle.theory_bounds.specs.Tight.{Table, halves, tight}
+use Rattle.theory_bounds.specs.Range.{model-same}
+use Rattle.theory_bounds.specs.Table.{ClosedTable, tableModel}
+use Rattle.theory_bounds.specs.Answers.{modelOf, boundAt, boundsOf, groupAt, groupsOf}
+use Rattle.theory_bounds.specs.Verdict.{distances, verdictOf}
+use Rattle.theory_answers.specs.Meaning.{closed, model-is-model, model-value}
+use Rattle.theory_answers.specs.Small.{all-above, model-small}
+use Rattle.theory_answers.specs.Decided.{lines-ok}
+use Rattle.decide_rows.specs.Read.{distanceOf, short-more}
+use Rattle.decide_rows.specs.Table.{storedTable, table-length, stored-at, best-short}
+use Rattle.decide_stored_table.specs.Sum.{read-back}
+use Rattle.decide_stored_table.specs.Table.{tableOf, ShortTable}
+use Rattle.decide_model.specs.Limit.{maxModel}
+use Rattle.theory_bounds.specs.Agree.{Agree, halves-same, tight-same, bounds-same, groups-same}
+
+-- ---- two tables with the same distances between the points of n variables have the same model, and are closed alike
+module _ (n : ℕ) (D E : Table) (same : Agree (2 * n) D E) where
+  pub table-model-same : (x : ℕ) → tableModel n D x ≡ tableModel n E x
+  unfolding tableModel
+  table-model-same = model-same n (tight D) (tight E) (halves D) (halves E) (tight-same n D E same) (halves-same n D E same) n (omega arith)
+
+  closed-same : ClosedTable n E → ClosedTable n D
+  closed-same c =
+      record {
+        diagonal = λ i h. same i i h h ∙ c .diagonal i h;
+        triangle = λ i j k hi hj hk. rw (same i k hi hk, same i j hi hj, same j k hj hk) (c .triangle i j k hi hj hk);
+        mirrored = λ i j hi hj. same i j hi hj ∙ c .mirrored i j hi hj ∙ sym (same (opposite j) (opposite i) (opposite-below n j hj) (opposite-below n i hi));
+        consistent = λ i h a b e f. c .consistent i h a b (sym (halves-same n D E same i h) ∙ e) (sym (halves-same n D E same (opposite i) (opposite-below n i h)) ∙ f);
+      }
+
+-- ---- the stored table of a list
+abbrev pub tableFor : ℕ → List ℤ → List ℤ
+tableFor n L = storedTable (stepsOf (linesOf L)) (2 * n) (2 * n)
+
+module _ (n : ℕ) (L : List ℤ) (few : n ≤ maxVariables) (ok : LinesOk n L) where
+  abbrev D : Table
+  D = tableOf (2 * n) (tableFor n L)
+
+  pub agree : Agree (2 * n) (tableOf (2 * n) (tableFor n L)) (distances n (linesOf L))
+  agree u v hu hv =
+      ap distanceOf (stored-at (stepsOf (linesOf L)) (2 * n) u v hu hv)
+      ∙ read-back (best (stepsOf (linesOf L)) (2 * n) u v) (short-more (omega arith) (best-short n L few ok u v))
+
+  pub short-table : ShortTable n (tableFor n L)
+  short-table =
+      record {
+        variables = few;
+        size = table-length (stepsOf (linesOf L)) (2 * n) (2 * n);
+        short = λ u v hu hv. rw (agree u v hu hv) (best-short n L few ok u v);
+      }
+
+  pub model-agrees : tabulate n (tableModel n (tableOf (2 * n) (tableFor n L))) ≡ modelOf n (linesOf L)
+  unfolding modelOf
+  model-agrees = tabulate-cong n (tableModel n D) (tableModel n (distances n (linesOf L))) (λ x h. table-model-same n D (distances n (linesOf L)) agree x)
+
+  pub bounds-agree : tabulate (2 * n) (boundAt (tableOf (2 * n) (tableFor n L))) ≡ boundsOf n (linesOf L)
+  unfolding boundsOf
+  bounds-agree = bounds-same n D (distances n (linesOf L)) agree
+
+  pub groups-agree : tabulate n (groupAt (tableOf (2 * n) (tableFor n L))) ≡ groupsOf n (linesOf L)
+  unfolding groupsOf
+  groups-agree = groups-same n D (distances n (linesOf L)) agree
+
+-- ---- on a yes, the table is closed and the model's values are small
+small-within : (n : ℕ) (z : ℤ) → n ≤ maxVariables → natAbs z ≤ n * maxConstant → Within maxModel z
+small-within n z l h = abs-within maxModel z (omega (arith, mul-le-mul-right maxConstant l))
+
+module _ (n : ℕ) (L : List ℤ) (valid : validityOf n L ≡ Valid) (yes-verdict : verdictOf n (linesOf L) ≡ true) where
+  pub table-closed : ClosedTable n (tableOf (2 * n) (tableFor n L))
+  table-closed =
+      let l = valid-list n L valid in
+      closed-same n (tableOf (2 * n) (tableFor n L)) (distances n (linesOf L)) (agree n L (l .variables) (l .lines)) (closed n (linesOf L) (lines-ok n L valid) yes-verdict)
+
+  pub model-ready : (k : ℕ) → k < n → Within maxModel (tableModel n (tableOf (2 * n) (tableFor n L)) k)
+  model-ready k h =
+      let l = valid-list n L valid in
+      let a = lines-ok n L valid in
+      let e : tableModel n (tableOf (2 * n) (tableFor n L)) k ≡ tableModel n (distances n (linesOf L)) k =
+      table-model-same n (tableOf (2 * n) (tableFor n L)) (distances n (linesOf L)) (agree n L (l .variables) (l .lines)) k in
+      let b : natAbs (assignmentOf (modelOf n (linesOf L)) k) ≤ n * maxConstant =
+      model-small n maxConstant (linesOf L) a (all-above n (linesOf L) a) (assignmentOf (modelOf n (linesOf L))) (model-is-model n (linesOf L) a yes-verdict) k h in
+      rw e (small-within n _ (l .variables) (rw (model-value n (linesOf L) a yes-verdict k h) at b))

@@ -1,6 +1,0 @@
-pub mod Fill
-pub mod Lowest
-pub mod Reading
-pub mod Bad
-pub mod Grouping
-pub mod Agree

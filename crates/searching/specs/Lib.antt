@@ -1,2 +1,0 @@
-pub mod False
-pub mod Negative

@@ -1,0 +1,10 @@
+pub mod Semantics
+pub mod Small
+pub mod Refuted
+pub mod Solved
+pub mod Meaning
+pub mod Decided
+pub mod Unique
+pub mod Absent
+pub mod Longer
+pub mod Same

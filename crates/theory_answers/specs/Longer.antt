@@ -1,0 +1,100 @@
+-- Demand 3 of the answers: what is learned of a list holds of each valid list whose every solution solves it, and so of each that begins with it.
+use mathlib.Core.Path.{_≡_, sym, ap, subst, _∙_}
+use mathlib.Core.Logic.{inl, inr, _↔_}
+use mathlib.Core.Bool.{true, false}
+use mathlib.Core.List.{List, _++_}
+use Prim.Native.Nat.{ℕ, _+_, _*_, _%_, _<_}
+use native.Mathlib.Omega.{arith}
+use lib.IntN.{ℤ, pos}
+use lib.ListN.{length, getD}
+use lib.Seq.{ext-getD}
+use Rattle.integers.specs.Integer.{_⩽_, _⋖_}
+use Rattle.integers.specs.Linear.{ints}
+use Rattle.lines.specs.declared.Line.{Line}
+use Rattle.lines.specs.declared.Validity.the-variants.{Valid}
+use Rattle.lines.specs.Limits.{lineSize}
+use Rattle.lines.specs.Line.{linesOf, Assignment, assignmentOf, Solves, Solvable, Entails}
+use Rattle.lines.specs.Refusal.{validityOf}
+use Rattle.lines.specs.LineNumbers.{lines-append}
+use Rattle.lines.specs.Solutions.{solves-append}
+use Rattle.theory_answers.specs.Semantics.{IsModel, Together, IsGroup, LeastWritten, GreatestWritten, Written}
+use Rattle.theory_bounds.specs.Verdict.{verdictOf}
+use Rattle.theory_answers.specs.Meaning.{only-model}
+use Rattle.theory_answers.specs.Decided.{lines-ok, yes-solvable, no-unsolvable, solvable-yes, unsolvable-no}
+use Rattle.theory_answers.specs.Unique.{no-both-greatest, no-both-least, one-group, written-yes}
+use Rattle.theory_answers.specs.Absent.{least-above, greatest-below}
+
+-- ---- two valid lists: every solution of K solves L
+module _ (n : ℕ) (L K : List ℤ) (valid : validityOf n L ≡ Valid) (valid′ : validityOf n K ≡ Valid) (entails : Entails (linesOf K) (linesOf L)) where
+  abbrev ls : List Line
+  ls = linesOf L
+
+  abbrev ks : List Line
+  ks = linesOf K
+
+  solvable-too : Solvable ks → Solvable ls
+  solvable-too s = record { assignment = s .assignment; solves = entails (s .assignment) (s .solves) }
+
+  -- a no stays a no, and what is a yes was one before
+  pub no-stays : verdictOf n ls ≡ false → verdictOf n ks ≡ false
+  no-stays e = unsolvable-no n K valid′ (λ s. no-unsolvable n L valid e (solvable-too s))
+
+  pub yes-before : verdictOf n ks ≡ true → verdictOf n ls ≡ true
+  yes-before e = solvable-yes n L valid (solvable-too (yes-solvable n K valid′ e))
+
+  -- ---- where both are a yes
+  module _ (model bounds model′ bounds′ : List ℤ) (groups groups′ : List ℕ) (w : Written n ls model bounds groups) (w′ : Written n ks model′ bounds′ groups′) where
+    yes′ : verdictOf n ks ≡ true
+    yes′ = written-yes n K valid′ model′ bounds′ groups′ w′
+
+    weaken : (v u : ℤ) → v ⋖ u → v ⩽ u
+    weaken v u = simp ints (omega arith)
+
+    pub least-stays-or-rises : (x : ℕ) → x < n → getD bounds (2 * x) (pos 0) ⩽ getD bounds′ (2 * x) (pos 0)
+    least-stays-or-rises x h = go _ _ (w .least-is x h) (w′ .least-is x h)
+      where
+        go : (v v′ : ℤ) → LeastWritten ls x v → LeastWritten ks x v′ → v ⩽ v′
+        go v v′ (inl a) (inl b) = rw (b .taken) at (a .bounds (b .taken-by) (entails (b .taken-by) (b .solves)))
+        go v v′ (inl a) (inr b) = absurd (no-both-least ls x v a (record { beyond = λ z. let t = b .0 .beyond z in (t .0, entails (t .0) (t .1), t .2) }))
+        go v v′ (inr a) (inl b) = rw (a .1) (weaken _ v′ (least-above n K valid′ yes′ x h v′ b))
+        go v v′ (inr a) (inr b) = rw (a .1, b .1) (simp ints (omega arith))
+
+    pub greatest-stays-or-falls : (x : ℕ) → x < n → getD bounds′ (2 * x + 1) (pos 0) ⩽ getD bounds (2 * x + 1) (pos 0)
+    greatest-stays-or-falls x h = go _ _ (w .greatest-is x h) (w′ .greatest-is x h)
+      where
+        go : (v v′ : ℤ) → GreatestWritten ls x v → GreatestWritten ks x v′ → v′ ⩽ v
+        go v v′ (inl a) (inl b) = rw (b .taken) at (a .bounds (b .taken-by) (entails (b .taken-by) (b .solves)))
+        go v v′ (inl a) (inr b) = absurd (no-both-greatest ls x v a (record { beyond = λ z. let t = b .0 .beyond z in (t .0, entails (t .0) (t .1), t .2) }))
+        go v v′ (inr a) (inl b) = rw (a .1) (weaken v′ _ (greatest-below n K valid′ yes′ x h v′ b))
+        go v v′ (inr a) (inr b) = rw (a .1, b .1) (simp ints (omega arith))
+
+    -- events in one group stay in one group
+    pub groups-kept : (x y : ℕ) → x < n → y < n → getD groups x 0 ≡ getD groups y 0 → getD groups′ x 0 ≡ getD groups′ y 0
+    groups-kept x y h k e = one-group ks y _ _ (record { together = λ t s. sym (same t s) ∙ g .together t s; lowest = λ q l u. g .lowest q l (λ t s. same t s ∙ u t s) }) (w′ .group-is y k)
+      where
+        g : IsGroup ks x (getD groups′ x 0)
+        g = w′ .group-is x h
+
+        same : Together ks x y
+        same t s = w .group-is x h .together t (entails t s) ∙ ap t e ∙ sym (w .group-is y k .together t (entails t s))
+
+    -- the model is the same exactly if it solves K
+    pub model-kept : (model′ ≡ model) ↔ Solves ks (assignmentOf model)
+    model-kept = ((λ e. subst (λ (m : List ℤ). Solves ks (assignmentOf m)) e (w′ .model-is .solves)), back)
+      where
+        still : Solves ks (assignmentOf model) → IsModel n ks (assignmentOf model)
+        still s = record { solves = s; nearest = λ k h t st a. w .model-is .nearest k h t (entails t st) a }
+
+        back : Solves ks (assignmentOf model) → model′ ≡ model
+        back s =
+            let one = only-model n ks (lines-ok n K valid′) yes′ in
+            ext-getD (pos 0) model′ model (w′ .model-length ∙ sym (w .model-length))
+            (λ x h. let k : x < n = omega (arith, w′ .model-length) in one (assignmentOf model′) (w′ .model-is) x k ∙ sym (one (assignmentOf model) (still s) x k))
+
+-- ---- a list that begins with all lines of L
+module _ (L M : List ℤ) (whole : length L % lineSize ≡ 0) where
+  pub solves-both : (s : Assignment) → Solves (linesOf (L ++ M)) s ↔ (Solves (linesOf L) s × Solves (linesOf M) s)
+  solves-both s = subst (λ (ls : List Line). Solves ls s ↔ (Solves (linesOf L) s × Solves (linesOf M) s)) (sym (lines-append L M whole)) (solves-append (linesOf L) (linesOf M) s)
+
+  pub longer-entails : Entails (linesOf (L ++ M)) (linesOf L)
+  longer-entails s h = solves-both s .0 h .0

@@ -1,0 +1,162 @@
+-- The computed answers have the meaning of the specification's section "Yes".
+use mathlib.Core.Path.{_≡_, refl, sym, ap, _∙_}
+use mathlib.Core.Logic.{_⊎_, inl, inr, _↔_}
+use mathlib.Core.Bool.{Bool, true, false}
+use mathlib.Core.List.{List}
+use Prim.Native.Nat.{ℕ, _+_, _*_, _<_}
+use native.Mathlib.Omega.{arith}
+use lib.IntN.{ℤ, pos}
+use lib.ListN.{getD}
+use lib.Signed.{leZ}
+use Rattle.integers.specs.Integer.{_⩽_}
+use Rattle.integers.specs.Linear.{ints}
+use Rattle.integers.specs.Laws.{never, and-true, both-true}
+use Rattle.integers.specs.Sequence.{length-tabulate, getD-tabulate}
+use Rattle.lines.specs.declared.Line.{Line}
+use Rattle.lines.specs.Line.{Assignment, assignmentOf, Solves}
+use Rattle.lines.specs.Valid.{AllOk}
+use Rattle.steps.specs.Point.{point, value}
+use Rattle.theory_walks.specs.Distance.{Distance, none, some, _⊑_, some-le, le-some}
+use Rattle.theory_bounds.specs.Points.{variableOf, value-cong, variable-below}
+use Rattle.theory_bounds.specs.Tight.{Table, halves, tight}
+use Rattle.theory_bounds.specs.Table.{ClosedTable, Solution, tableModel, model-solves, model-nearest, model-unique, consecutive, greatest, no-greatest, least, no-least, grouped}
+use Rattle.theory_answers.specs.Semantics.{Agrees, IsModel, Together, IsGroup, LeastWritten, GreatestWritten, Written, NoGreatest, NoLeast}
+use Rattle.theory_bounds.specs.Verdict.{distances, verdictOf}
+use Rattle.theory_bounds.specs.Answers.{modelOf, greatestOf, leastOf, boundAt, bound-least, bound-greatest, boundsOf, notAbove0, sameGroup, groupAt, groupsOf}
+use Rattle.integers.specs.Lowest.{Passed, NonePassed, lowest-known}
+use Rattle.theory_answers.specs.Solved.{Verdicts, verdict-yes, to-table, of-table, closed-table}
+
+not-above : (d : Distance) → (notAbove0 d ≡ true) ↔ (d ⊑ some (pos 0))
+not-above none = ((λ e. never (cc)), (λ h. absurd (h .le)))
+not-above (some z) = ((λ e. some-le (to z e)), (λ h. back z (le-some h)))
+  where
+    to : (z : ℤ) → leZ z (pos 0) ≡ true → z ⩽ pos 0
+    to z = simp ints (omega arith)
+
+    back : (z : ℤ) → z ⩽ pos 0 → leZ z (pos 0) ≡ true
+    back z = simp ints (omega arith)
+
+module _ (n : ℕ) (ls : List Line) (ok : AllOk n ls) (yes-verdict : verdictOf n ls ≡ true) where
+  abbrev D : Table
+  D = distances n ls
+
+  verdicts : Verdicts n ls
+  verdicts = verdict-yes n ls yes-verdict
+
+  pub closed : ClosedTable n D
+  closed = closed-table n ls ok verdicts
+
+  pub table-solves : (s : Assignment) → Solution n D s → Solves ls s
+  table-solves s h = of-table n ls ok (verdicts .clear) s h
+
+  -- only the values of the n variables count
+  same-solution : (s t : Assignment) → Agrees n t s → Solution n D s → Solution n D t
+  same-solution s t e h = record { holds = λ i j a b d q. rw (at i a, at j b) (h .holds i j a b d q) }
+    where
+      at : (i : ℕ) → i < 2 * n → value t i ≡ value s i
+      at i a = value-cong t s i (e (variableOf i) (variable-below n i a))
+
+  -- ---- the model
+  pub model-value : (x : ℕ) → x < n → assignmentOf (modelOf n ls) x ≡ tableModel n D x
+  unfolding modelOf
+  model-value x h = getD-tabulate n x (tableModel n D) (pos 0) h
+
+  pub model-is-model : IsModel n ls (assignmentOf (modelOf n ls))
+  model-is-model =
+      record {
+        solves = table-solves _ (same-solution (tableModel n D) _ model-value (model-solves n D closed));
+        nearest = λ k h t st a. rw (model-value k h) (model-nearest n D closed t (to-table n ls ok t st) k h (λ x l. a x l ∙ model-value x (omega arith)));
+      }
+
+  -- no other assignment is the model
+  pub only-model : (m : Assignment) → IsModel n ls m → (x : ℕ) → x < n → m x ≡ assignmentOf (modelOf n ls) x
+  only-model m i x h =
+      model-unique n D closed m (to-table n ls ok m (i .solves)) (λ k l s st a. i .nearest k l s (table-solves s st) a) x h ∙ sym (model-value x h)
+
+  -- values between two possible values are possible, so there is no tie
+  pub no-tie : (k : ℕ) → k < n → (s t : Assignment) → Solves ls s → Solves ls t → Agrees k t s → (v : ℤ) → s k ⩽ v → v ⩽ t k
+      → (r : Assignment) × Solves ls r × Agrees k r s × (r k ≡ v)
+  no-tie k h s t a b e v lo hi =
+      let w = consecutive n D closed k h s t (to-table n ls ok s a) (to-table n ls ok t b) e v lo hi in
+      (w .0, table-solves (w .0) (w .1), w .2, w .3)
+
+  -- ---- bounds
+  -- where no walk limits a variable there is no bound
+  pub none-greatest : (x : ℕ) → x < n → halves D (point x 0) ≡ none → NoGreatest ls x
+  none-greatest x h e = record { beyond = λ z. let g = no-greatest n D closed x h e z in (g .0, table-solves (g .0) (g .1), g .2) }
+
+  pub none-least : (x : ℕ) → x < n → halves D (point x 1) ≡ none → NoLeast ls x
+  none-least x h e = record { beyond = λ z. let g = no-least n D closed x h e z in (g .0, table-solves (g .0) (g .1), g .2) }
+
+  pub greatest-written : (x : ℕ) → x < n → GreatestWritten ls x (greatestOf (halves D (point x 0)))
+  greatest-written x h = go (halves D (point x 0)) refl
+    where
+      go : (d : Distance) → halves D (point x 0) ≡ d → GreatestWritten ls x (greatestOf d)
+      go (some z) e =
+          let g = greatest n D closed x h z e in
+          inl (record { bounds = λ t st. g .0 t (to-table n ls ok t st); taken-by = g .1 .0; solves = table-solves (g .1 .0) (g .1 .1); taken = g .1 .2 })
+      go none e = inr (none-greatest x h e, refl)
+
+  pub least-written : (x : ℕ) → x < n → LeastWritten ls x (leastOf (halves D (point x 1)))
+  least-written x h = go (halves D (point x 1)) refl
+    where
+      go : (d : Distance) → halves D (point x 1) ≡ d → LeastWritten ls x (leastOf d)
+      go (some z) e =
+          let g = least n D closed x h z e in
+          inl (record { bounds = λ t st. g .0 t (to-table n ls ok t st); taken-by = g .1 .0; solves = table-solves (g .1 .0) (g .1 .1); taken = g .1 .2 })
+      go none e = inr (none-least x h e, refl)
+
+  least-at : (x : ℕ) → x < n → getD (boundsOf n ls) (2 * x) (pos 0) ≡ leastOf (halves D (point x 1))
+  unfolding boundsOf
+  least-at x h = getD-tabulate (2 * n) (2 * x) (boundAt D) (pos 0) (omega arith) ∙ bound-least D x
+
+  greatest-at : (x : ℕ) → x < n → getD (boundsOf n ls) (2 * x + 1) (pos 0) ≡ greatestOf (halves D (point x 0))
+  unfolding boundsOf
+  greatest-at x h = getD-tabulate (2 * n) (2 * x + 1) (boundAt D) (pos 0) (omega arith) ∙ bound-greatest D x
+
+  -- ---- groups
+  same-together : (x r : ℕ) → x < n → r < n → (sameGroup D x r ≡ true) ↔ Together ls x r
+  same-together x r i j =
+      let g = grouped n D closed x r i j in (
+        (λ e.
+            let t = and-true (notAbove0 (tight D (point x 0) (point r 0))) _ e in
+            λ s st. g .1 (not-above _ .0 (t .0), not-above _ .0 (t .1)) s (to-table n ls ok s st)),
+        (λ f. let w = g .0 (λ s st. f s (table-solves s st)) in both-true _ _ (not-above _ .1 (w .0)) (not-above _ .1 (w .1))),
+      )
+
+  group-is-group : (x : ℕ) → x < n → IsGroup ls x (groupAt D x)
+  group-is-group x h = go (lowest-known (sameGroup D x) 0 x)
+    where
+      clash : {t : Bool} → t ≡ false → t ≡ true → ⊥
+      clash e f = never (cc)
+
+      go : Passed (sameGroup D x) 0 (0 + x) (groupAt D x) ⊎ NonePassed (sameGroup D x) 0 (0 + x) (groupAt D x) → IsGroup ls x (groupAt D x)
+      go (inl s) =
+          record {
+            together = same-together x (groupAt D x) h (omega (arith, s .below)) .0 (s .passes);
+            lowest = λ q l t. clash (s .before q (omega arith) l) (same-together x q h (omega (arith, s .below)) .1 t);
+          }
+      go (inr s) =
+          let e : x ≡ groupAt D x = omega (arith, s .at-end) in
+          record {
+            together = λ v _. ap v e;
+            lowest = λ q l t. clash (s .fails q (omega arith) (omega arith)) (same-together x q h (omega arith) .1 t);
+          }
+
+  group-value : (x : ℕ) → x < n → getD (groupsOf n ls) x 0 ≡ groupAt D x
+  unfolding groupsOf
+  group-value x h = getD-tabulate n x (groupAt D) 0 h
+
+  -- what is computed is what is to be written
+  pub computed-written : Written n ls (modelOf n ls) (boundsOf n ls) (groupsOf n ls)
+  unfolding modelOf boundsOf groupsOf
+  computed-written =
+      record {
+        model-length = length-tabulate n _;
+        model-is = model-is-model;
+        bounds-length = length-tabulate (2 * n) _;
+        least-is = λ x h. rw (least-at x h) (least-written x h);
+        greatest-is = λ x h. rw (greatest-at x h) (greatest-written x h);
+        groups-length = length-tabulate n _;
+        group-is = λ x h. rw (group-value x h) (group-is-group x h);
+      }

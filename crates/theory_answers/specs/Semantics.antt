@@ -1,0 +1,67 @@
+-- What the section "Yes" of docs/SPECIFICATION.md says, without any algorithm: the one model, least and greatest values, groups.
+use mathlib.Core.Path.{_≡_}
+use mathlib.Core.Logic.{_⊎_}
+use mathlib.Core.List.{List}
+use Prim.Native.Nat.{ℕ, _+_, _*_, _≤_, _<_}
+use lib.IntN.{ℤ, pos, natAbs}
+use lib.ListN.{length, getD}
+use Rattle.integers.specs.Integer.{_⩽_}
+use Rattle.lines.specs.declared.Line.{Line}
+use Rattle.lines.specs.Limits.{absentLeast, absentGreatest}
+use Rattle.lines.specs.Line.{Assignment, assignmentOf, Solves}
+
+-- t agrees with s on all variables before k
+abbrev pub Agrees : ℕ → Assignment → Assignment → Type 0
+Agrees k t s = (x : ℕ) → x < k → t x ≡ s x
+
+-- Variables in number order. Each takes the value nearest zero among the values that it has in solutions agreeing with all earlier choices.
+pub record IsModel (n : ℕ) (ls : List Line) (m : Assignment) : Type 0 where
+  pub solves : Solves ls m
+  pub nearest : (k : ℕ) → k < n → (t : Assignment) → Solves ls t → Agrees k t m → natAbs (m k) ≤ natAbs (t k)
+
+-- z is the greatest value of x over all integer solutions
+pub record IsGreatest (ls : List Line) (x : ℕ) (z : ℤ) : Type 0 where
+  pub bounds : (t : Assignment) → Solves ls t → t x ⩽ z
+  pub taken-by : Assignment
+  pub solves : Solves ls taken-by
+  pub taken : taken-by x ≡ z
+
+-- there is none: the values pass every bound
+pub record NoGreatest (ls : List Line) (x : ℕ) : Type 0 where
+  pub beyond : (z : ℤ) → (t : Assignment) × Solves ls t × (z ⩽ t x)
+
+-- z is the least value of x over all integer solutions
+pub record IsLeast (ls : List Line) (x : ℕ) (z : ℤ) : Type 0 where
+  pub bounds : (t : Assignment) → Solves ls t → z ⩽ t x
+  pub taken-by : Assignment
+  pub solves : Solves ls taken-by
+  pub taken : taken-by x ≡ z
+
+pub record NoLeast (ls : List Line) (x : ℕ) : Type 0 where
+  pub beyond : (z : ℤ) → (t : Assignment) × Solves ls t × (t x ⩽ z)
+
+-- x and r have the same value in every integer solution
+abbrev pub Together : List Line → ℕ → ℕ → Type 0
+Together ls x r = (t : Assignment) → Solves ls t → t x ≡ t r
+
+-- r is the lowest variable number that has the same value as x in every integer solution
+pub record IsGroup (ls : List Line) (x r : ℕ) : Type 0 where
+  pub together : Together ls x r
+  pub lowest : (q : ℕ) → q < r → Together ls x q → ⊥
+
+-- ---- as the numbers written
+abbrev pub LeastWritten : List Line → ℕ → ℤ → Type 0
+LeastWritten ls x w = IsLeast ls x w ⊎ (NoLeast ls x × (w ≡ absentLeast))
+
+abbrev pub GreatestWritten : List Line → ℕ → ℤ → Type 0
+GreatestWritten ls x w = IsGreatest ls x w ⊎ (NoGreatest ls x × (w ≡ absentGreatest))
+
+-- written on a yes: the model; for each variable its least, then its greatest value; the groups
+pub record Written (n : ℕ) (ls : List Line) (model bounds : List ℤ) (groups : List ℕ) : Type 0 where
+  pub model-length : length model ≡ n
+  pub model-is : IsModel n ls (assignmentOf model)
+  pub bounds-length : length bounds ≡ 2 * n
+  pub least-is : (x : ℕ) → x < n → LeastWritten ls x (getD bounds (2 * x) (pos 0))
+  pub greatest-is : (x : ℕ) → x < n → GreatestWritten ls x (getD bounds (2 * x + 1) (pos 0))
+  pub groups-length : length groups ≡ n
+  pub group-is : (x : ℕ) → x < n → IsGroup ls x (getD groups x 0)

@@ -1,0 +1,12 @@
+pub mod Points
+pub mod Tight
+pub mod Near
+pub mod Extend
+pub mod Untightened
+pub mod Model
+pub mod Exact
+pub mod Range
+pub mod Table
+pub mod Verdict
+pub mod Answers
+pub mod Agree

@@ -1,0 +1,11 @@
+pub mod Distance
+pub mod Row
+pub mod Reach
+pub mod Pigeon
+pub mod Least
+pub mod Mirror
+pub mod Negative
+pub mod Size
+pub mod Wide
+pub mod AllPairs
+pub mod Graph
