@@ -11,7 +11,7 @@ use lib.IntN.{ℤ}
 use lib.ListN.{length, getD}
 use mir.Syntax.{w32, w64}
 use mir.Val.{SFits}
-use Rattle.lines.specs.declared.Refusal.the-variants.{TooManyVariables, BrokenLength, WrongModelLength, LongRefutation}
+use Rattle.lines.specs.declared.Refusal.the-variants.{TooManyVariables, BrokenLength, WrongModelLength}
 use Rattle.lines.specs.declared.Validity.{Validity}
 use Rattle.lines.specs.declared.Validity.the-variants.{Valid}
 use Rattle.lines.specs.declared.Validity.the-variants as validity
@@ -21,11 +21,10 @@ use Rattle.lines.specs.Refusal.{_orElse_, refuseIf, validityOf}
 use Rattle.little_endian.specs.Bytes.{int32s}
 use Rattle.little_endian.specs.Writing.{signedBytes, signedBytes64, bytes32, int32Bytes, nat32Bytes, int64Bytes}
 use Rattle.little_endian.specs.Back.{length-bytesOf, int32s-back, nat32s-back, int64s-back}
-use Rattle.check_model.specs.declared.ModelAnswer.{ModelAnswer}
+use Rattle.check_answers.specs.declared.CheckAnswer.{CheckAnswer}
+use Rattle.check_answers.specs.Answer.{unlessRefused, unless-again}
 use Rattle.check_model.specs.Model.{modelValidity, modelAnswer}
-use Rattle.check_model.specs.Model as checked
-use Rattle.check_refutation.specs.declared.RefutationAnswer.{RefutationAnswer}
-use Rattle.check_refutation.specs.Answer.{unlessRefused, refutationValidity, refutationAnswer}
+use Rattle.check_refutation.specs.Answer.{refutationValidity, refutationAnswer}
 use Rattle.check_pieces.specs.Cut.{Words}
 use Rattle.c_codes.specs.ListBytes.{numberBytes, bytesValidity}
 use Rattle.c_checking.specs.Calls.{valueBytes, modelOfValues, refutationOfNumbers, modelOfBytes, refutationOfBytes}
@@ -91,13 +90,7 @@ module _ (n : ℕ) (L : List ℤ) (fits : (i : ℕ) → SFits w32 (number L i)) 
       let l = length-refutation R in
       let whole : length (nat32Bytes R) % numberBytes ≡ 0 = omega arith in
       let long = same-ltb (numberBytes * maxRefutation) (length (nat32Bytes R)) maxRefutation (length R) (λ e. omega arith) (λ e. omega arith) in
-      rw (list-in-bytes, list-back, nat32s-back R (words-at R w), long, eq-eqb _ _ whole) (go (validityOf n L) (ltb maxRefutation (length R)) _)
-    where
-      go : (v : Validity) (t : Bool) (a : RefutationAnswer)
-          → unlessRefused v (unlessRefused (refuseIf t LongRefutation) (unlessRefused (v orElse refuseIf t LongRefutation) a)) ≡ unlessRefused (v orElse refuseIf t LongRefutation) a
-      go Valid true a = refl
-      go Valid false a = refl
-      go (validity.Refused r) t a = refl
+      rw (list-in-bytes, list-back, nat32s-back R (words-at R w), long, eq-eqb _ _ whole) (unless-again (validityOf n L) _ _)
 
   pub model-in-bytes : (m : List ℤ) → ((i : ℕ) → SFits w64 (assignmentOf m i)) → modelOfBytes n (int32Bytes L) (int64Bytes m) ≡ modelAnswer n L m
   unfolding modelOfBytes modelOfValues modelAnswer modelValidity
@@ -106,9 +99,9 @@ module _ (n : ℕ) (L : List ℤ) (fits : (i : ℕ) → SFits w32 (number L i)) 
       let count = same-eqb (length (int64Bytes m)) (valueBytes * n) (length m) n (λ e. omega arith) (λ e. omega arith) in
       rw (list-in-bytes, list-back, int64s-back m f, count) (go (validityOf n L) (eqb (length m) n) _ _)
     where
-      go : (v : Validity) (t : Bool) (w : Validity) (a : ModelAnswer)
-          → checked.unlessRefused v (checked.unlessRefused (refuseIf (not t) WrongModelLength) (checked.unlessRefused (v orElse refuseIf (not t) WrongModelLength orElse w) a))
-          ≡ checked.unlessRefused (v orElse refuseIf (not t) WrongModelLength orElse w) a
+      go : (v : Validity) (t : Bool) (w : Validity) (a : CheckAnswer)
+          → unlessRefused v (unlessRefused (refuseIf (not t) WrongModelLength) (unlessRefused (v orElse refuseIf (not t) WrongModelLength orElse w) a))
+          ≡ unlessRefused (v orElse refuseIf (not t) WrongModelLength orElse w) a
       go Valid true w a = refl
       go Valid false w a = refl
       go (validity.Refused r) t w a = refl

@@ -1,4 +1,4 @@
 pub mod Calls
 pub mod Laws
-pub mod Apart
+pub mod Returned
 pub mod Bytes

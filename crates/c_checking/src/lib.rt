@@ -1,57 +1,41 @@
 // The exported checks of a model and of a refutation, on bytes: four little-endian bytes to a number of a list or a refutation,
 // eight to a value of a model. Each answers one number.
 use c_codes::MOST_NUMBERS;
-use c_codes::NO;
 use c_codes::NUMBER_BYTES;
+use c_codes::check_code;
 use c_codes::decode_list;
 use c_codes::refusal_code;
-use c_refutation_code::refutation_code;
+use check_answers::CheckAnswer;
+use check_model::check_model;
+use check_pieces::begin;
+use check_pieces::end;
+use check_pieces::take_on;
+use check_refutation::Progress;
 use lines::Refusal;
 use lines::Validity;
 use lines::limits::MAX_REFUTATION;
 use lines::limits::MAX_VARIABLES;
 use little_endian::decode_i64;
 use little_endian::u32_at;
-use check_model::ModelAnswer;
-use check_model::check_model;
-use check_pieces::begin;
-use check_pieces::end;
-use check_pieces::take_on;
-use check_refutation::Progress;
-use check_refutation::RefutationAnswer;
 ghost use mathlib.Core.Path.{_≡_};
 ghost use Prim.Native.Nat.{_≤_};
 ghost use Rattle.lines.specs.Limits.{maxVariables};
 ghost use Rattle.little_endian.specs.Bytes.{nat32s};
-ghost use Rattle.check_model.specs.Places as model;
 ghost use Rattle.check_refutation.specs.Progress.{start};
 ghost use Rattle.check_pieces.specs.Taken.{takeAll};
 ghost use Rattle.check_pieces.specs.Cut.{Words};
-ghost use Rattle.c_codes.specs.Codes.{refusalUnit};
-ghost use Rattle.c_checking.specs.Calls.{modelCode, modelOfValues, refutationOfNumbers, checkModel, checkRefutation};
+ghost use Rattle.c_checking.specs.Calls.{modelOfValues, refutationOfNumbers, checkModel, checkRefutation};
 
 // The bytes of a value of a model.
 const VALUE_BYTES: usize = 8;
 
-// The number that an answer on a model is returned as.
-fn model_code(a: ModelAnswer) -> i64
-    requires { ⌜ model.Below refusalUnit a ⌝ }
-    ensures { λ k. ⌜ k ≡ modelCode a ⌝ }
-{
-    match a {
-        ModelAnswer::Yes => 0,
-        ModelAnswer::No(k) => (NO + k) as i64,
-        ModelAnswer::Refused(r) => refusal_code(r),
-    }
-}
-
 // The answer on a model in bytes.
-fn model_of_values(n: usize, list: &[i32], model: &[u8]) -> ModelAnswer
+fn model_of_values(n: usize, list: &[i32], model: &[u8]) -> CheckAnswer
     requires { ⌜ n ≤ maxVariables ⌝ }
     ensures { λ r. ⌜ r ≡ modelOfValues n (now (list .entry)) (now (model .entry)) ⌝ }
 {
     if model.len() != VALUE_BYTES * n {
-        return ModelAnswer::Refused(Refusal::WrongModelLength);
+        return CheckAnswer::Refused(Refusal::WrongModelLength);
     }
     let mut values = [0i64; MAX_VARIABLES];
     decode_i64(model, &mut values);
@@ -73,14 +57,14 @@ fn take_bytes(list: &[i32], refutation: &[u8]) -> Progress
 }
 
 // The answer on a refutation in bytes.
-fn refutation_of_numbers(n: usize, list: &[i32], refutation: &[u8]) -> RefutationAnswer
+fn refutation_of_numbers(n: usize, list: &[i32], refutation: &[u8]) -> CheckAnswer
     ensures { λ r. ⌜ r ≡ refutationOfNumbers n (now (list .entry)) (now (refutation .entry)) ⌝ }
 {
     if NUMBER_BYTES * MAX_REFUTATION < refutation.len() {
-        return RefutationAnswer::Refused(Refusal::LongRefutation);
+        return CheckAnswer::Refused(Refusal::LongRefutation);
     }
     if refutation.len() % NUMBER_BYTES != 0 {
-        return RefutationAnswer::No(0);
+        return CheckAnswer::No(0);
     }
     end(take_bytes(list, refutation), n, list)
 }
@@ -97,7 +81,7 @@ pub extern "C" fn utvpi_check_model(n: u64, list: &[u8], model: &[u8]) -> i64
         return refusal_code(r);
     }
     let count = list.len() / NUMBER_BYTES;
-    model_code(model_of_values(variables, &numbers[0..count], model))
+    check_code(model_of_values(variables, &numbers[0..count], model))
 }
 
 // Does this refutation show that no whole numbers meet this list of n variables?
@@ -112,5 +96,5 @@ pub extern "C" fn utvpi_check_refutation(n: u64, list: &[u8], refutation: &[u8])
         return refusal_code(r);
     }
     let count = list.len() / NUMBER_BYTES;
-    refutation_code(refutation_of_numbers(variables, &numbers[0..count], refutation))
+    check_code(refutation_of_numbers(variables, &numbers[0..count], refutation))
 }

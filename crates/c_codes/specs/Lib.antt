@@ -1,3 +1,4 @@
 pub mod Codes
 pub mod Apart
+pub mod CheckCode
 pub mod ListBytes

@@ -1,5 +1,6 @@
-// What the exported functions share: the number that a refusal is returned as, and a list out of bytes, four little-endian
-// ones to a number.
+// What the exported functions share: the numbers that a refusal and an answer of a check are returned as, and a list out of
+// bytes, four little-endian ones to a number.
+use check_answers::CheckAnswer;
 use lines::Refusal;
 use lines::Validity;
 use lines::limits::LINE_SIZE;
@@ -13,7 +14,9 @@ ghost use Prim.Native.Nat.{_*_, _<_, _≤_};
 ghost use lib.ListN.{length};
 ghost use Rattle.lines.specs.Limits.{lineSize, maxLines};
 ghost use Rattle.lines.specs.Refusal.{placeOf};
+ghost use Rattle.check_answers.specs.Answer.{Below};
 ghost use Rattle.c_codes.specs.Codes.{refusalUnit, refusalCode};
+ghost use Rattle.c_codes.specs.CheckCode.{checkCode};
 ghost use Rattle.c_codes.specs.ListBytes.{Decoded};
 
 // The answer no is this and, of a model, the number of the line that fails, of a refutation the place where it breaks.
@@ -35,6 +38,18 @@ pub fn refusal_code(r: Refusal) -> i64
     let s = number_and_place(r);
     let code = s.number * REFUSAL_UNIT + s.place;
     -(code as i64)
+}
+
+// The number that an answer of a check is returned as.
+pub fn check_code(a: CheckAnswer) -> i64
+    requires { ⌜ Below refusalUnit a ⌝ }
+    ensures { λ k. ⌜ k ≡ checkCode a ⌝ }
+{
+    match a {
+        CheckAnswer::Yes => 0,
+        CheckAnswer::No(k) => (NO + k) as i64,
+        CheckAnswer::Refused(r) => refusal_code(r),
+    }
 }
 
 // Refusals 1 to 6 of a list in bytes. Where none applies, its numbers are written.

@@ -11,7 +11,7 @@ use Rattle.check_refutation.specs.Answer.{refutationAnswer}
 use Rattle.check_pieces.specs.Taken.{takeOn, takeAll, endAnswer}
 use Rattle.check_pieces.specs.Cut.{Words}
 use Rattle.check_pieces.specs.Cut as cut
-use Rattle.c_refutation_code.specs.Code.{refutationCode}
+use Rattle.c_codes.specs.CheckCode.{checkCode}
 use Rattle.c_pieces.specs.declared.Kept.{Kept}
 
 -- ---- what is kept
@@ -43,7 +43,7 @@ abbrev pub refutationTake : List ℤ → Kept → ℕ → Kept
 refutationTake L k r = keptOf (takeOn L (progressOf k) r)
 
 abbrev pub refutationEnd : ℕ → List ℤ → Kept → ℤ
-refutationEnd n L k = refutationCode (endAnswer n L (progressOf k))
+refutationEnd n L k = checkCode (endAnswer n L (progressOf k))
 
 -- one call for each number
 unfoldable pub takeEach : List ℤ → Kept → List ℕ → Kept
@@ -56,7 +56,7 @@ each-taken L k [] = refl
 each-taken L k (r ∷ R) = each-taken L (refutationTake L k r) R ∙ ap (λ (s : Progress). takeAll L s R) (kept-progress (takeOn L (progressOf k) r))
 
 -- all numbers taken by such calls, the end returns what the check of the whole answers
-pub each-answered : (n : ℕ) (L : List ℤ) (R : List ℕ) → Words R → refutationEnd n L (takeEach L refutationBegin R) ≡ refutationCode (refutationAnswer n L R)
+pub each-answered : (n : ℕ) (L : List ℤ) (R : List ℕ) → Words R → refutationEnd n L (takeEach L refutationBegin R) ≡ checkCode (refutationAnswer n L R)
 each-answered n L R w =
-    ap (λ (s : Progress). refutationCode (endAnswer n L s)) (each-taken L refutationBegin R ∙ ap (λ (s : Progress). takeAll L s R) (kept-progress start))
-    ∙ ap refutationCode (cut.whole n L R w)
+    ap (λ (s : Progress). checkCode (endAnswer n L s)) (each-taken L refutationBegin R ∙ ap (λ (s : Progress). takeAll L s R) (kept-progress start))
+    ∙ ap checkCode (cut.whole n L R w)

@@ -1,6 +1,6 @@
 // The exported check of a refutation that arrives in pieces: begin, take its numbers one after another, and end. What lies
 // between two of them C keeps.
-use c_refutation_code::refutation_code;
+use c_codes::check_code;
 use check_pieces::begin;
 use check_pieces::end;
 use check_pieces::take_on;
@@ -88,5 +88,5 @@ pub extern "C" fn utvpi_refutation_take(kept: Kept, list: &[i32], number: u32) -
 pub extern "C" fn utvpi_refutation_end(kept: Kept, n: u64, list: &[i32]) -> i64
     ensures { λ r. ⌜ r ≡ refutationEnd n (now (list .entry)) kept ⌝ }
 {
-    refutation_code(end(progress_of(kept), n as usize, list))
+    check_code(end(progress_of(kept), n as usize, list))
 }

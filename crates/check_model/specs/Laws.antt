@@ -22,7 +22,7 @@ use Rattle.lines.specs.Line.{Assignment, lineAt, lineCount, linesOf, meets, ass
 use Rattle.lines.specs.Refusal.{_orElse_, refuseIf}
 use Rattle.lines.specs.Valid.{VariableOk, ListOk, valid-list, or-valid, not-refused}
 use Rattle.lines.specs.Laws.{lines-from, lines-past}
-use Rattle.check_model.specs.declared.ModelAnswer.the-variants.{Yes, No}
+use Rattle.check_answers.specs.declared.CheckAnswer.the-variants.{Yes, No}
 use Rattle.check_model.specs.Model.{valuesValidity, modelValidity, firstFailing}
 
 -- ---- what a valid model grants

@@ -13,14 +13,14 @@ use Rattle.integers.specs.Laws.{never}
 use Rattle.integers.specs.Sequence.{tabulate}
 use Rattle.lines.specs.declared.Line.{Line}
 use Rattle.lines.specs.declared.Refusal.{Refusal}
-use Rattle.lines.specs.declared.Validity.{Validity}
 use Rattle.lines.specs.declared.Validity.the-variants.{Valid}
 use Rattle.lines.specs.declared.Validity.the-variants as validity
 use Rattle.lines.specs.Line.{Assignment, lineAt, lineCount, linesOf, Meets, meets, Solves, assignmentOf}
 use Rattle.lines.specs.Solutions.{meets-true, solves-at}
-use Rattle.check_model.specs.declared.ModelAnswer.{ModelAnswer}
-use Rattle.check_model.specs.declared.ModelAnswer.the-variants.{Yes, No, Refused}
-use Rattle.check_model.specs.Model.{modelValidity, firstFailing, unlessRefused, modelAnswer}
+use Rattle.check_answers.specs.declared.CheckAnswer.{CheckAnswer}
+use Rattle.check_answers.specs.declared.CheckAnswer.the-variants.{Yes, No, Refused}
+use Rattle.check_answers.specs.Answer.{NotRefused, unrefused, refused-when}
+use Rattle.check_model.specs.Model.{modelValidity, firstFailing, modelAnswer}
 use Rattle.check_model.specs.Laws.{failing-from, failing-past}
 
 -- line k is the first that fails
@@ -45,7 +45,7 @@ module _ (L : List ℤ) (s : Assignment) where
   abbrev MetBefore : ℕ → Type 0
   MetBefore i = (k : ℕ) → k < i → Meets s (lineAt L k)
 
-  abbrev found : ModelAnswer
+  abbrev found : CheckAnswer
   found = firstFailing s 0 (linesOf L)
 
   -- lines that are met are passed
@@ -85,25 +85,17 @@ module _ (L : List ℤ) (s : Assignment) where
   found-no k e =
       ⊎-elim (λ h. never (cc (solved h))) (λ f. let q : f .0 ≡ k = cc (failed (f .0) (f .1)) in subst (FirstFails L s) q (f .1)) cases
 
-  found-none : (r : Refusal) → found ≡ Refused r → ⊥
-  found-none r e = ⊎-elim (λ h. never (cc (solved h))) (λ f. never (cc (failed (f .0) (f .1)))) cases
+  found-some : NotRefused found
+  found-some = ⊎-elim (λ h. subst NotRefused (sym (solved h)) tt) (λ f. subst NotRefused (sym (failed (f .0) (f .1))) tt) cases
 
 -- ---- the answer
--- an answer that is no refusal is given exactly if nothing is refused
-unrefused : (v : Validity) (a b : ModelAnswer) → ((r : Refusal) → b ≡ Refused r → ⊥) → (unlessRefused v a ≡ b) ↔ ((v ≡ Valid) × (a ≡ b))
-unrefused v a b h = (fore v, λ e. ap (λ (t : Validity). unlessRefused t a) (e .0) ∙ e .1)
-  where
-    fore : (v : Validity) → unlessRefused v a ≡ b → (v ≡ Valid) × (a ≡ b)
-    fore Valid e = (refl, e)
-    fore (validity.Refused r) e = absurd (h r (sym e))
-
 module _ (n : ℕ) (L m : List ℤ) where
   -- yes: nothing is refused, and the values solve the list
   pub yes-exactly : (modelAnswer n L m ≡ Yes) ↔ ((modelValidity n L m ≡ Valid) × Solves (linesOf L) (assignmentOf m))
   unfolding modelAnswer
   yes-exactly =
       let s = assignmentOf m in
-      let u = unrefused (modelValidity n L m) (firstFailing s 0 (linesOf L)) Yes (λ r e. never (cc)) in
+      let u = unrefused (modelValidity n L m) (firstFailing s 0 (linesOf L)) Yes tt in
       ((λ e. (u .0 e .0, found-yes L s (u .0 e .1))), (λ h. u .1 (h .0, solved L s (h .1))))
 
   -- no with line k: nothing is refused, and line k is the first that fails
@@ -111,14 +103,10 @@ module _ (n : ℕ) (L m : List ℤ) where
   unfolding modelAnswer
   no-exactly k =
       let s = assignmentOf m in
-      let u = unrefused (modelValidity n L m) (firstFailing s 0 (linesOf L)) (No k) (λ r e. never (cc)) in
+      let u = unrefused (modelValidity n L m) (firstFailing s 0 (linesOf L)) (No k) tt in
       ((λ e. (u .0 e .0, found-no L s k (u .0 e .1))), (λ h. u .1 (h .0, failed L s k (h .1))))
 
   -- a refusal: the first that applies
   pub refused-exactly : (r : Refusal) → (modelAnswer n L m ≡ Refused r) ↔ (modelValidity n L m ≡ validity.Refused r)
   unfolding modelAnswer
-  refused-exactly r = (fore (modelValidity n L m), λ e. ap (λ (t : Validity). unlessRefused t (firstFailing (assignmentOf m) 0 (linesOf L))) e)
-    where
-      fore : (v : Validity) → unlessRefused v (firstFailing (assignmentOf m) 0 (linesOf L)) ≡ Refused r → v ≡ validity.Refused r
-      fore Valid e = absurd (found-none L (assignmentOf m) r e)
-      fore (validity.Refused q) e = cc
+  refused-exactly = refused-when (modelValidity n L m) (firstFailing (assignmentOf m) 0 (linesOf L)) (found-some L (assignmentOf m))

@@ -10,12 +10,12 @@ use Rattle.lines.specs.declared.Line.{Line}
 use Rattle.lines.specs.declared.Refusal.the-variants.{WrongModelLength, BadValue}
 use Rattle.lines.specs.declared.Validity.{Validity}
 use Rattle.lines.specs.declared.Validity.the-variants.{Valid}
-use Rattle.lines.specs.declared.Validity.the-variants as validity
 use Rattle.lines.specs.Limits.{maxValue}
 use Rattle.lines.specs.Line.{Assignment, linesOf, meets, assignmentOf}
 use Rattle.lines.specs.Refusal.{_orElse_, refuseIf, validityOf}
-use Rattle.check_model.specs.declared.ModelAnswer.{ModelAnswer}
-use Rattle.check_model.specs.declared.ModelAnswer.the-variants.{Yes, No, Refused}
+use Rattle.check_answers.specs.declared.CheckAnswer.{CheckAnswer}
+use Rattle.check_answers.specs.declared.CheckAnswer.the-variants.{Yes, No}
+use Rattle.check_answers.specs.Answer.{unlessRefused}
 
 -- 10: values from the first, which has index k
 unfoldable pub valuesValidity : ℕ → List ℤ → Validity
@@ -30,15 +30,10 @@ modelValidity n L m =
     orElse valuesValidity 0 m
 
 -- lines from the first, which has number k: no with the first that fails, in list order
-unfoldable pub firstFailing : Assignment → ℕ → List Line → ModelAnswer
+unfoldable pub firstFailing : Assignment → ℕ → List Line → CheckAnswer
 firstFailing s k [] = Yes
 firstFailing s k (l ∷ ls) = cond (meets s l) (firstFailing s (k + 1) ls) (No k)
 
--- a refusal goes first
-abbrev pub unlessRefused : Validity → ModelAnswer → ModelAnswer
-unlessRefused Valid a = a
-unlessRefused (validity.Refused r) a = Refused r
-
 -- the answer to model m of a list for n variables
-unfoldable pub modelAnswer : ℕ → List ℤ → List ℤ → ModelAnswer
+unfoldable pub modelAnswer : ℕ → List ℤ → List ℤ → CheckAnswer
 modelAnswer n L m = unlessRefused (modelValidity n L m) (firstFailing (assignmentOf m) 0 (linesOf L))

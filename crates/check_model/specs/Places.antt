@@ -16,21 +16,12 @@ use Rattle.lines.specs.declared.Validity.{Validity}
 use Rattle.lines.specs.declared.Validity.the-variants as validity
 use Rattle.lines.specs.Limits.{maxVariables, maxLines, maxValue}
 use Rattle.lines.specs.Line.{Assignment, lineAt, lineCount, linesOf, meets, assignmentOf}
-use Rattle.lines.specs.Refusal.{placeOf, _orElse_, refuseIf, validityOf}
+use Rattle.lines.specs.Refusal.{_orElse_, refuseIf, validityOf}
 use Rattle.lines.specs.Valid.{ListOk, valid-list, or-valid}
-use Rattle.lines.specs.Places.{Placed, valid, refused, placed-or, placed-if, place-at, placed-list}
-use Rattle.check_model.specs.declared.ModelAnswer.{ModelAnswer}
-use Rattle.check_model.specs.declared.ModelAnswer.the-variants.{Yes, No, Refused}
-use Rattle.check_model.specs.Model.{valuesValidity, modelValidity, firstFailing, unlessRefused, modelAnswer}
-
-abbrev pub Below : ℕ → ModelAnswer → Type 0
-Below m Yes = Unit {0}
-Below m (No k) = k < m
-Below m (Refused r) = placeOf r < m
-
-pub below-unless : (m : ℕ) (v : Validity) (a : ModelAnswer) → Placed m v → (v ≡ validity.Valid → Below m a) → Below m (unlessRefused v a)
-below-unless m validity.Valid a p h = h refl
-below-unless m (validity.Refused r) a p h = place-at p
+use Rattle.lines.specs.Places.{Placed, valid, refused, placed-or, placed-if, placed-list}
+use Rattle.check_answers.specs.declared.CheckAnswer.the-variants.{No}
+use Rattle.check_answers.specs.Answer.{Below, below-unless}
+use Rattle.check_model.specs.Model.{valuesValidity, modelValidity, firstFailing, modelAnswer}
 
 module _ (m : ℕ) where
   values-placed : (k : ℕ) (vs : List ℤ) → k + length vs ≤ m → Placed m (valuesValidity k vs)

@@ -1,4 +1,5 @@
 // The model check: whether proposed values solve a list, or the first line that they fail.
+use check_answers::CheckAnswer;
 use integers::between;
 use lines::Line;
 use lines::Refusal;
@@ -14,13 +15,6 @@ ghost use Rattle.lines.specs.Line.{linesOf, leftSide, meets, assignmentOf};
 ghost use Rattle.lines.specs.Valid.{LineOk, LinesOk};
 ghost use Rattle.check_model.specs.Model.{valuesValidity, modelValidity, firstFailing, modelAnswer};
 ghost use Rattle.check_model.specs.Laws.{ValuesOk, TermOk};
-
-// Yes, no with the number of the first line that fails, or a refusal.
-pub enum ModelAnswer {
-    Yes,
-    No(usize),
-    Refused(Refusal),
-}
 
 // A coefficient times its variable's value. With coefficient 0 no value is read: there may be none.
 fn term(coefficient: i32, variable: i32, model: &[i64]) -> i64
@@ -52,7 +46,7 @@ fn is_met(line: Line, model: &[i64]) -> bool
 }
 
 // Yes, or no with the first line that the values fail, in list order.
-fn first_failing(list: &[i32], model: &[i64]) -> ModelAnswer
+fn first_failing(list: &[i32], model: &[i64]) -> CheckAnswer
     requires { ⌜ LinesOk (length (now model)) (now list) × ValuesOk (now model) ⌝ }
     ensures { λ r. ⌜ r ≡ firstFailing (assignmentOf (now (model .entry))) 0 (linesOf (now (list .entry))) ⌝ }
 {
@@ -68,9 +62,9 @@ fn first_failing(list: &[i32], model: &[i64]) -> ModelAnswer
         k += 1;
     };
     if failing < count {
-        ModelAnswer::No(failing)
+        CheckAnswer::No(failing)
     } else {
-        ModelAnswer::Yes
+        CheckAnswer::Yes
     }
 }
 
@@ -103,12 +97,12 @@ fn model_validity(n: usize, list: &[i32], model: &[i64]) -> Validity
 }
 
 // Whether the values of a model solve a list for n variables.
-pub fn check_model(n: usize, list: &[i32], model: &[i64]) -> ModelAnswer
+pub fn check_model(n: usize, list: &[i32], model: &[i64]) -> CheckAnswer
     ensures { λ r. ⌜ r ≡ modelAnswer n (now (list .entry)) (now (model .entry)) ⌝ }
 {
     let found = model_validity(n, list, model);
     if let Validity::Refused(r) = found {
-        return ModelAnswer::Refused(r);
+        return CheckAnswer::Refused(r);
     }
     first_failing(list, model)
 }

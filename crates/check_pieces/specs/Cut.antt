@@ -13,11 +13,12 @@ use Rattle.lines.specs.declared.Validity.{Validity}
 use Rattle.lines.specs.declared.Validity.the-variants.{Valid, Refused}
 use Rattle.lines.specs.Limits.{maxVariables, maxRefutation}
 use Rattle.lines.specs.Refusal.{_orElse_, refuseIf, validityOf}
+use Rattle.check_answers.specs.declared.CheckAnswer.the-variants.{No}
+use Rattle.check_answers.specs.Answer.{unlessRefused}
 use Rattle.check_refutation.specs.declared.Progress.{Progress}
-use Rattle.check_refutation.specs.declared.RefutationAnswer.the-variants.{No}
 use Rattle.check_refutation.specs.Progress.{start, advance, run}
 use Rattle.check_refutation.specs.Small.{Small, start-small, advance-small, advance-read}
-use Rattle.check_refutation.specs.Answer.{unlessRefused, verdict, refutationValidity, refutationAnswer}
+use Rattle.check_refutation.specs.Answer.{verdict, refutationValidity, refutationAnswer}
 use Rattle.check_pieces.specs.Taken.{isSmall, takeOn, takeAll, endAnswer, names-ok, valid-names, test-small}
 
 -- ---- pieces, of any list and from any state

@@ -16,12 +16,13 @@ use Rattle.lines.specs.Line.{lineAt, lineCount}
 use Rattle.lines.specs.Refusal.{_orElse_, refuseIf, lineValidity, validityOf}
 use Rattle.lines.specs.Valid.{ListOk, line-ok, valid-list, line-valid-more}
 use Rattle.steps.specs.Step.{maxWeight, NamedOk}
+use Rattle.check_answers.specs.declared.CheckAnswer.{CheckAnswer}
+use Rattle.check_answers.specs.declared.CheckAnswer.the-variants.{No}
+use Rattle.check_answers.specs.Answer.{unlessRefused}
 use Rattle.check_refutation.specs.declared.Progress.{Progress}
-use Rattle.check_refutation.specs.declared.RefutationAnswer.{RefutationAnswer}
-use Rattle.check_refutation.specs.declared.RefutationAnswer.the-variants.{No}
 use Rattle.check_refutation.specs.Progress.{onlyIf, advance}
 use Rattle.check_refutation.specs.Small.{Small}
-use Rattle.check_refutation.specs.Answer.{unlessRefused, verdict}
+use Rattle.check_refutation.specs.Answer.{verdict}
 
 -- ---- what can be taken on
 -- the line that a number names, where there is one, keeps the line rules
@@ -54,7 +55,7 @@ takeAll L s (r ∷ R) = takeAll L (takeOn L s r) R
 
 -- ---- the end
 -- 1 to 6; then 11; then yes, or no with the place; what no refutation could have left breaks at once
-unfoldable pub endAnswer : ℕ → List ℤ → Progress → RefutationAnswer
+unfoldable pub endAnswer : ℕ → List ℤ → Progress → CheckAnswer
 endAnswer n L s = unlessRefused (validityOf n L orElse refuseIf (ltb maxRefutation (s .read)) LongRefutation) (cond (isSmall s) (verdict s) (No 0))
 
 -- ---- what the tests grant

@@ -1,5 +1,7 @@
 // A refutation that arrives in pieces: begin, take the numbers as they come, and ask for the answer at the end. What is
 // kept between two numbers is the checker's own state, ten numbers; the refutation itself is never kept.
+use check_answers::CheckAnswer;
+use check_refutation::Progress;
 use integers::between;
 use lines::Refusal;
 use lines::Validity;
@@ -10,8 +12,6 @@ use lines::limits::MAX_VARIABLES;
 use lines::line_at;
 use lines::line_validity;
 use lines::list_validity;
-use check_refutation::Progress;
-use check_refutation::RefutationAnswer;
 ghost use mathlib.Core.Path.{_≡_};
 ghost use Prim.Native.Nat.{_*_, _≤_};
 ghost use Rattle.integers.specs.Integer.{isWithin};
@@ -83,18 +83,18 @@ pub fn take_on(mut kept: Progress, list: &[i32], number: u32) -> Progress
 }
 
 // The answer on all numbers that were taken: refusals 1 to 6, then 11, then whether they refute the list.
-pub fn end(kept: Progress, n: usize, list: &[i32]) -> RefutationAnswer
+pub fn end(kept: Progress, n: usize, list: &[i32]) -> CheckAnswer
     ensures { λ r. ⌜ r ≡ endAnswer n (now (list .entry)) kept ⌝ }
 {
     let found = list_validity(n, list);
     if let Validity::Refused(r) = found {
-        return RefutationAnswer::Refused(r);
+        return CheckAnswer::Refused(r);
     }
     if MAX_REFUTATION < kept.read {
-        return RefutationAnswer::Refused(Refusal::LongRefutation);
+        return CheckAnswer::Refused(Refusal::LongRefutation);
     }
     if !is_small(kept) {
-        return RefutationAnswer::No(0);
+        return CheckAnswer::No(0);
     }
     kept.judge()
 }

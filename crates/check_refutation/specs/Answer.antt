@@ -6,13 +6,12 @@ use lib.Dec.{ltb}
 use lib.IntN.{ℤ}
 use lib.ListN.{length}
 use Rattle.lines.specs.declared.Validity.{Validity}
-use Rattle.lines.specs.declared.Validity.the-variants.{Valid}
-use Rattle.lines.specs.declared.Validity.the-variants as validity
 use Rattle.lines.specs.declared.Refusal.the-variants.{LongRefutation}
 use Rattle.lines.specs.Limits.{maxRefutation}
 use Rattle.lines.specs.Refusal.{_orElse_, refuseIf, validityOf}
-use Rattle.check_refutation.specs.declared.RefutationAnswer.{RefutationAnswer}
-use Rattle.check_refutation.specs.declared.RefutationAnswer.the-variants.{Yes, No, Refused}
+use Rattle.check_answers.specs.declared.CheckAnswer.{CheckAnswer}
+use Rattle.check_answers.specs.declared.CheckAnswer.the-variants.{Yes, No}
+use Rattle.check_answers.specs.Answer.{unlessRefused}
 use Rattle.check_refutation.specs.declared.Progress.{Progress}
 use Rattle.check_refutation.specs.Progress.{start, run, accepted, brokenAt}
 
@@ -20,14 +19,9 @@ use Rattle.check_refutation.specs.Progress.{start, run, accepted, broken
 unfoldable pub refutationValidity : ℕ → List ℤ → List ℕ → Validity
 refutationValidity n L R = validityOf n L orElse refuseIf (ltb maxRefutation (length R)) LongRefutation
 
--- a refusal goes first
-abbrev pub unlessRefused : Validity → RefutationAnswer → RefutationAnswer
-unlessRefused Valid a = a
-unlessRefused (validity.Refused r) a = Refused r
-
 -- yes, or no with the place where it breaks, by the checker's rule
-unfoldable pub verdict : Progress → RefutationAnswer
+unfoldable pub verdict : Progress → CheckAnswer
 verdict s = cond (accepted s) Yes (No (brokenAt s))
 
-unfoldable pub refutationAnswer : ℕ → List ℤ → List ℕ → RefutationAnswer
+unfoldable pub refutationAnswer : ℕ → List ℤ → List ℕ → CheckAnswer
 refutationAnswer n L R = unlessRefused (refutationValidity n L R) (verdict (run L start R))

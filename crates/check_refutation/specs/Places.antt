@@ -1,5 +1,5 @@
 -- The place of an answer is small: below any bound that passes the limits of lines and of a refutation.
-use mathlib.Core.Path.{_≡_, refl}
+use mathlib.Core.Path.{_≡_}
 use mathlib.Core.Bool.{not, _||_}
 use mathlib.Core.List.{List}
 use Prim.Native.Nat.{ℕ, _+_, _<_, _≤_}
@@ -12,24 +12,14 @@ use Rattle.lines.specs.declared.Refusal.the-variants.{LongRefutation}
 use Rattle.lines.specs.declared.Validity.{Validity}
 use Rattle.lines.specs.declared.Validity.the-variants as validity
 use Rattle.lines.specs.Limits.{maxLines, maxRefutation}
-use Rattle.lines.specs.Refusal.{placeOf, _orElse_, refuseIf, validityOf}
+use Rattle.lines.specs.Refusal.{_orElse_, refuseIf, validityOf}
 use Rattle.lines.specs.Valid.{or-valid, not-refused}
-use Rattle.lines.specs.Places.{Placed, placed-or, placed-if, place-at, placed-list}
-use Rattle.check_refutation.specs.declared.RefutationAnswer.{RefutationAnswer}
-use Rattle.check_refutation.specs.declared.RefutationAnswer.the-variants.{Yes, No, Refused}
+use Rattle.lines.specs.Places.{placed-or, placed-if, placed-list}
+use Rattle.check_answers.specs.Answer.{Below, below-unless}
 use Rattle.check_refutation.specs.declared.Progress.{Progress}
 use Rattle.check_refutation.specs.Progress.{headSize, start, countsOk, run, accepted, kindOk, brokenAt}
 use Rattle.check_refutation.specs.Small.{either, run-read, run-wrong}
-use Rattle.check_refutation.specs.Answer.{refutationValidity, unlessRefused, verdict, refutationAnswer}
-
-abbrev pub Below : ℕ → RefutationAnswer → Type 0
-Below m Yes = Unit {0}
-Below m (No k) = k < m
-Below m (Refused r) = placeOf r < m
-
-pub below-unless : (m : ℕ) (v : Validity) (a : RefutationAnswer) → Placed m v → (v ≡ validity.Valid → Below m a) → Below m (unlessRefused v a)
-below-unless m validity.Valid a p h = h refl
-below-unless m (validity.Refused r) a p h = place-at p
+use Rattle.check_refutation.specs.Answer.{refutationValidity, verdict, refutationAnswer}
 
 -- where a state breaks is hardly past what it has read
 broken-small : (s : Progress) → s .wrong ≤ s .read → brokenAt s ≤ s .read + 2

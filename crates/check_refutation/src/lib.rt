@@ -1,5 +1,6 @@
 // The refutation checker: one pass over the numbers of a refutation (the field's term: a certificate), each read once.
 // It knows nothing of how a refutation is found. Tests are joined by & and |, which leave one way through the code.
+use check_answers::CheckAnswer;
 use integers::halved;
 use lines::Refusal;
 use lines::Validity;
@@ -42,12 +43,6 @@ pub struct Progress {
     pub second: i64,
     pub good: bool,
     pub wrong: usize,
-}
-
-pub enum RefutationAnswer {
-    Yes,
-    No(usize),
-    Refused(Refusal),
 }
 
 // Whether a kind is one of the three.
@@ -249,14 +244,14 @@ impl Progress {
     }
 
     // Yes, or no with the place where what was read breaks.
-    pub fn judge(self) -> RefutationAnswer
+    pub fn judge(self) -> CheckAnswer
         requires { ⌜ Small self ⌝ }
         ensures { λ r. ⌜ r ≡ verdict self ⌝ }
     {
         if self.is_accepted() {
-            return RefutationAnswer::Yes;
+            return CheckAnswer::Yes;
         }
-        RefutationAnswer::No(self.broken_at())
+        CheckAnswer::No(self.broken_at())
     }
 }
 
@@ -275,15 +270,15 @@ fn read_all(list: &[i32], refutation: &[u32]) -> Progress
 }
 
 // Refusals 1 to 6, then 11, then yes, or no with the place where the refutation breaks.
-pub fn check_refutation(n: usize, list: &[i32], refutation: &[u32]) -> RefutationAnswer
+pub fn check_refutation(n: usize, list: &[i32], refutation: &[u32]) -> CheckAnswer
     ensures { λ r. ⌜ r ≡ refutationAnswer n (now (list .entry)) (now (refutation .entry)) ⌝ }
 {
     let found = list_validity(n, list);
     if let Validity::Refused(r) = found {
-        return RefutationAnswer::Refused(r);
+        return CheckAnswer::Refused(r);
     }
     if MAX_REFUTATION < refutation.len() {
-        return RefutationAnswer::Refused(Refusal::LongRefutation);
+        return CheckAnswer::Refused(Refusal::LongRefutation);
     }
     read_all(list, refutation).judge()
 }

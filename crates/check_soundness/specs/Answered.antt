@@ -1,5 +1,5 @@
 -- What the checker's answers say: yes, that the list is valid, the refutation not too long and of one of the three kinds; no, the place that its rule computes.
-use mathlib.Core.Path.{_≡_, refl, sym, subst}
+use mathlib.Core.Path.{_≡_, refl}
 use mathlib.Core.Logic.{_↔_}
 use mathlib.Core.Bool.{Bool, true, false, cond}
 use mathlib.Core.List.{List, _++_}
@@ -8,33 +8,22 @@ use borrow.Author.Tests.{le-ltb}
 use lib.IntN.{ℤ}
 use lib.ListN.{length}
 use Rattle.integers.specs.Laws.{never}
-use Rattle.lines.specs.declared.Validity.{Validity}
 use Rattle.lines.specs.declared.Validity.the-variants.{Valid}
-use Rattle.lines.specs.declared.Validity.the-variants as validity
 use Rattle.lines.specs.Limits.{maxRefutation}
 use Rattle.lines.specs.Line.{Solvable, linesOf}
 use Rattle.lines.specs.Refusal.{validityOf}
 use Rattle.lines.specs.Valid.{valid-list, or-valid}
+use Rattle.check_answers.specs.declared.CheckAnswer.{CheckAnswer}
+use Rattle.check_answers.specs.declared.CheckAnswer.the-variants.{Yes, No}
+use Rattle.check_answers.specs.Answer.{NotRefused, unrefused}
 use Rattle.check_refutation.specs.declared.Progress.{Progress}
-use Rattle.check_refutation.specs.declared.RefutationAnswer.{RefutationAnswer}
-use Rattle.check_refutation.specs.declared.RefutationAnswer.the-variants.{Yes, No, Refused}
 use Rattle.check_refutation.specs.Progress.{start, run, accepted, accepts, brokenAt}
-use Rattle.check_refutation.specs.Answer.{refutationValidity, unlessRefused, verdict, refutationAnswer}
+use Rattle.check_refutation.specs.Answer.{refutationValidity, verdict, refutationAnswer}
 use Rattle.check_refutation.specs.Places.{not-long}
 use Rattle.check_soundness.specs.Refutes.{Refutes}
 use Rattle.check_soundness.specs.Meaning.{accepts-exactly}
 use Rattle.check_soundness.specs.Place.{placeIn}
 use Rattle.check_soundness.specs.Sound.{accepts-nothing-solved, accepts-longer}
-
--- an answer that is no refusal: then nothing is refused
-abbrev pub NotRefused : RefutationAnswer → Type 0
-NotRefused Yes = Unit {0}
-NotRefused (No k) = Unit {0}
-NotRefused (Refused r) = ⊥
-
-pub unrefused : (v : Validity) (a b : RefutationAnswer) → NotRefused b → unlessRefused v a ≡ b → (v ≡ Valid) × (a ≡ b)
-unrefused Valid a b h e = (refl, e)
-unrefused (validity.Refused r) a b h e = absurd (subst NotRefused (sym e) h)
 
 -- yes and no, by the checker's rule
 verdict-yes : (s : Progress) → (verdict s ≡ Yes) ↔ (accepted s ≡ true)
@@ -54,10 +43,10 @@ verdict-no s k = (go (accepted s), (λ h. rw (h .0, h .1)))
     go false e = (refl, cc)
 
 module _ (n : ℕ) (L : List ℤ) (R : List ℕ) where
-  answered : (a : RefutationAnswer) → NotRefused a → (refutationAnswer n L R ≡ a) ↔ ((validityOf n L ≡ Valid) × (length R ≤ maxRefutation) × (verdict (run L start R) ≡ a))
+  answered : (a : CheckAnswer) → NotRefused a → (refutationAnswer n L R ≡ a) ↔ ((validityOf n L ≡ Valid) × (length R ≤ maxRefutation) × (verdict (run L start R) ≡ a))
   unfolding refutationAnswer refutationValidity
   answered a h = (
-    (λ e. let u = unrefused _ _ a h e in (or-valid (validityOf n L) _ (u .0) .0, not-long (validityOf n L) (length R) (u .0), u .1)),
+    (λ e. let u = unrefused _ _ a h .0 e in (or-valid (validityOf n L) _ (u .0) .0, not-long (validityOf n L) (length R) (u .0), u .1)),
     (λ h. rw (h .0, le-ltb maxRefutation (length R) (h .1)) (h .2)),
   )
 

@@ -25,8 +25,8 @@ use Rattle.steps.specs.declared.NamedStep.the-variants.{Found, Nothing}
 use Rattle.steps.specs.Point.{opposite}
 use Rattle.steps.specs.Step.{stepNumbered}
 use Rattle.steps.specs.Walk.{total}
+use Rattle.check_answers.specs.declared.CheckAnswer.the-variants.{No}
 use Rattle.check_refutation.specs.declared.Progress.{Progress}
-use Rattle.check_refutation.specs.declared.RefutationAnswer.the-variants.{No}
 use Rattle.check_refutation.specs.Progress.{headSize, countsOk, joins, turns, along, advance, run, closes, accepts, kindOk}
 use Rattle.check_refutation.specs.Small.{run-read, run-snoc}
 use Rattle.check_refutation.specs.Answer.{refutationAnswer}

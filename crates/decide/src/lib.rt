@@ -1,20 +1,20 @@
 // Deciding a list: a refutation if there is one, else the model, the bounds and the groups.
-use decide_yes::write_answers;
 use decide_buffers::clear;
 use decide_buffers::decide_validity;
 use decide_buffers::work_room;
-use engine_closed_walk::refuted_at_once;
-use engine_halves_walks::halves_at_once;
+use decide_false_line::first_false;
 use decide_halves::first_bad;
-use lines::Refusal;
-use lines::Validity;
-use lines::limits::LINE_SIZE;
-use engine_merged_steps::lay_steps;
 use decide_written_walks::write_closed;
 use decide_written_walks::write_false;
 use decide_written_walks::write_halves;
-use decide_false_line::first_false;
+use decide_yes::write_answers;
+use engine_closed_walk::refuted_at_once;
+use engine_halves_walks::halves_at_once;
+use engine_merged_steps::lay_steps;
 use engine_table::table_by_elimination;
+use lines::Refusal;
+use lines::Validity;
+use lines::limits::LINE_SIZE;
 ghost use mathlib.Core.Path.{_≡_};
 ghost use mathlib.Core.Bool.{true, false};
 ghost use Prim.Native.Nat.{_≤_};

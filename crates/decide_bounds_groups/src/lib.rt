@@ -1,10 +1,10 @@
 // What deciding writes on a yes, read off the table of distances: bounds and groups.
 use decide_rows::NO_WALK;
-use steps::opposite_of;
 use decide_stored_table::entry_at;
 use decide_stored_table::half_at;
 use decide_stored_table::mirrored_at;
 use decide_stored_table::tightened;
+use steps::opposite_of;
 ghost use mathlib.Core.Path.{_≡_};
 ghost use mathlib.Core.List.{_++_};
 ghost use Prim.Native.Nat.{_+_, _*_, _<_, _≤_};

@@ -1,7 +1,7 @@
 // The first point whose halves are not consistent, read off the table of distances.
-use steps::opposite_of;
 use decide_stored_table::half_at;
 use decide_stored_table::sum;
+use steps::opposite_of;
 ghost use mathlib.Core.Path.{_≡_};
 ghost use Prim.Native.Nat.{_*_, _<_};
 ghost use Rattle.integers.specs.Lowest.{firstFailing};

@@ -1,8 +1,8 @@
 // The refutation that deciding hands over: its head, and the step numbers of its walks.
-use decide_rows::rows;
 use check_refutation::HEAD_SIZE;
-use steps::opposite_of;
+use decide_rows::rows;
 use decide_walkback::walk_back;
+use steps::opposite_of;
 ghost use mathlib.Core.Path.{_≡_};
 ghost use mathlib.Core.List.{_∷_};
 ghost use Prim.Native.Nat.{_+_, _*_, _<_, _≤_};

@@ -1,7 +1,7 @@
 // What deciding writes on a yes, from the table of distances: the model, the bounds and the groups.
-use decide_model::write_model;
 use decide_bounds_groups::write_bounds;
 use decide_bounds_groups::write_groups;
+use decide_model::write_model;
 ghost use mathlib.Core.Path.{_≡_};
 ghost use mathlib.Core.List.{_++_};
 ghost use Prim.Native.Nat.{_*_};

@@ -13,18 +13,17 @@ use Rattle.lines.specs.Fits.{numbers-fit}
 use Rattle.little_endian.specs.Writing.{int32Bytes, nat32Bytes, int64Bytes}
 use Rattle.steps.specs.declared.Step.{Step}
 use Rattle.steps.specs.Walk.{Names}
+use Rattle.check_answers.specs.declared.CheckAnswer.the-variants.{Yes}
 use Rattle.decide_walkback.specs.Makes.{number-below}
-use Rattle.check_model.specs.declared.ModelAnswer.the-variants as model
 use Rattle.check_model.specs.Model.{modelValidity, modelAnswer}
 use Rattle.check_model.specs.Laws.{valid-model, value-fits}
 use Rattle.check_model.specs.Meaning.{yes-exactly}
-use Rattle.check_refutation.specs.declared.RefutationAnswer.the-variants as refutation
 use Rattle.check_refutation.specs.Answer.{refutationAnswer}
 use Rattle.check_pieces.specs.Cut.{Words}
 use Rattle.check_soundness.specs.Refutes.{Refutes, kind-1, kind-2, kind-3}
 use Rattle.check_soundness.specs.Answered.{accepted-when}
-use Rattle.c_refutation_code.specs.Code.{refutationCode}
-use Rattle.c_checking.specs.Calls.{modelCode, checkModel, checkRefutation}
+use Rattle.c_codes.specs.CheckCode.{checkCode}
+use Rattle.c_checking.specs.Calls.{checkModel, checkRefutation}
 use Rattle.c_checking.specs.Bytes.{refutation-in-bytes, model-in-bytes}
 
 -- ---- what the checkers accept has numbers that fit: a step's number is below twice the lines, and the counts are no more than the numbers
@@ -37,7 +36,7 @@ names-words L [] ts h n = tt
 names-words L (k ∷ ks) [] h n = absurd n
 names-words L (k ∷ ks) (t ∷ ts) h n = (omega (arith, number-below L k t (n .0)), names-words L ks ts h (n .1))
 
-pub accepted-words : (n : ℕ) (L : List ℤ) (R : List ℕ) → refutationAnswer n L R ≡ refutation.Yes → Words R
+pub accepted-words : (n : ℕ) (L : List ℤ) (R : List ℕ) → refutationAnswer n L R ≡ Yes → Words R
 accepted-words n L R e = let a = accepted-when n L R .0 e in go (valid-list n L (a .0) .count) (a .1) (a .2)
   where
     go : lineCount L ≤ maxLines → length R ≤ maxRefutation → Refutes L R → Words R
@@ -52,12 +51,12 @@ accepted-words n L R e = let a = accepted-when n L R .0 e in go (valid-list n L 
     go h l (kind-3 c) = let f = c .false-step in subst Words (sym (c .is)) (omega arith, (omega arith, (omega arith, (omega (arith, f .is, f .within), tt))))
 
 -- ---- so on the bytes of what is accepted, 0 is returned
-pub accepted-refutation : (n : ℕ) (L : List ℤ) (R : List ℕ) → refutationAnswer n L R ≡ refutation.Yes → checkRefutation n (int32Bytes L) (nat32Bytes R) ≡ pos 0
-accepted-refutation n L R e = ap refutationCode (refutation-in-bytes n L (numbers-fit n L (accepted-when n L R .0 e .0)) R (accepted-words n L R e) ∙ e)
+pub accepted-refutation : (n : ℕ) (L : List ℤ) (R : List ℕ) → refutationAnswer n L R ≡ Yes → checkRefutation n (int32Bytes L) (nat32Bytes R) ≡ pos 0
+accepted-refutation n L R e = ap checkCode (refutation-in-bytes n L (numbers-fit n L (accepted-when n L R .0 e .0)) R (accepted-words n L R e) ∙ e)
 
-pub accepted-model : (n : ℕ) (L m : List ℤ) → modelAnswer n L m ≡ model.Yes → checkModel n (int32Bytes L) (int64Bytes m) ≡ pos 0
+pub accepted-model : (n : ℕ) (L m : List ℤ) → modelAnswer n L m ≡ Yes → checkModel n (int32Bytes L) (int64Bytes m) ≡ pos 0
 unfolding modelValidity
 accepted-model n L m e =
     let v = yes-exactly n L m .0 e .0 in
     let values = valid-model n L m v .values in
-    ap modelCode (model-in-bytes n L (numbers-fit n L (or-valid (validityOf n L) _ v .0)) m (λ i. value-fits _ (values i)) ∙ e)
+    ap checkCode (model-in-bytes n L (numbers-fit n L (or-valid (validityOf n L) _ v .0)) m (λ i. value-fits _ (values i)) ∙ e)

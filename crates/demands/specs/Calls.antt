@@ -17,7 +17,7 @@ use Rattle.lines.specs.declared.Validity.the-variants.{Valid}
 use Rattle.lines.specs.declared.Validity.the-variants as validity
 use Rattle.lines.specs.Line.{linesOf}
 use Rattle.lines.specs.Refusal.{validityOf}
-use Rattle.check_refutation.specs.declared.RefutationAnswer.the-variants as refutation
+use Rattle.check_answers.specs.declared.CheckAnswer.the-variants as check
 use Rattle.check_refutation.specs.Answer.{refutationAnswer}
 use Rattle.theory_answers.specs.Semantics.{Written}
 use Rattle.theory_answers.specs.Meaning.{computed-written}
@@ -82,7 +82,7 @@ module _ {n : ℕ} {L : List ℤ} (c : Call n L) where
   pub call-due : c .answer ≡ No → Due n L (refutationIn (c .after))
   call-due e = let w = on-no e in subst (Due n L) (sym (refutation-in w)) (w .due)
 
-  pub call-accepted : c .answer ≡ No → refutationAnswer n L (refutationIn (c .after)) ≡ refutation.Yes
+  pub call-accepted : c .answer ≡ No → refutationAnswer n L (refutationIn (c .after)) ≡ check.Yes
   call-accepted e = due-accepted n L call-valid (refutationIn (c .after)) (call-due e)
 
   pub call-written : c .answer ≡ Yes → Written n (linesOf L) (modelIn n (c .after)) (boundsIn n (c .after)) (groupsIn n (c .after))

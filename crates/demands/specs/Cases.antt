@@ -15,7 +15,7 @@ use Rattle.steps.specs.Point.{opposite}
 use Rattle.steps.specs.Table.{entry, digit}
 use Rattle.steps.specs.Step.{stepOf, stepNumbered, stepsOf}
 use Rattle.steps.specs.Walk.{total, Names}
-use Rattle.check_refutation.specs.declared.RefutationAnswer.the-variants.{Yes as accepted-yes}
+use Rattle.check_answers.specs.declared.CheckAnswer.the-variants.{Yes as accepted-yes}
 use Rattle.check_refutation.specs.Progress.{headSize, countsOk, isFalseStep, headOn, joins, turns, along, advance, run, closes, accepted}
 use Rattle.check_refutation.specs.Answer.{verdict, refutationValidity, refutationAnswer}
 use Rattle.check_soundness.specs.Head.{kindOf, firstCount, stepsIn}

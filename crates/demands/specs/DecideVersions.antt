@@ -22,7 +22,7 @@ use Rattle.steps.specs.Point.{opposite}
 use Rattle.steps.specs.Table.{entry, digit}
 use Rattle.steps.specs.Step.{stepOf, stepNumbered, stepsOf}
 use Rattle.steps.specs.Walk.{Names}
-use Rattle.check_refutation.specs.declared.RefutationAnswer.the-variants as answer
+use Rattle.check_answers.specs.declared.CheckAnswer.the-variants as check
 use Rattle.check_refutation.specs.Progress.{headSize, countsOk, headOn, wrongAfter, joins, turns, along, advance, run, closes, accepted, brokenAt}
 use Rattle.check_refutation.specs.Answer.{verdict, refutationValidity, refutationAnswer}
 use Rattle.check_soundness.specs.Head.{kindOf}
@@ -384,7 +384,7 @@ unfolding dueKind hasFalse noNegative lineAt isFalse entry digit stepOf stepsOf 
 kind-of-4 = refl
 
 -- case 4: what was written is no refutation, since the first step does not lead to the opposite of its start
-stock-not-accepted : refutationAnswer 3 list-4 (stock 2) ≡ answer.No 3
+stock-not-accepted : refutationAnswer 3 list-4 (stock 2) ≡ check.No 3
 unfolding refutationAnswer refutationValidity validityOf linesValidity coefficientsOk variableOk variablesOk constantOk lineAt isFalse countsOk headOn joins turns along advance run closes accepted brokenAt verdict
     opposite entry digit stepOf stepNumbered wrongAfter
 stock-not-accepted = refl
@@ -395,4 +395,4 @@ stock-refutation-breaks k =
     let o = on-no rightYes stockNo k 3 list-4 (room 3) list-4-no in
     let written : refutationIn (stockNo 3 list-4 (room 3)) ≡ stock 2 = ap (λ (j : ℕ). refutationIn (refuted 3 (stock j) (room 3))) kind-of-4 in
     let d : Due 3 list-4 (stock 2) = subst (Due 3 list-4) (sym (refutation-in o) ∙ written) (o .due) in
-    let e : answer.No 3 ≡ answer.Yes = sym stock-not-accepted ∙ due-accepted 3 list-4 valid-4 (stock 2) d in never (cc)
+    let e : check.No 3 ≡ check.Yes = sym stock-not-accepted ∙ due-accepted 3 list-4 valid-4 (stock 2) d in never (cc)

@@ -30,10 +30,9 @@ use mir.Val.{SFits}
 use Rattle.lines.specs.Fits.{numbers-fit}
 use Rattle.little_endian.specs.Writing.{bytesOf, int32Bytes, nat32Bytes, int64Bytes}
 use Rattle.little_endian.specs.Back.{int32s-back, int32Bytes-small, nat32Bytes-small, int64Bytes-small}
-use Rattle.check_model.specs.declared.ModelAnswer.the-variants as model
+use Rattle.check_answers.specs.declared.CheckAnswer.the-variants.{Yes, No}
 use Rattle.check_model.specs.Model.{modelAnswer}
 use Rattle.check_model.specs.Meaning.{FirstFails, yes-exactly, no-exactly}
-use Rattle.check_refutation.specs.declared.RefutationAnswer.the-variants.{Yes, No}
 use Rattle.check_refutation.specs.Progress.{start}
 use Rattle.check_refutation.specs.Answer.{refutationAnswer}
 use Rattle.check_pieces.specs.Taken.{takeAll, endAnswer}
@@ -77,12 +76,11 @@ use Rattle.file_list.specs.Write.{WriteDone}
 use Rattle.file_list.specs.Bytes.{file-bytes}
 use Rattle.file_list.specs.Back.{OneFile, read-written, list-in-file, written-read, one-file, one-list}
 use Rattle.c_codes.specs.Codes.{refusalUnit, refusalCode, noCode}
+use Rattle.c_codes.specs.CheckCode.{checkCode, answers-apart}
 use Rattle.c_codes.specs.ListBytes.{numberBytes, bytesValidity}
-use Rattle.c_refutation_code.specs.Code.{refutationCode}
-use Rattle.c_refutation_code.specs.Apart.{refutations-apart}
 use Rattle.c_checking.specs.Calls.{modelOfBytes, refutationOfBytes, checkModel, checkRefutation}
 use Rattle.c_checking.specs.Laws.{model-bytes-below, refutation-bytes-below}
-use Rattle.c_checking.specs.Apart.{BytesBreakAt, models-apart, returned-yes, returned-no}
+use Rattle.c_checking.specs.Returned.{BytesBreakAt, returned-yes, returned-no}
 use Rattle.c_checking.specs.Bytes.{list-in-bytes, refutation-in-bytes, model-in-bytes}
 use Rattle.c_pieces.specs.Pieces.{refutationBegin, refutationEnd, takeEach, each-answered}
 use Rattle.c_deciding.specs.Calls.{decideCode, DecideReturns}
@@ -148,7 +146,7 @@ pub record RightAnswer (n : ℕ) (L : List ℤ) (c : Call n L) : Type 0 where
   pub least-absent-exactly : c .answer ≡ decide.Yes → (x : ℕ) → x < n → (getD (boundsIn n (c .after)) (2 * x) (pos 0) ≡ absentLeast) ↔ NoLeast (linesOf L) x
   pub greatest-absent-exactly : c .answer ≡ decide.Yes → (x : ℕ) → x < n → (getD (boundsIn n (c .after)) (2 * x + 1) (pos 0) ≡ absentGreatest) ↔ NoGreatest (linesOf L) x
   -- A yes is shown too: the model checker accepts the model, its limits included.
-  pub yes-is-shown : c .answer ≡ decide.Yes → modelAnswer n L (modelIn n (c .after)) ≡ model.Yes
+  pub yes-is-shown : c .answer ≡ decide.Yes → modelAnswer n L (modelIn n (c .after)) ≡ Yes
   pub beyond-model : drop (modelRoom n) (c .after .model) ≡ drop (modelRoom n) (c .before .model)
   pub beyond-bounds : drop (boundsRoom n) (c .after .bounds) ≡ drop (boundsRoom n) (c .before .bounds)
   pub beyond-groups : drop (groupsRoom n) (c .after .groups) ≡ drop (groupsRoom n) (c .before .groups)
@@ -362,11 +360,11 @@ resumed-after-each-piece n L pieces = in-pieces n L pieces
 -- ---- the model checker
 
 -- Yes: nothing is refused, and the values meet every line.
-pub model-yes : (n : ℕ) (L m : List ℤ) → (modelAnswer n L m ≡ model.Yes) ↔ (NoneApplies (refusalTable (checking-model n L m)) × Solves (linesOf L) (assignmentOf m))
+pub model-yes : (n : ℕ) (L m : List ℤ) → (modelAnswer n L m ≡ Yes) ↔ (NoneApplies (refusalTable (checking-model n L m)) × Solves (linesOf L) (assignmentOf m))
 model-yes n L m = Iff·trans (yes-exactly n L m) (Iff·and (table-valid (checking-model n L m)) Iff·rfl)
 
 -- No: with the first line that fails, in list order.
-pub model-no : (n : ℕ) (L m : List ℤ) (k : ℕ) → (modelAnswer n L m ≡ model.No k) ↔ (NoneApplies (refusalTable (checking-model n L m)) × FirstFails L (assignmentOf m) k)
+pub model-no : (n : ℕ) (L m : List ℤ) (k : ℕ) → (modelAnswer n L m ≡ No k) ↔ (NoneApplies (refusalTable (checking-model n L m)) × FirstFails L (assignmentOf m) k)
 model-no n L m k = Iff·trans (no-exactly n L m k) (Iff·and (table-valid (checking-model n L m)) Iff·rfl)
 
 -- ---- the exported functions
@@ -394,13 +392,13 @@ returned-no-is-shown n L b a d = accepted-refutation n L (refutationIn a) (left-
 pub returned-no-is-shown-in-pieces : (n : ℕ) (L : List ℤ) (b a : Lent) → DecideReturns n L (pos noCode) b a → refutationEnd n L (takeEach L refutationBegin (refutationIn a)) ≡ pos 0
 returned-no-is-shown-in-pieces n L b a d =
     let s = left-refutation-is-accepted n L b a d in
-    each-answered n L (refutationIn a) (accepted-words n L (refutationIn a) s) ∙ ap refutationCode s
+    each-answered n L (refutationIn a) (accepted-words n L (refutationIn a) s) ∙ ap checkCode s
 
 -- After a yes, the model checker says yes to the model that was left.
-pub left-model-is-accepted : (n : ℕ) (L : List ℤ) (b a : Lent) → DecideReturns n L (pos 0) b a → modelAnswer n L (modelIn n a) ≡ model.Yes
+pub left-model-is-accepted : (n : ℕ) (L : List ℤ) (b a : Lent) → DecideReturns n L (pos 0) b a → modelAnswer n L (modelIn n a) ≡ Yes
 left-model-is-accepted n L b a d =
     let c = returned-call d (omega arith) in
-    subst (λ (x : Lent). modelAnswer n L (modelIn n x) ≡ model.Yes) (c .after) (right-answer n L (c .call) .yes-is-shown (c .yes .1 refl))
+    subst (λ (x : Lent). modelAnswer n L (modelIn n x) ≡ Yes) (c .after) (right-answer n L (c .call) .yes-is-shown (c .yes .1 refl))
 
 -- So the exported check of the list and of that model, each as its bytes, returns 0.
 pub returned-yes-is-shown : (n : ℕ) (L : List ℤ) (b a : Lent) → DecideReturns n L (pos 0) b a → checkModel n (int32Bytes L) (int64Bytes (modelIn n a)) ≡ pos 0
@@ -448,7 +446,7 @@ unfolding refusalCode
 refusals-returned a r h = Iff·trans (code-refused a r h) (table-refuses a r)
 
 -- A refutation may be handed over number by number, with what C keeps between two calls: the end returns the answer on the whole of it.
-pub pieces-return-the-answer : (n : ℕ) (L : List ℤ) (R : List ℕ) → Words R → refutationEnd n L (takeEach L refutationBegin R) ≡ refutationCode (refutationAnswer n L R)
+pub pieces-return-the-answer : (n : ℕ) (L : List ℤ) (R : List ℕ) → Words R → refutationEnd n L (takeEach L refutationBegin R) ≡ checkCode (refutationAnswer n L R)
 pieces-return-the-answer n L R w = each-answered n L R w
 
 -- That is the number which the check of its bytes returns, where these and the list's are whole numbers.
@@ -458,10 +456,10 @@ pieces-return-the-check n b r h v w = each-checked n b r v w h
 
 -- No two answers are returned as one number.
 pub model-answers-apart : (n k : ℕ) (b c m l : List ℕ) → checkModel n b m ≡ checkModel k c l → modelOfBytes n b m ≡ modelOfBytes k c l
-model-answers-apart n k b c m l = models-apart _ _ (model-bytes-below n b m) (model-bytes-below k c l)
+model-answers-apart n k b c m l = answers-apart _ _ (model-bytes-below n b m) (model-bytes-below k c l)
 
 pub refutation-answers-apart : (n k : ℕ) (b c r s : List ℕ) → checkRefutation n b r ≡ checkRefutation k c s → refutationOfBytes n b r ≡ refutationOfBytes k c s
-refutation-answers-apart n k b c r s = refutations-apart _ _ (refutation-bytes-below n b r) (refutation-bytes-below k c s)
+refutation-answers-apart n k b c r s = answers-apart _ _ (refutation-bytes-below n b r) (refutation-bytes-below k c s)
 
 pub decisions-returned-apart : (n k : ℕ) (L M : List ℤ) (b c : Lent) → decideCode (answerFor n L b) ≡ decideCode (answerFor k M c) → answerFor n L b ≡ answerFor k M c
 decisions-returned-apart n k L M b c = decisions-apart _ _ (decision-below n L b) (decision-below k M c)

@@ -8,18 +8,14 @@ use native.Mathlib.Omega.{arith}
 use borrow.Author.Tests.{ltb-true, ltb-false, lt-ltb, le-ltb, eqb-true, eqb-false, eq-eqb, ne-eqb}
 use lib.Dec.{eqb, ltb}
 use lib.ListN.{length}
-use Rattle.lines.specs.declared.Refusal.the-variants.{LongRefutation}
-use Rattle.lines.specs.declared.Validity.{Validity}
-use Rattle.lines.specs.declared.Validity.the-variants.{Valid, Refused}
 use Rattle.lines.specs.Limits.{lineSize, maxVariables, maxRefutation}
-use Rattle.lines.specs.Refusal.{_orElse_, refuseIf, validityOf}
+use Rattle.lines.specs.Refusal.{validityOf}
 use Rattle.little_endian.specs.Bytes.{AreBytes, le32, int32, firstOf, int32s, nat32s, length-firstOf, next}
-use Rattle.check_refutation.specs.declared.RefutationAnswer.{RefutationAnswer}
-use Rattle.check_refutation.specs.Progress.{start, run}
-use Rattle.check_refutation.specs.Answer.{unlessRefused, verdict, refutationValidity, refutationAnswer}
+use Rattle.check_answers.specs.Answer.{unless-again}
+use Rattle.check_refutation.specs.Answer.{refutationValidity, refutationAnswer}
 use Rattle.check_pieces.specs.Cut.{Words, words-snoc}
+use Rattle.c_codes.specs.CheckCode.{checkCode}
 use Rattle.c_codes.specs.ListBytes.{numberBytes, bytesValidity, bytes-as-numbers}
-use Rattle.c_refutation_code.specs.Code.{refutationCode}
 use Rattle.c_checking.specs.Calls.{refutationOfNumbers, refutationOfBytes, checkRefutation}
 use Rattle.c_pieces.specs.Pieces.{refutationBegin, refutationEnd, takeEach, each-answered}
 
@@ -55,12 +51,7 @@ module _ (n : ℕ) (b r : List ℕ) (list-whole : length b % numberBytes ≡ 0) 
   answer-as-numbers : refutationOfBytes n b r ≡ refutationAnswer n (int32s b) (nat32s r)
   unfolding refutationOfBytes refutationOfNumbers refutationAnswer refutationValidity
   answer-as-numbers =
-      rw (list-as-numbers, long-as-numbers, eq-eqb _ _ whole) (go (validityOf n (int32s b)) (refuseIf (ltb maxRefutation (length (nat32s r))) LongRefutation) (verdict (run (int32s b) start (nat32s r))))
-    where
-      go : (v w : Validity) (a : RefutationAnswer) → unlessRefused v (unlessRefused w (unlessRefused (v orElse w) a)) ≡ unlessRefused (v orElse w) a
-      go (Refused x) w a = refl
-      go Valid (Refused x) a = refl
-      go Valid Valid a = refl
+      rw (list-as-numbers, long-as-numbers, eq-eqb _ _ whole) (unless-again (validityOf n (int32s b)) _ _)
 
   words : AreBytes r → (m : ℕ) → Words (firstOf numberBytes le32 r m)
   unfolding firstOf
@@ -71,4 +62,4 @@ module _ (n : ℕ) (b r : List ℕ) (list-whole : length b % numberBytes ≡ 0) 
       subst Words (next numberBytes le32 r m ∙ ap (firstOf numberBytes le32 r) (add-one m)) (words-snoc (firstOf numberBytes le32 r m) (le32 r i) (words h m) small)
 
   pub each-checked : AreBytes r → refutationEnd n (int32s b) (takeEach (int32s b) refutationBegin (nat32s r)) ≡ checkRefutation n b r
-  each-checked h = each-answered n (int32s b) (nat32s r) (words h _) ∙ ap refutationCode (sym answer-as-numbers)
+  each-checked h = each-answered n (int32s b) (nat32s r) (words h _) ∙ ap checkCode (sym answer-as-numbers)

@@ -14,16 +14,15 @@ use Rattle.lines.specs.declared.Refusal.the-variants.{TooManyVariables, BrokenL
 use Rattle.lines.specs.Limits.{lineSize, maxVariables, maxLines, maxConstant, maxValue, maxRefutation}
 use Rattle.lines.specs.Line.{number, lineAt, lineCount}
 use Rattle.little_endian.specs.Bytes.{int32s, int64s}
+use Rattle.check_answers.specs.declared.CheckAnswer.the-variants as check
 use Rattle.decide_buffers.specs.Room.{Lent, Lengths, lengthsOf, Room, lentRooms}
-use Rattle.check_model.specs.declared.ModelAnswer.the-variants as model
 use Rattle.check_model.specs.Model.{modelAnswer}
-use Rattle.check_refutation.specs.declared.RefutationAnswer.the-variants as refutation
 use Rattle.check_refutation.specs.Answer.{refutationAnswer}
 use Rattle.decide.specs.declared.Answer.the-variants as decide
 use Rattle.decide.specs.Decided.{answerFor}
+use Rattle.c_codes.specs.CheckCode.{checkCode}
 use Rattle.c_codes.specs.ListBytes.{numberBytes}
-use Rattle.c_refutation_code.specs.Code.{refutationCode}
-use Rattle.c_checking.specs.Calls.{modelCode, valueBytes, modelOfBytes, refutationOfBytes, checkModel, checkRefutation}
+use Rattle.c_checking.specs.Calls.{valueBytes, modelOfBytes, refutationOfBytes, checkModel, checkRefutation}
 use Rattle.c_deciding.specs.Calls.{decideCode}
 
 -- What is asked, for n variables: to decide a list, with these lent buffers; to check a model of a list, or a refutation; and from C both checks on bytes.
@@ -114,15 +113,15 @@ pub record FirstApplies (rows : List Row) (r : Refusal) : Type 1 where
 -- ---- what is answered
 abbrev pub IsRefused : Asked → Refusal → Type 0
 IsRefused (deciding n L lent) r = answerFor n L lent ≡ decide.Refused r
-IsRefused (checking-model n L m) r = modelAnswer n L m ≡ model.Refused r
-IsRefused (checking-refutation n L R) r = refutationAnswer n L R ≡ refutation.Refused r
-IsRefused (checking-model-bytes n b m) r = modelOfBytes n b m ≡ model.Refused r
-IsRefused (checking-refutation-bytes n b R) r = refutationOfBytes n b R ≡ refutation.Refused r
+IsRefused (checking-model n L m) r = modelAnswer n L m ≡ check.Refused r
+IsRefused (checking-refutation n L R) r = refutationAnswer n L R ≡ check.Refused r
+IsRefused (checking-model-bytes n b m) r = modelOfBytes n b m ≡ check.Refused r
+IsRefused (checking-refutation-bytes n b R) r = refutationOfBytes n b R ≡ check.Refused r
 
 -- the number that stands for the answer in C
 abbrev pub returned : Asked → ℤ
 returned (deciding n L lent) = decideCode (answerFor n L lent)
-returned (checking-model n L m) = modelCode (modelAnswer n L m)
-returned (checking-refutation n L R) = refutationCode (refutationAnswer n L R)
+returned (checking-model n L m) = checkCode (modelAnswer n L m)
+returned (checking-refutation n L R) = checkCode (refutationAnswer n L R)
 returned (checking-model-bytes n b m) = checkModel n b m
 returned (checking-refutation-bytes n b R) = checkRefutation n b R

@@ -25,31 +25,28 @@ use Rattle.lines.specs.Limits.{lineSize, maxVariables, maxLines, maxConstant, m
 use Rattle.lines.specs.Line.{number, lineAt, lineCount, linesOf}
 use Rattle.lines.specs.Refusal.{placeOf, _orElse_, refuseIf, coefficientsOk, variableOk, variablesOk, constantOk, Rule, lineRules, firstBroken, lineValidity, linesValidity, validityOf}
 use Rattle.lines.specs.Laws.{validity-from, validity-past}
+use Rattle.check_answers.specs.declared.CheckAnswer.{CheckAnswer}
+use Rattle.check_answers.specs.declared.CheckAnswer.the-variants as check
+use Rattle.check_answers.specs.Answer.{NotRefused, unlessRefused, refused-when}
 use Rattle.decide_buffers.specs.Room.{Lent, Lengths, lengthsOf, Room, lentRooms, firstShort, roomsValidity, decideValidity}
 use Rattle.theory_bounds.specs.Verdict.{verdictOf}
 use Rattle.little_endian.specs.Bytes.{le32, int32, int64, int32s, nat32s, int64s, length-firstOf}
-use Rattle.check_model.specs.declared.ModelAnswer.{ModelAnswer}
-use Rattle.check_model.specs.declared.ModelAnswer.the-variants as model
-use Rattle.check_model.specs.Model as model-check
 use Rattle.check_model.specs.Model.{valuesValidity, modelValidity}
 use Rattle.check_model.specs.Laws.{values-from, values-past}
 use Rattle.check_model.specs.Meaning.{refused-exactly}
 use Rattle.check_model.specs.Places as model-places
-use Rattle.check_refutation.specs.declared.RefutationAnswer.{RefutationAnswer}
-use Rattle.check_refutation.specs.declared.RefutationAnswer.the-variants as refutation
-use Rattle.check_refutation.specs.Progress.{start, run, accepted, brokenAt}
-use Rattle.check_refutation.specs.Answer.{unlessRefused, refutationValidity, verdict, refutationAnswer}
+use Rattle.check_refutation.specs.Progress.{start, run, accepted}
+use Rattle.check_refutation.specs.Small.{either}
+use Rattle.check_refutation.specs.Answer.{refutationValidity, verdict, refutationAnswer}
 use Rattle.check_refutation.specs.Places as refutation-places
 use Rattle.decide.specs.declared.Answer.the-variants as decide
 use Rattle.decide.specs.Decided as decision
 use Rattle.decide.specs.Decided.{decideAnswer, answerFor, validityFor}
 use Rattle.c_codes.specs.Codes.{refusalUnit, refusalCode}
+use Rattle.c_codes.specs.CheckCode.{checkCode, answers-apart}
 use Rattle.c_codes.specs.ListBytes.{numberBytes, bytesValidity}
-use Rattle.c_refutation_code.specs.Code.{refutationCode}
-use Rattle.c_refutation_code.specs.Apart.{refutations-apart}
-use Rattle.c_checking.specs.Calls.{valueBytes, modelOfValues, refutationOfNumbers, modelOfBytes, refutationOfBytes, modelCode}
+use Rattle.c_checking.specs.Calls.{valueBytes, modelOfValues, refutationOfNumbers, modelOfBytes, refutationOfBytes}
 use Rattle.c_checking.specs.Laws.{model-bytes-below, refutation-bytes-below}
-use Rattle.c_checking.specs.Apart.{models-apart}
 use Rattle.c_deciding.specs.Calls.{decideCode}
 use Rattle.c_deciding.specs.Laws.{decision-below, decisions-apart}
 use Rattle.demands.specs.Refusals.{Asked, deciding, checking-model, checking-refutation, checking-model-bytes, checking-refutation-bytes, IsCoefficient, WrongVariable, Outside, Row, _when_, rowsFrom, lineTable, linesTable, listTable, bytesTable, valuesTable, roomsTable, refusalTable, NoneApplies, FirstApplies, IsRefused, returned}
@@ -300,22 +297,13 @@ decision-refused n L lent r = (fore (validityFor n L lent) (verdictOf n (linesOf
     fore Valid false e = never (cc)
     fore (Refused q) t e = cc
 
-refutation-refused : (n : ℕ) (L : List ℤ) (R : List ℕ) (r : Refusal) → (refutationAnswer n L R ≡ refutation.Refused r) ↔ (refutationValidity n L R ≡ Refused r)
+refutation-refused : (n : ℕ) (L : List ℤ) (R : List ℕ) (r : Refusal) → (refutationAnswer n L R ≡ check.Refused r) ↔ (refutationValidity n L R ≡ Refused r)
 unfolding refutationAnswer verdict
-refutation-refused n L R r = (fore (refutationValidity n L R) (accepted (run L start R)), (λ e. rw e))
-  where
-    fore : (v : Validity) (t : Bool) → unlessRefused v (cond t refutation.Yes (refutation.No (brokenAt (run L start R)))) ≡ refutation.Refused r → v ≡ Refused r
-    fore Valid true e = never (cc)
-    fore Valid false e = never (cc)
-    fore (Refused q) t e = cc
+refutation-refused n L R = refused-when (refutationValidity n L R) (verdict (run L start R)) (either NotRefused (accepted (run L start R)) tt tt)
 
-model-unless : (u v : Validity) (a : ModelAnswer) (r : Refusal) → (a ≡ model.Refused r) ↔ (v ≡ Refused r) → (model-check.unlessRefused u a ≡ model.Refused r) ↔ ((u orElse v) ≡ Refused r)
-model-unless Valid v a r h = h
-model-unless (Refused q) v a r h = ((λ e. cc), (λ e. cc))
-
-refutation-unless : (u v : Validity) (a : RefutationAnswer) (r : Refusal) → (a ≡ refutation.Refused r) ↔ (v ≡ Refused r) → (unlessRefused u a ≡ refutation.Refused r) ↔ ((u orElse v) ≡ Refused r)
-refutation-unless Valid v a r h = h
-refutation-unless (Refused q) v a r h = ((λ e. cc), (λ e. cc))
+check-unless : (u v : Validity) (a : CheckAnswer) (r : Refusal) → (a ≡ check.Refused r) ↔ (v ≡ Refused r) → (unlessRefused u a ≡ check.Refused r) ↔ ((u orElse v) ≡ Refused r)
+check-unless Valid v a r h = h
+check-unless (Refused q) v a r h = ((λ e. cc), (λ e. cc))
 
 answer-refused : (a : Asked) (r : Refusal) → IsRefused a r ↔ (computed a ≡ Refused r)
 unfolding modelOfBytes modelOfValues refutationOfBytes refutationOfNumbers
@@ -323,12 +311,12 @@ answer-refused (deciding n L lent) r = decision-refused n L lent r
 answer-refused (checking-model n L m) r = refused-exactly n L m r
 answer-refused (checking-refutation n L R) r = refutation-refused n L R r
 answer-refused (checking-model-bytes n b m) r =
-    model-unless (bytesValidity n b) _ _ r (model-unless (refuseIf (not (eqb (length m) (valueBytes * n))) WrongModelLength) _ _ r (refused-exactly n (int32s b) (int64s m) r))
+    check-unless (bytesValidity n b) _ _ r (check-unless (refuseIf (not (eqb (length m) (valueBytes * n))) WrongModelLength) _ _ r (refused-exactly n (int32s b) (int64s m) r))
 answer-refused (checking-refutation-bytes n b R) r =
-    refutation-unless (bytesValidity n b) _ _ r
-    (refutation-unless (refuseIf (ltb (numberBytes * maxRefutation) (length R)) LongRefutation) _ _ r (go (eqb (length R % numberBytes) 0)))
+    check-unless (bytesValidity n b) _ _ r
+    (check-unless (refuseIf (ltb (numberBytes * maxRefutation) (length R)) LongRefutation) _ _ r (go (eqb (length R % numberBytes) 0)))
   where
-    go : (t : Bool) → (cond t (refutationAnswer n (int32s b) (nat32s R)) (refutation.No 0) ≡ refutation.Refused r) ↔ (cond t (refutationValidity n (int32s b) (nat32s R)) Valid ≡ Refused r)
+    go : (t : Bool) → (cond t (refutationAnswer n (int32s b) (nat32s R)) (check.No 0) ≡ check.Refused r) ↔ (cond t (refutationValidity n (int32s b) (nat32s R)) Valid ≡ Refused r)
     go true = refutation-refused n (int32s b) (nat32s R) r
     go false = ((λ e. never (cc)), (λ e. never (cc)))
 
@@ -357,7 +345,7 @@ list-valid n L = gives-valid (list-gives n L)
 -- the number returned is a refusal's exactly if that refusal is given
 pub code-refused : (a : Asked) (r : Refusal) → placeOf r < refusalUnit → (returned a ≡ refusalCode r) ↔ IsRefused a r
 code-refused (deciding n L lent) r h = (decisions-apart _ (decide.Refused r) (decision-below n L lent) h, ap decideCode)
-code-refused (checking-model n L m) r h = (models-apart _ (model.Refused r) (model-places.answer-below refusalUnit (omega arith) (omega arith) n L m) h, ap modelCode)
-code-refused (checking-refutation n L R) r h = (refutations-apart _ (refutation.Refused r) (refutation-places.answer-below refusalUnit (omega arith) (omega arith) n L R) h, ap refutationCode)
-code-refused (checking-model-bytes n b m) r h = (models-apart _ (model.Refused r) (model-bytes-below n b m) h, ap modelCode)
-code-refused (checking-refutation-bytes n b R) r h = (refutations-apart _ (refutation.Refused r) (refutation-bytes-below n b R) h, ap refutationCode)
+code-refused (checking-model n L m) r h = (answers-apart _ (check.Refused r) (model-places.answer-below refusalUnit (omega arith) (omega arith) n L m) h, ap checkCode)
+code-refused (checking-refutation n L R) r h = (answers-apart _ (check.Refused r) (refutation-places.answer-below refusalUnit (omega arith) (omega arith) n L R) h, ap checkCode)
+code-refused (checking-model-bytes n b m) r h = (answers-apart _ (check.Refused r) (model-bytes-below n b m) h, ap checkCode)
+code-refused (checking-refutation-bytes n b R) r h = (answers-apart _ (check.Refused r) (refutation-bytes-below n b R) h, ap checkCode)

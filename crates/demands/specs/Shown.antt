@@ -12,7 +12,7 @@ use Rattle.lines.specs.Limits.{maxConstant, maxValue}
 use Rattle.lines.specs.Line.{linesOf, assignmentOf}
 use Rattle.lines.specs.Refusal.{validityOf}
 use Rattle.lines.specs.Valid.{valid-list}
-use Rattle.check_model.specs.declared.ModelAnswer.the-variants.{Yes}
+use Rattle.check_answers.specs.declared.CheckAnswer.the-variants.{Yes}
 use Rattle.check_model.specs.Model.{valuesValidity, modelValidity, modelAnswer}
 use Rattle.check_model.specs.Meaning.{yes-exactly}
 use Rattle.theory_answers.specs.Semantics.{Written}

@@ -14,19 +14,17 @@ use Rattle.lines.specs.declared.Validity.the-variants.{Valid}
 use Rattle.lines.specs.Limits.{maxRefutation}
 use Rattle.lines.specs.Line.{lineAt, leftSide, isFalse}
 use Rattle.lines.specs.Refusal.{coefficientsOk, variableOk, variablesOk, constantOk, linesValidity, validityOf}
-use Rattle.check_model.specs.declared.ModelAnswer.{ModelAnswer}
-use Rattle.check_model.specs.declared.ModelAnswer.the-variants as model
-use Rattle.check_model.specs.Model as model-check
+use Rattle.check_answers.specs.declared.CheckAnswer.{CheckAnswer}
+use Rattle.check_answers.specs.declared.CheckAnswer.the-variants.{Yes, No, Refused}
+use Rattle.check_answers.specs.Answer.{unlessRefused}
 use Rattle.check_model.specs.Model.{valuesValidity, modelValidity, firstFailing, modelAnswer}
-use Rattle.check_refutation.specs.declared.RefutationAnswer.{RefutationAnswer}
-use Rattle.check_refutation.specs.declared.RefutationAnswer.the-variants.{Yes, No, Refused}
 use Rattle.check_refutation.specs.Progress.{headSize, countsOk, isFalseStep, headOn, advance, run, closes, accepted, brokenAt}
-use Rattle.check_refutation.specs.Answer.{unlessRefused, verdict, refutationValidity, refutationAnswer}
+use Rattle.check_refutation.specs.Answer.{verdict, refutationValidity, refutationAnswer}
 use Rattle.check_soundness.specs.Breaks.{breaks-once, no-exactly-where}
 use Rattle.check_soundness.specs.BreaksAt.{lastIndex, BreaksAt}
 
 -- ---- the refutation checker's promise, of any version of it
-abbrev KeepsRefutation : (ℕ → List ℤ → List ℕ → RefutationAnswer) → Type 0
+abbrev KeepsRefutation : (ℕ → List ℤ → List ℕ → CheckAnswer) → Type 0
 KeepsRefutation f = (n : ℕ) (L : List ℤ) (R : List ℕ) → f n L R ≡ refutationAnswer n L R
 
 -- case 3: the line 0 ≤ -1, and its refutation
@@ -46,7 +44,7 @@ unfolding refutationAnswer refutationValidity validityOf linesValidity run close
 nothing = refl
 
 -- it accepts nothing
-pub acceptsNothing : ℕ → List ℤ → List ℕ → RefutationAnswer
+pub acceptsNothing : ℕ → List ℤ → List ℕ → CheckAnswer
 acceptsNothing n L R = unlessRefused (refutationValidity n L R) (No 0)
 
 pub accepts-nothing-breaks : KeepsRefutation acceptsNothing → ⊥
@@ -54,7 +52,7 @@ unfolding acceptsNothing refutationValidity validityOf linesValidity coefficient
 accepts-nothing-breaks k = let e : No 0 ≡ Yes = k 0 falseList falseRefutation ∙ case-3 in never (cc)
 
 -- it accepts everything that is not refused
-pub acceptsEverything : ℕ → List ℤ → List ℕ → RefutationAnswer
+pub acceptsEverything : ℕ → List ℤ → List ℕ → CheckAnswer
 acceptsEverything n L R = unlessRefused (refutationValidity n L R) Yes
 
 pub accepts-everything-breaks : KeepsRefutation acceptsEverything → ⊥
@@ -62,13 +60,13 @@ unfolding acceptsEverything refutationValidity validityOf linesValidity
 accepts-everything-breaks k = let e : Yes ≡ No 0 = k 0 [] [] ∙ nothing in never (cc)
 
 -- the same answer, with another place for its no
-abbrev movedTo : ℕ → RefutationAnswer → RefutationAnswer
+abbrev movedTo : ℕ → CheckAnswer → CheckAnswer
 movedTo i Yes = Yes
 movedTo i (No k) = No i
 movedTo i (Refused r) = Refused r
 
 -- it answers right, but never says where a refutation breaks
-pub saysNowhere : ℕ → List ℤ → List ℕ → RefutationAnswer
+pub saysNowhere : ℕ → List ℤ → List ℕ → CheckAnswer
 saysNowhere n L R = movedTo 0 (refutationAnswer n L R)
 
 -- kind 1 without steps: the counts are wrong
@@ -84,7 +82,7 @@ unfolding saysNowhere
 says-nowhere-breaks k = let e : No 0 ≡ No 1 = ap (movedTo 0) (sym no-steps) ∙ k 0 [] noSteps ∙ no-steps in never (cc)
 
 -- it answers right, but a no names the last number, or 0 where there is no whole head
-pub saysLast : ℕ → List ℤ → List ℕ → RefutationAnswer
+pub saysLast : ℕ → List ℤ → List ℕ → CheckAnswer
 saysLast n L R = movedTo (cond (ltb (length R) headSize) 0 (lastIndex R)) (refutationAnswer n L R)
 
 last-of-no-steps : saysLast 0 [] noSteps ≡ No 2
@@ -95,7 +93,7 @@ pub says-last-breaks : KeepsRefutation saysLast → ⊥
 says-last-breaks k = let e : No 2 ≡ No 1 = sym last-of-no-steps ∙ k 0 [] noSteps ∙ no-steps in never (cc)
 
 -- nor does it say no exactly where the refutation breaks, which the checker does (`no-exactly-where-it-breaks` in Demands.antt)
-abbrev SaysWhere : (ℕ → List ℤ → List ℕ → RefutationAnswer) → Type 0
+abbrev SaysWhere : (ℕ → List ℤ → List ℕ → CheckAnswer) → Type 0
 SaysWhere f = (n : ℕ) (L : List ℤ) (R : List ℕ) (k : ℕ) → (f n L R ≡ No k) ↔ ((validityOf n L ≡ Valid) × (length R ≤ maxRefutation) × BreaksAt L R k)
 
 pub says-where : SaysWhere refutationAnswer
@@ -107,7 +105,7 @@ says-last-not-where s =
     absurd (omega arith)
 
 -- it refuses every list
-pub refusesEvery : ℕ → List ℤ → List ℕ → RefutationAnswer
+pub refusesEvery : ℕ → List ℤ → List ℕ → CheckAnswer
 refusesEvery n L R = Refused TooManyVariables
 
 pub refuses-every-breaks : KeepsRefutation refusesEvery → ⊥
@@ -115,38 +113,38 @@ unfolding refusesEvery
 refuses-every-breaks k = let e : Refused TooManyVariables ≡ No 0 = k 0 [] [] ∙ nothing in never (cc)
 
 -- ---- the model checker's promise, of any version of it
-abbrev KeepsModel : (ℕ → List ℤ → List ℤ → ModelAnswer) → Type 0
+abbrev KeepsModel : (ℕ → List ℤ → List ℤ → CheckAnswer) → Type 0
 KeepsModel f = (n : ℕ) (L m : List ℤ) → f n L m ≡ modelAnswer n L m
 
 -- no values for no variables fail line 0, 0 ≤ -1
-first-line-fails : modelAnswer 0 falseList [] ≡ model.No 0
+first-line-fails : modelAnswer 0 falseList [] ≡ No 0
 unfolding modelAnswer modelValidity validityOf linesValidity coefficientsOk variableOk variablesOk constantOk lineAt leftSide valuesValidity firstFailing
 first-line-fails = refl
 
-no-lines-met : modelAnswer 0 [] [] ≡ model.Yes
+no-lines-met : modelAnswer 0 [] [] ≡ Yes
 unfolding modelAnswer modelValidity validityOf linesValidity valuesValidity firstFailing
 no-lines-met = refl
 
 -- it says yes to every model that is not refused
-pub saysYes : ℕ → List ℤ → List ℤ → ModelAnswer
-saysYes n L m = model-check.unlessRefused (modelValidity n L m) model.Yes
+pub saysYes : ℕ → List ℤ → List ℤ → CheckAnswer
+saysYes n L m = unlessRefused (modelValidity n L m) Yes
 
 pub says-yes-breaks : KeepsModel saysYes → ⊥
 unfolding saysYes modelValidity validityOf linesValidity coefficientsOk variableOk variablesOk constantOk lineAt valuesValidity
-says-yes-breaks k = let e : model.Yes ≡ model.No 0 = k 0 falseList [] ∙ first-line-fails in never (cc)
+says-yes-breaks k = let e : Yes ≡ No 0 = k 0 falseList [] ∙ first-line-fails in never (cc)
 
 -- it says no to every model, at the first line
-pub saysNo : ℕ → List ℤ → List ℤ → ModelAnswer
-saysNo n L m = model-check.unlessRefused (modelValidity n L m) (model.No 0)
+pub saysNo : ℕ → List ℤ → List ℤ → CheckAnswer
+saysNo n L m = unlessRefused (modelValidity n L m) (No 0)
 
 pub says-no-breaks : KeepsModel saysNo → ⊥
 unfolding saysNo modelValidity validityOf linesValidity valuesValidity
-says-no-breaks k = let e : model.No 0 ≡ model.Yes = k 0 [] [] ∙ no-lines-met in never (cc)
+says-no-breaks k = let e : No 0 ≡ Yes = k 0 [] [] ∙ no-lines-met in never (cc)
 
 -- it refuses every list
-pub refusesModel : ℕ → List ℤ → List ℤ → ModelAnswer
-refusesModel n L m = model.Refused TooManyVariables
+pub refusesModel : ℕ → List ℤ → List ℤ → CheckAnswer
+refusesModel n L m = Refused TooManyVariables
 
 pub refuses-model-breaks : KeepsModel refusesModel → ⊥
 unfolding refusesModel
-refuses-model-breaks k = let e : model.Refused TooManyVariables ≡ model.Yes = k 0 [] [] ∙ no-lines-met in never (cc)
+refuses-model-breaks k = let e : Refused TooManyVariables ≡ Yes = k 0 [] [] ∙ no-lines-met in never (cc)

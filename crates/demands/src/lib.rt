@@ -2,16 +2,15 @@
 // buffer as it was.
 use c_checking::utvpi_check_model;
 use c_checking::utvpi_check_refutation;
-use check_model::ModelAnswer;
+use check_answers::CheckAnswer;
 use check_model::check_model;
-use check_refutation::RefutationAnswer;
 use check_refutation::check_refutation;
 ghost use mathlib.Core.Path.{_≡_};
 ghost use Rattle.check_model.specs.Model.{modelAnswer};
 ghost use Rattle.check_refutation.specs.Answer.{refutationAnswer};
 ghost use Rattle.c_checking.specs.Calls.{checkModel, checkRefutation};
 
-pub fn model_check_only_reads(n: usize, list: &mut [i32], model: &mut [i64]) -> ModelAnswer
+pub fn model_check_only_reads(n: usize, list: &mut [i32], model: &mut [i64]) -> CheckAnswer
     ensures answer { λ r. ⌜ r ≡ modelAnswer n (now (list .entry)) (now (model .entry)) ⌝ }
     ensures list_kept { λ _. ⌜ now (list .exit) ≡ now (list .entry) ⌝ }
     ensures model_kept { λ _. ⌜ now (model .exit) ≡ now (model .entry) ⌝ }
@@ -23,7 +22,7 @@ pub fn refutation_check_only_reads(
     n: usize,
     list: &mut [i32],
     refutation: &mut [u32],
-) -> RefutationAnswer
+) -> CheckAnswer
     ensures answer { λ r. ⌜ r ≡ refutationAnswer n (now (list .entry)) (now (refutation .entry)) ⌝ }
     ensures list_kept { λ _. ⌜ now (list .exit) ≡ now (list .entry) ⌝ }
     ensures refutation_kept { λ _. ⌜ now (refutation .exit) ≡ now (refutation .entry) ⌝ }

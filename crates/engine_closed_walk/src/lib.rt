@@ -1,15 +1,15 @@
 // A refutation of kind 1 at once: passes over the packed steps leave at each point that they lower the step (the field's
 // term: the point's predecessor), and after each pass the marks are followed back from the last point lowered. What they
 // lead round is checked, so that nothing is asked of the passes; where it is no negative closed walk, nothing is written.
-use lines::limits::LINE_SIZE;
+use check_refutation::HEAD_SIZE;
+use decide_written_walks::copy_numbers;
+use decide_written_walks::write_head;
 use engine_packed_steps::LIGHT;
 use engine_packed_steps::from_in;
 use engine_packed_steps::layout::row_at;
 use engine_packed_steps::number_in;
 use engine_packed_steps::read_step;
-use check_refutation::HEAD_SIZE;
-use decide_written_walks::copy_numbers;
-use decide_written_walks::write_head;
+use lines::limits::LINE_SIZE;
 use steps::NamedStep;
 use steps::step_numbered;
 ghost use mathlib.Core.Path.{_≡_};

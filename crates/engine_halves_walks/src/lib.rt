@@ -1,17 +1,17 @@
 // A refutation of kind 2 at once: passes over the packed steps leave at each point that they lower the step, and the
 // marks are followed back from a point to its opposite, and from this to the point. What they lead along is checked, so
 // that nothing is asked of the passes; where it is no refutation, nothing is written.
+use check_refutation::HEAD_SIZE;
+use decide_written_walks::copy_numbers;
+use decide_written_walks::write_head;
 use engine_closed_walk::ALL;
 use engine_closed_walk::LOWEST_MARK;
 use engine_closed_walk::fill;
 use engine_closed_walk::mark_turn;
 use engine_closed_walk::number_back;
-use integers::halved;
 use engine_merged_steps::lay_steps;
 use engine_packed_steps::layout::row_at;
-use check_refutation::HEAD_SIZE;
-use decide_written_walks::copy_numbers;
-use decide_written_walks::write_head;
+use integers::halved;
 use steps::NamedStep;
 use steps::opposite_of;
 use steps::step_numbered;

@@ -1,8 +1,8 @@
 // The steps of a list at the front of the work area, at most as many as there are pairs of points: all of them, or of
 // those between the same two points only the lightest. These are found in cells behind the front, one for each pair.
-use lines::limits::LINE_SIZE;
 use engine_packed_steps::packed;
 use engine_packed_steps::write_steps;
+use lines::limits::LINE_SIZE;
 use steps::NamedStep;
 use steps::step_numbered;
 ghost use mathlib.Core.Path.{_≡_};

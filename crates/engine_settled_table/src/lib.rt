@@ -1,12 +1,12 @@
 // Whether the table is settled: the diagonal is 0, and no step lowers an entry. Then it holds the distances, each turned
 // back by the numbers of its two points.
 use decide_rows::NO_WALK;
-use integers::halved;
 use engine_packed_steps::read_step;
 use engine_reduced_table::FAR;
 use engine_reduced_table::SPARE;
 use engine_reduced_table::entry_at;
 use engine_reduced_table::negative_part;
+use integers::halved;
 ghost use mathlib.Core.Path.{_≡_};
 ghost use Prim.Native.Nat.{_<_};
 ghost use Rattle.decide_rows.specs.Stored.{stored};

@@ -2,10 +2,9 @@
 // area. A potential shows that no closed walk is negative; variables get places, those with few steps first, and the steps
 // are renamed; the table on reduced weights is closed, and if it is settled, its rows are the distances. Each of these is
 // looked at, so that nothing is asked of the way; where one look fails, the table is made in rounds.
-use engine_closed_walk::is_potential;
 use decide_table_by_rounds::distance_table;
+use engine_closed_walk::is_potential;
 use engine_finished_rows::write_rows;
-use lines::limits::LINE_SIZE;
 use engine_merged_steps::all_laid;
 use engine_merged_steps::merge_steps;
 use engine_ordered_rounds::ordered_rounds;
@@ -21,6 +20,7 @@ use engine_renaming::order_variables;
 use engine_renaming::rename_steps;
 use engine_restoring::close;
 use engine_settled_table::table_settled;
+use lines::limits::LINE_SIZE;
 ghost use Rattle.engine_table.specs.Placed.{PlaceReady, Placed};
 ghost use Rattle.engine_table.specs.Settling.{SettleReady, Settling, StartReady, Started};
 ghost use Rattle.engine_table.specs.Made.{MadeReady, Made};

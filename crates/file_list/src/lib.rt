@@ -1,4 +1,12 @@
 // A file for lists, read and written.
+use file_records::Cursor;
+use file_records::END_KIND;
+use file_records::FileRefusal;
+use file_records::HEADER_SIZE;
+use file_records::LINE_KIND;
+use file_records::Next;
+use file_records::VARIABLES_KIND;
+use file_records::scan;
 use lines::Line;
 use lines::Refusal;
 use lines::Validity;
@@ -11,14 +19,6 @@ use little_endian::i32_at;
 use little_endian::put_i32;
 use little_endian::put_u16;
 use little_endian::put_u32;
-use file_records::Cursor;
-use file_records::END_KIND;
-use file_records::FileRefusal;
-use file_records::HEADER_SIZE;
-use file_records::LINE_KIND;
-use file_records::Next;
-use file_records::VARIABLES_KIND;
-use file_records::scan;
 ghost use mathlib.Core.Path.{_≡_};
 ghost use mathlib.Core.List.{_++_};
 ghost use Prim.Native.Nat.{_+_, _*_, _<_, _≤_};

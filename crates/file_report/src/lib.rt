@@ -1,4 +1,7 @@
 // What the program does: the bytes of a file read, its list decided, and the answer as text.
+use check_refutation::HEAD_SIZE;
+use decide::Answer;
+use decide::decide;
 use decide_buffers::FEW_BOUNDS;
 use decide_buffers::FEW_GROUPS;
 use decide_buffers::FEW_MODEL;
@@ -8,18 +11,15 @@ use decide_buffers::FEW_WORK;
 use decide_buffers::bounds_room;
 use decide_buffers::groups_room;
 use decide_buffers::model_room;
-use decide::Answer;
-use decide::decide;
-use lines::limits::LINE_SIZE;
 use file_list::LINE_RECORD;
 use file_list::ReadAnswer;
 use file_list::VARIABLES_RECORD;
 use file_list::read_within;
 use file_records::file_number_and_place;
-use check_refutation::HEAD_SIZE;
 use file_text::write_no;
 use file_text::write_refused;
 use file_text::write_yes;
+use lines::limits::LINE_SIZE;
 ghost use lib.ListN.{take};
 ghost use Rattle.file_text.specs.Text.{noText};
 ghost use Rattle.file_text.specs.Put.{Wrote};

@@ -12,8 +12,8 @@ use Rattle.lines.specs.Line.{lineAt, lineCount, linesOf, assignmentOf, Solvable
 use Rattle.lines.specs.Refusal.{validityOf}
 use Rattle.lines.specs.Valid.{ListOk, AllOk, valid-list, all-ok}
 use Rattle.steps.specs.Step.{stepsOf}
+use Rattle.check_answers.specs.declared.CheckAnswer.the-variants.{Yes}
 use Rattle.theory_walks.specs.Negative.{noNegative, no-negative-found}
-use Rattle.check_refutation.specs.declared.RefutationAnswer.the-variants.{Yes}
 use Rattle.check_refutation.specs.Answer.{refutationAnswer}
 use Rattle.check_soundness.specs.Refutes.{Closed, Falsehood}
 use Rattle.check_soundness.specs.Answered.{accepted-when, answers-no-solvable}

@@ -11,10 +11,11 @@ use Rattle.lines.specs.declared.Validity.{Validity}
 use Rattle.lines.specs.declared.Validity.the-variants.{Valid}
 use Rattle.lines.specs.Places.{Placed, place-at}
 use Rattle.little_endian.specs.Bytes.{int32s}
-use Rattle.check_model.specs.Model.{unlessRefused}
+use Rattle.check_answers.specs.Answer.{unlessRefused}
 use Rattle.c_codes.specs.Codes.{refusalUnit}
+use Rattle.c_codes.specs.CheckCode.{checkCode}
 use Rattle.c_codes.specs.ListBytes.{numberBytes, BytesOk, valid-bytes, bytes-placed}
-use Rattle.c_checking.specs.Calls.{modelCode, modelOfValues, modelOfBytes}
+use Rattle.c_checking.specs.Calls.{modelOfValues, modelOfBytes}
 use Rattle.c_checking.specs.Laws.{model-below}
 use Rattle.c_checking.proofs.utvpi_check_model.Statement.{statement}
 use Rattle.c_checking.proofs.utvpi_check_model.Tie as tie
@@ -34,9 +35,9 @@ module _ (c : tie.After-decode-list) where
   m = start .args .model .now
 
   abbrev codeAfter : Validity → ℤ
-  codeAfter v = modelCode (unlessRefused v (modelOfValues n (int32s b) m))
+  codeAfter v = checkCode (unlessRefused v (modelOfValues n (int32s b) m))
 
-  answered : (v : Validity) → c .decode-list .result ≡ v → codeAfter v ≡ modelCode (modelOfBytes n b m)
+  answered : (v : Validity) → c .decode-list .result ≡ v → codeAfter v ≡ checkCode (modelOfBytes n b m)
   unfolding modelOfBytes
   answered v e = ap codeAfter (sym e ∙ c .decode-list .ensures .answer)
 
@@ -70,15 +71,15 @@ part-end c = omega (arith, ok (c .before) .room, d (c .before) .decode-list .kep
 model-of-values-requires : tie.Need-model-of-values-requires
 model-of-values-requires c κs = ok (c .before .before) .variables
 
-model-code-requires : tie.Need-model-code-requires
-model-code-requires c κs = rw (c .model-of-values .ensures) (model-below _ _ _)
+check-code-requires : tie.Need-check-code-requires
+check-code-requires c κs = rw (c .model-of-values .ensures) (model-below _ _ _)
 
 returns-2 : tie.Need-returns-2
 returns-2 c =
     let e = c .before .before .before .before in
-    kept w64 (c .model-code .result) (c .model-code .ok)
-    ∙ c .model-code .ensures
-    ∙ ap modelCode (c .before .model-of-values .ensures ∙ ap (λ (L : List ℤ). modelOfValues (n (d e)) L (m (d e))) (numbers e))
+    kept w64 (c .check-code .result) (c .check-code .ok)
+    ∙ c .check-code .ensures
+    ∙ ap checkCode (c .before .model-of-values .ensures ∙ ap (λ (L : List ℤ). modelOfValues (n (d e)) L (m (d e))) (numbers e))
     ∙ answered (d e) Valid (e .enum-told .given .1)
 
 pub utvpi-check-model-spec : {M : Type 1} → statement M
@@ -95,5 +96,5 @@ utvpi-check-model-spec =
     (λ c. omega arith)
     part-end
     model-of-values-requires
-    model-code-requires
+    check-code-requires
     returns-2)

@@ -11,10 +11,10 @@ use Rattle.lines.specs.declared.Validity.{Validity}
 use Rattle.lines.specs.declared.Validity.the-variants.{Valid}
 use Rattle.lines.specs.Places.{Placed, place-at}
 use Rattle.little_endian.specs.Bytes.{int32s}
-use Rattle.check_refutation.specs.Answer.{unlessRefused}
+use Rattle.check_answers.specs.Answer.{unlessRefused}
 use Rattle.c_codes.specs.Codes.{refusalUnit}
+use Rattle.c_codes.specs.CheckCode.{checkCode}
 use Rattle.c_codes.specs.ListBytes.{numberBytes, BytesOk, valid-bytes, bytes-placed}
-use Rattle.c_refutation_code.specs.Code.{refutationCode}
 use Rattle.c_checking.specs.Calls.{refutationOfNumbers, refutationOfBytes}
 use Rattle.c_checking.specs.Laws.{refutation-below}
 use Rattle.c_checking.proofs.utvpi_check_refutation.Statement.{statement}
@@ -35,9 +35,9 @@ module _ (c : tie.After-decode-list) where
   r = start .args .refutation .now
 
   abbrev codeAfter : Validity → ℤ
-  codeAfter v = refutationCode (unlessRefused v (refutationOfNumbers n (int32s b) r))
+  codeAfter v = checkCode (unlessRefused v (refutationOfNumbers n (int32s b) r))
 
-  answered : (v : Validity) → c .decode-list .result ≡ v → codeAfter v ≡ refutationCode (refutationOfBytes n b r)
+  answered : (v : Validity) → c .decode-list .result ≡ v → codeAfter v ≡ checkCode (refutationOfBytes n b r)
   unfolding refutationOfBytes
   answered v e = ap codeAfter (sym e ∙ c .decode-list .ensures .answer)
 
@@ -68,15 +68,15 @@ module _ (c : tie.After-enum-told) where
 part-end : tie.Need-part-refutation-of-numbers-end
 part-end c = omega (arith, ok (c .before) .room, d (c .before) .decode-list .kept .1 .1 .0)
 
-refutation-code-requires : tie.Need-refutation-code-requires
-refutation-code-requires c κs = rw (c .refutation-of-numbers .ensures) (refutation-below _ _ _)
+check-code-requires : tie.Need-check-code-requires
+check-code-requires c κs = rw (c .refutation-of-numbers .ensures) (refutation-below _ _ _)
 
 returns-2 : tie.Need-returns-2
 returns-2 c =
     let e = c .before .before .before .before in
-    kept w64 (c .refutation-code .result) (c .refutation-code .ok)
-    ∙ c .refutation-code .ensures
-    ∙ ap refutationCode (c .before .refutation-of-numbers .ensures ∙ ap (λ (L : List ℤ). refutationOfNumbers (n (d e)) L (r (d e))) (numbers e))
+    kept w64 (c .check-code .result) (c .check-code .ok)
+    ∙ c .check-code .ensures
+    ∙ ap checkCode (c .before .refutation-of-numbers .ensures ∙ ap (λ (L : List ℤ). refutationOfNumbers (n (d e)) L (r (d e))) (numbers e))
     ∙ answered (d e) Valid (e .enum-told .given .1)
 
 pub utvpi-check-refutation-spec : {M : Type 1} → statement M
@@ -93,5 +93,5 @@ utvpi-check-refutation-spec =
     (λ c. omega arith)
     part-end
     (λ c. omega arith)
-    refutation-code-requires
+    check-code-requires
     returns-2)

@@ -4,7 +4,8 @@ use borrow.Author.Needs.{needs}
 use Rattle.lines.specs.declared.Validity.{Validity}
 use Rattle.lines.specs.declared.Validity.the-variants.{Valid}
 use Rattle.lines.specs.Line.{linesOf, assignmentOf}
-use Rattle.check_model.specs.Model.{modelValidity, firstFailing, unlessRefused, modelAnswer}
+use Rattle.check_answers.specs.Answer.{unlessRefused}
+use Rattle.check_model.specs.Model.{modelValidity, firstFailing, modelAnswer}
 use Rattle.check_model.specs.Laws.{valid-model}
 use Rattle.check_model.proofs.check_model.Statement.{statement}
 use Rattle.check_model.proofs.check_model.Tie as tie

@@ -10,8 +10,8 @@ use borrow.Author.Tests.{not-true, not-false}
 use lib.IntN.{ℤ}
 use lib.ListN.{drop}
 use Rattle.lines.specs.Line.{Assignment, linesOf, meets, assignmentOf}
-use Rattle.check_model.specs.declared.ModelAnswer.{ModelAnswer}
-use Rattle.check_model.specs.declared.ModelAnswer.the-variants.{No}
+use Rattle.check_answers.specs.declared.CheckAnswer.{CheckAnswer}
+use Rattle.check_answers.specs.declared.CheckAnswer.the-variants.{No}
 use Rattle.check_model.specs.Model.{firstFailing}
 use Rattle.check_model.specs.Laws.{failing-from, failing-past}
 use Rattle.check_model.proofs.first_failing.Statement.{statement}
@@ -48,7 +48,7 @@ module _ (v : tie.After-is-met Inv-loop μ-loop) where
   abbrev s : Assignment
   s = assignmentOf (v .before .before .before .before .args .model .now)
 
-  abbrev foundBy : Bool → ModelAnswer
+  abbrev foundBy : Bool → CheckAnswer
   foundBy t = cond t (firstFailing s (k + 1) (drop (k + 1) (linesOf list))) (No k)
 
   found : firstFailing s 0 (linesOf list) ≡ foundBy (v .is-met .result)

@@ -12,10 +12,11 @@ use Rattle.lines.specs.declared.Validity.{Validity}
 use Rattle.lines.specs.declared.Validity.the-variants.{Valid}
 use Rattle.lines.specs.Limits.{maxRefutation}
 use Rattle.lines.specs.Refusal.{_orElse_, refuseIf}
+use Rattle.check_answers.specs.declared.CheckAnswer.{CheckAnswer}
+use Rattle.check_answers.specs.declared.CheckAnswer.the-variants.{No}
+use Rattle.check_answers.specs.Answer.{unlessRefused}
 use Rattle.check_refutation.specs.declared.Progress.{Progress}
-use Rattle.check_refutation.specs.declared.RefutationAnswer.{RefutationAnswer}
-use Rattle.check_refutation.specs.declared.RefutationAnswer.the-variants.{No}
-use Rattle.check_refutation.specs.Answer.{unlessRefused, verdict}
+use Rattle.check_refutation.specs.Answer.{verdict}
 use Rattle.check_pieces.specs.Taken.{isSmall, endAnswer, small-test}
 use Rattle.check_pieces.proofs.end.Statement.{statement}
 use Rattle.check_pieces.proofs.end.Tie as tie
@@ -31,7 +32,7 @@ module _ (c : tie.After-list-validity) where
   abbrev kept : Progress
   kept = c .before .args .kept
 
-  abbrev answerAfter : Validity → RefutationAnswer
+  abbrev answerAfter : Validity → CheckAnswer
   answerAfter v = unlessRefused (v orElse refuseIf (ltb maxRefutation (kept .read)) LongRefutation) (cond (isSmall kept) (verdict kept) (No 0))
 
   answered : (v : Validity) → c .list-validity .result ≡ v → answerAfter v ≡ endAnswer n L kept

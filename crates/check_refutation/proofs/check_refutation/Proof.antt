@@ -13,9 +13,10 @@ use Rattle.lines.specs.declared.Refusal.the-variants.{LongRefutation}
 use Rattle.lines.specs.Limits.{maxVariables, maxRefutation}
 use Rattle.lines.specs.Refusal.{_orElse_, refuseIf}
 use Rattle.lines.specs.Valid.{ListOk, valid-list, lines-more}
-use Rattle.check_refutation.specs.declared.RefutationAnswer.{RefutationAnswer}
+use Rattle.check_answers.specs.declared.CheckAnswer.{CheckAnswer}
+use Rattle.check_answers.specs.Answer.{unlessRefused}
 use Rattle.check_refutation.specs.Progress.{start, run}
-use Rattle.check_refutation.specs.Answer.{unlessRefused, verdict, refutationValidity, refutationAnswer}
+use Rattle.check_refutation.specs.Answer.{verdict, refutationValidity, refutationAnswer}
 use Rattle.check_refutation.proofs.check_refutation.Statement.{statement}
 use Rattle.check_refutation.proofs.check_refutation.Tie as tie
 
@@ -30,7 +31,7 @@ module _ (c : tie.After-list-validity) where
   abbrev R : List ℕ
   R = c .before .before .args .refutation .now
 
-  abbrev answerAfter : Validity → RefutationAnswer
+  abbrev answerAfter : Validity → CheckAnswer
   answerAfter v = unlessRefused (v orElse refuseIf (ltb maxRefutation (length R)) LongRefutation) (verdict (run L start R))
 
   answered : answerAfter (c .list-validity .result) ≡ refutationAnswer n L R

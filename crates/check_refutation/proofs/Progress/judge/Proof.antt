@@ -1,6 +1,6 @@
 -- `check_refutation::Progress::judge` meets its contract.
 use mathlib.Core.Path.{sym, ap, _∙_}
-use Rattle.check_refutation.specs.declared.RefutationAnswer.the-variants.{No}
+use Rattle.check_answers.specs.declared.CheckAnswer.the-variants.{No}
 use Rattle.check_refutation.specs.Answer.{verdict}
 use Rattle.check_refutation.proofs.Progress.judge.Statement.{statement}
 use Rattle.check_refutation.proofs.Progress.judge.Tie as tie
