@@ -1,6 +1,6 @@
 //! Tells the linker where the static library is, in the folder named by
 //! UTVPI_LIB_DIR or else in the repository's target/lib, and the benchmark
-//! the limits of a list and the numbers of a line, from the header.
+//! the limits of a list, the numbers of a line and a no, from the header.
 
 use std::env;
 use std::fs;
@@ -16,7 +16,9 @@ fn main() {
     for name in [
         "UTVPI_MOST_VARIABLES",
         "UTVPI_MOST_LINES",
+        "UTVPI_MOST_IDENTIFIER",
         "UTVPI_LINE_NUMBERS",
+        "UTVPI_NO",
     ] {
         let number = defined(&text, name)
             .unwrap_or_else(|| panic!("{} defines no number {name}", header.display()));

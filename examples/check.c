@@ -5,8 +5,9 @@
  * Two recorders ran side by side and each wrote down when it noticed an event,
  * in whole ticks. The first counts up from 0. The second counts down from 100,
  * so that what it reads as y happened at tick 100 - y. What is known about the
- * events is a list of lines, each of the form  a*x + b*y <= d.  A merge gives
- * each event a reading; it is right if it meets every line.
+ * events is a list of lines, each of the form  a*x + b*y <= d,  with the
+ * identifier of the message that said so. A merge gives each event a reading; it is
+ * right if it meets every line.
  */
 #include "utvpi.h"
 
@@ -21,7 +22,7 @@ static void pack(uint8_t *to, uint64_t number, size_t bytes)
     }
 }
 
-/* A line as its numbers: those that are not written out are 0. */
+/* A line as its numbers; an identifier that is not written out is 0. */
 typedef int32_t line[UTVPI_LINE_NUMBERS];
 
 /* Writes a list's lines and returns how many bytes they take. */
@@ -35,6 +36,11 @@ static size_t pack_list(uint8_t *to, const line *lines, size_t count)
     return UTVPI_LINE_BYTES * count;
 }
 
+/* The messages that the recorders sent, by their identifiers. The low eleven bits of
+ * the two are the same, but all 29 count. */
+#define FROM_UP 0x18FEF100
+#define FROM_DOWN 0x18FEF900
+
 /* The first list. Variables: 0 the door opens and 1 the lamp goes on, as read by
  * the recorder that counts up; 2 the bell rings, as read by the one that counts
  * down. */
@@ -45,31 +51,32 @@ static size_t pack_list(uint8_t *to, const line *lines, size_t count)
 #define MERGE_LINES 5
 static const line merge[MERGE_LINES] = {
     /* door - lamp <= -5: the door opens 5 ticks before the lamp, or more. */
-    {1, DOOR, -1, LAMP, -5},
+    {1, DOOR, -1, LAMP, -5, FROM_UP},
     /* lamp <= 40: the lamp goes on at tick 40 or earlier. */
-    {1, LAMP, 0, 0, 40},
+    {1, LAMP, 0, 0, 40, FROM_UP},
     /* -door <= -10: the door opens at tick 10 or later. */
-    {-1, DOOR, 0, 0, -10},
+    {-1, DOOR, 0, 0, -10, FROM_UP},
     /* lamp + bell <= 100, as lamp <= 100 - bell: the lamp is not after the bell. */
-    {1, LAMP, 1, BELL, 100},
+    {1, LAMP, 1, BELL, 100, FROM_DOWN},
     /* -lamp - bell <= -98, as 100 - bell <= lamp + 2: the bell follows within 2
      * ticks. */
-    {-1, LAMP, -1, BELL, -98},
+    {-1, LAMP, -1, BELL, -98, FROM_DOWN},
 };
 
 /* The second list: both recorders saw one flash, the second while it counted
- * down from 101. Variables: 0 the reading that counts up, 1 the one down. */
+ * down from 101. Variables: 0 the reading that counts up, 1 the one down. No message
+ * said that both read the same: that was noted by hand, and has no identifier. */
 #define UP 0
 #define DOWN 1
 
 #define FLASH_LINES 4
 static const line flash[FLASH_LINES] = {
     /* up + down <= 101, and -up - down <= -101: together they make 101. */
-    {1, UP, 1, DOWN, 101},
-    {-1, UP, -1, DOWN, -101},
+    {1, UP, 1, DOWN, 101, FROM_DOWN},
+    {-1, UP, -1, DOWN, -101, FROM_DOWN},
     /* up - down <= 0, and -up + down <= 0: both recorders read the same. */
-    {1, UP, -1, DOWN, 0},
-    {-1, UP, 1, DOWN, 0},
+    {1, UP, -1, DOWN, 0, 0},
+    {-1, UP, 1, DOWN, 0, 0},
 };
 
 /* A refutation of the second list: kind 2, walks of 2 and 2 steps. Steps 0 and
@@ -78,9 +85,9 @@ static const line flash[FLASH_LINES] = {
 #define NUMBERS 7
 static const uint32_t refutation[NUMBERS] = {2, 2, 2, 0, 5, 2, 7};
 
-/* A limit in a text. */
-#define AS_TEXT(limit) AS_WRITTEN(limit)
-#define AS_WRITTEN(limit) #limit
+/* A number in a text, as it is defined. */
+#define AS_TEXT(number) AS_WRITTEN(number)
+#define AS_WRITTEN(number) #number
 
 /* What a refusal means and what to do about it. */
 static const char *advice(int number)
@@ -98,6 +105,9 @@ static const char *advice(int number)
         return "This line names a variable that is not there: correct its number.";
     case UTVPI_BAD_BOUND:
         return "This line's bound is beyond 1,000,000: choose a coarser unit.";
+    case UTVPI_BAD_IDENTIFIER:
+        return "This line's identifier is not from 0 to " AS_TEXT(UTVPI_MOST_IDENTIFIER)
+               ": give the message's own.";
     case UTVPI_BAD_MODEL_LENGTH:
         return "The model has not one value for each variable: complete it.";
     case UTVPI_BAD_MODEL_VALUE:
@@ -187,8 +197,8 @@ static void check_merges(void)
 
     tell(MODEL, "Do door 30, lamp 35 and bell 66 meet every line of the merge?",
          check_model(list, length, 30, 35, 66), UTVPI_NO + 3,
-         "  Line 3 says that the lamp is not after the bell, but the bell's reading 66 is\n"
-         "  tick 34.\n");
+         "  Line 3, from message " AS_TEXT(FROM_DOWN) ", says that the lamp is not after\n"
+         "  the bell, but the bell's reading 66 is tick 34.\n");
 }
 
 static void check_refutations(void)
@@ -221,12 +231,22 @@ static void check_damaged_lists(void)
 
     /* Damage: the last byte is missing. */
     tell(MODEL, "Do door 30, lamp 35 and bell 64 meet the merge without its last byte?",
-         check_model(list, length - 1, 30, 35, 64), -(UTVPI_BROKEN_LIST_LENGTH * 100000), "");
+         check_model(list, length - 1, 30, 35, 64),
+         -(UTVPI_BROKEN_LIST_LENGTH * UTVPI_REFUSAL_UNIT), "");
 
     /* Damage: the second variable of line 4, at byte 12 of the line, becomes 7. */
     list[UTVPI_LINE_BYTES * 4 + 12] = 7;
     tell(MODEL, "Do door 30, lamp 35 and bell 64 meet the merge if its line 4 names a variable 7?",
-         check_model(list, length, 30, 35, 64), -(UTVPI_BAD_VARIABLE * 100000 + 4), "");
+         check_model(list, length, 30, 35, 64),
+         -(UTVPI_BAD_VARIABLE * UTVPI_REFUSAL_UNIT + 4), "");
+
+    /* Damage: the last byte of line 2, the highest of its identifier, becomes 255, so
+     * that the number is below 0. */
+    list[UTVPI_LINE_BYTES * 3 - 1] = 255;
+    tell(MODEL, "Do they if the identifier of its line 2 is damaged, too?",
+         check_model(list, length, 30, 35, 64),
+         -(UTVPI_BAD_IDENTIFIER * UTVPI_REFUSAL_UNIT + 2),
+         "  Line 2 comes before line 4.\n");
 }
 
 int main(void)

@@ -15,6 +15,9 @@
  *     b   the second coefficient: -1, 0 or 1
  *     y   the number of its variable; 0 where b is 0
  *     d   the bound, from -1,000,000 to 1,000,000
+ *     identifier   of the message that the line came from, from 0 to
+ *         UTVPI_MOST_IDENTIFIER, all 29 bits of it; 0 where there is none. It
+ *         changes no answer, and comes back with a refutation.
  *
  * So a list of k lines is UTVPI_LINE_NUMBERS*k numbers, or UTVPI_LINE_BYTES*k
  * bytes. x and y may be the same variable. A line on one variable may use either
@@ -90,8 +93,11 @@ extern "C" {
 #define UTVPI_MOST_LINES 4096
 #define UTVPI_MOST_REFUTATION 65536
 
+/* The greatest identifier of a message: 29 bits. */
+#define UTVPI_MOST_IDENTIFIER 536870911
+
 /* The numbers of a line, and its bytes. */
-#define UTVPI_LINE_NUMBERS 5
+#define UTVPI_LINE_NUMBERS 6
 #define UTVPI_LINE_BYTES ((size_t)4 * UTVPI_LINE_NUMBERS)
 
 /* The most stack that a call takes, in bytes. utvpi_check_model,
@@ -114,6 +120,7 @@ extern "C" {
 #define UTVPI_BOUNDS_ROOM(n) ((size_t)2 * (size_t)(n))
 #define UTVPI_GROUPS_ROOM(n) ((size_t)(n))
 #define UTVPI_REFUTATION_ROOM(n) ((size_t)4 + (size_t)4 * (size_t)(n))
+#define UTVPI_IDENTIFIERS_ROOM(n) ((size_t)4 + (size_t)4 * (size_t)(n))
 #define UTVPI_WORK_ROOM(n) \
     ((size_t)16 * (size_t)(n) * (size_t)(n) + (size_t)64 * (size_t)(n) + (size_t)64)
 
@@ -126,7 +133,7 @@ extern "C" {
  *
  * Lengths are in numbers, not bytes. Each pointer must point to at least as
  * many numbers as its length says, at the alignment of its type. The list is
- * only read. The five buffers are lent for writing: no two of them may overlap,
+ * only read. The six buffers are lent for writing: no two of them may overlap,
  * and none may overlap the list. Nobody else may use them during the call, nor
  * change the list. What they hold before the call does not matter. Each may be
  * longer than the room it needs; what lies beyond that room is left as it was.
@@ -136,10 +143,11 @@ extern "C" {
  *     bounds       UTVPI_BOUNDS_ROOM(n)        n times a least, then a greatest
  *     groups       UTVPI_GROUPS_ROOM(n)        n variable numbers
  *     refutation   UTVPI_REFUTATION_ROOM(n)    kind, p, q and the steps
+ *     identifiers  UTVPI_IDENTIFIERS_ROOM(n)   an identifier for each step
  *     work         UTVPI_WORK_ROOM(n)          nothing that lasts
  *
  * On a yes, the model, the bounds and the groups are written, and the refutation
- * is left as it was:
+ * and the identifiers are left as they were:
  *
  *     model    The variables in the order of their numbers. Each has the value
  *              nearest 0 among those that it can have beside the values chosen
@@ -156,7 +164,9 @@ extern "C" {
  * q is refutation[2]; what lies beyond them is left as it was. It is of kind 3,
  * for the lowest line 0 <= d with d below 0, if there is such a line; else of
  * kind 1, if there is one of kind 1; else of kind 2. In kinds 1 and 2, p + q is
- * at most 4*n. Of several such walks, any may be given.
+ * at most 4*n. Of several such walks, any may be given. Of each of its p + q steps,
+ * in the order in which they stand there, identifiers[i] is the identifier of the
+ * step's line, whole; what lies beyond them is left as it was.
  *
  * On a yes and on a no, the first UTVPI_WORK_ROOM(n) numbers of the work area
  * are 0 after the call. On a refusal, every buffer is left as it was. */
@@ -164,6 +174,7 @@ int64_t utvpi_decide(uint64_t n, const int32_t *list, size_t list_len,
                      int64_t *model, size_t model_len, int64_t *bounds, size_t bounds_len,
                      uint32_t *groups, size_t groups_len,
                      uint32_t *refutation, size_t refutation_len,
+                     uint32_t *identifiers, size_t identifiers_len,
                      int64_t *work, size_t work_len);
 
 /* The two checks. Lengths are in bytes. Each pointer must point to at least as
@@ -242,24 +253,30 @@ int64_t utvpi_refutation_end(utvpi_progress kept, uint64_t n,
                              const int32_t *list, size_t list_len);
 
 /* A FILE for a list is records, each a two-byte length of its body, a two-byte
- * kind and the body, all with the lowest byte first: one of kind 1 and length 4,
- * which is n; then the lines, each of kind 2 and length UTVPI_LINE_BYTES, its
- * signed 32-bit numbers; then one of kind 3 and length 0; then nothing. Each valid
- * list has exactly one file. */
+ * kind and the body, all with the lowest byte first: one of kind 1 and length
+ * UTVPI_VARIABLES_BYTES, which is n; then the lines, in order; then one of kind 3 and
+ * length 0; then nothing. A line whose identifier is not 0 is of kind 4 and length
+ * UTVPI_LINE_BYTES, its signed 32-bit numbers; one whose identifier is 0 is of kind 2
+ * and length UTVPI_BARE_LINE_BYTES, the numbers but the identifier. Each valid list
+ * has exactly one file. */
 
 /* The kinds. */
 #define UTVPI_KIND_VARIABLES 1
 #define UTVPI_KIND_LINE 2
 #define UTVPI_KIND_END 3
+#define UTVPI_KIND_IDENTIFIED_LINE 4
 
-/* The bytes of a record before its body, and of the body that is n; the bytes
- * before the first line's record, and of each line's record. */
+/* The bytes of a record before its body, of the body that is n, and of that of a line
+ * whose identifier is 0; the bytes before the first line's record, and the most of a
+ * line's record. */
 #define UTVPI_RECORD_HEAD 4
 #define UTVPI_VARIABLES_BYTES 4
+#define UTVPI_BARE_LINE_BYTES ((size_t)4 * (UTVPI_LINE_NUMBERS - 1))
 #define UTVPI_BEFORE_LINES ((size_t)UTVPI_RECORD_HEAD + UTVPI_VARIABLES_BYTES)
 #define UTVPI_LINE_RECORD ((size_t)UTVPI_RECORD_HEAD + UTVPI_LINE_BYTES)
 
-/* The bytes of the file of a list with so many lines. */
+/* The most bytes of the file of a list with so many lines: so many it has where no
+ * identifier is 0. */
 #define UTVPI_FILE_SIZE(lines) \
     (UTVPI_BEFORE_LINES + UTVPI_LINE_RECORD * (size_t)(lines) + UTVPI_RECORD_HEAD)
 
@@ -310,7 +327,7 @@ utvpi_file_written utvpi_write_list(uint64_t n, const int32_t *list, size_t list
 #define UTVPI_REFUSAL_PLACE(result) ((int)(-(result) % UTVPI_REFUSAL_UNIT))
 
 /* The refusals. Where several apply, the one given is the first of: 1, 2, 3;
- * then line by line from the first, in each line 4, 5, 6; then 7 and 8 for
+ * then line by line from the first, in each line 4, 5, 6, 13; then 7 and 8 for
  * deciding, 9 and 10 for a model, 11 for a refutation.
  */
 enum utvpi_refusal {
@@ -359,12 +376,17 @@ enum utvpi_refusal {
      * one of at most 4*n + 4 numbers. */
     UTVPI_LONG_REFUTATION = 11,
 
+    /* The identifier of the line at this place is below 0 or above
+     * UTVPI_MOST_IDENTIFIER: give the message's own, which has at most 29 bits, or 0
+     * where there is none. */
+    UTVPI_BAD_IDENTIFIER = 13,
+
     /* The file ends before this record does, or before the record of kind 3 that
-     * ends a list: look for a missing end. Of this and the next four the place is
+     * ends a list: look for a missing end. Of this and those that follow the place is
      * a byte offset, that of the record. Only reading a file gives them. */
     UTVPI_RECORD_CUT = 20,
 
-    /* The record's kind is not 1, 2 or 3: look for a damaged part. */
+    /* The record's kind is not 1, 2, 3 or 4: look for a damaged part. */
     UTVPI_RECORD_UNKNOWN = 21,
 
     /* The record's length is not that of its kind: look for a damaged part. */
@@ -381,7 +403,11 @@ enum utvpi_refusal {
     /* The buffer has no room: lend a longer one. Of reading, for the line whose
      * record begins at this byte offset; of writing, for the file, and the place
      * is 0. Only these two give it. */
-    UTVPI_NO_ROOM = 25
+    UTVPI_NO_ROOM = 25,
+
+    /* The record is a line of kind 4, and its identifier is 0: write it as kind 2,
+     * without the identifier. It goes after 23 and before 25. */
+    UTVPI_RECORD_NO_IDENTIFIER = 26
 };
 
 /* The places of UTVPI_SHORT_OUTPUT. */
@@ -389,7 +415,8 @@ enum utvpi_output {
     UTVPI_OUTPUT_MODEL = 1,
     UTVPI_OUTPUT_BOUNDS = 2,
     UTVPI_OUTPUT_GROUPS = 3,
-    UTVPI_OUTPUT_REFUTATION = 4
+    UTVPI_OUTPUT_REFUTATION = 4,
+    UTVPI_OUTPUT_IDENTIFIERS = 5
 };
 
 #ifdef __cplusplus

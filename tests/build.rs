@@ -5,18 +5,22 @@
 use std::path::{Path, PathBuf};
 use std::{env, fs};
 
-/// The limits, lengths and kinds that the header defines, by their names without
-/// UTVPI_.
-const LIMITS: [&str; 9] = [
+/// The limits, lengths, kinds and parts of results that the header defines, by their
+/// names without UTVPI_.
+const LIMITS: [&str; 13] = [
     "MOST_VARIABLES",
     "MOST_LINES",
     "MOST_REFUTATION",
+    "MOST_IDENTIFIER",
     "LINE_NUMBERS",
     "RECORD_HEAD",
     "VARIABLES_BYTES",
     "KIND_VARIABLES",
     "KIND_LINE",
     "KIND_END",
+    "KIND_IDENTIFIED_LINE",
+    "NO",
+    "REFUSAL_UNIT",
 ];
 
 fn main() {

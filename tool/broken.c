@@ -1,4 +1,5 @@
-/* Printing a no on a proposed refutation: which of its numbers is wrong, and why. */
+/* Printing a no on a proposed refutation: which of its numbers is wrong, and why; or
+ * which of the identifiers beside it. */
 #include "list.h"
 
 #include <inttypes.h>
@@ -94,6 +95,12 @@ static void print_walk_fault(const struct list *list, const struct proposal *pro
     puts(".");
 }
 
+/* Prints how places are counted. */
+static void print_counting(void)
+{
+    puts("\nIndexes and rules count from 0, lines from 1. A rule with = counts as two.");
+}
+
 void print_broken(const struct list *list, const struct proposal *proposal, struct fault fault)
 {
     printf("No. The refutation shows nothing. It breaks at index %zu, ", fault.place);
@@ -109,8 +116,27 @@ void print_broken(const struct list *list, const struct proposal *proposal, stru
     } else if (fault.reason <= LAST_ENDS_WRONG) {
         print_walk_fault(list, proposal, fault);
     } else {
-        print_walks(list, proposal->numbers);
+        print_walks(list, proposal->numbers, proposal->identifiers);
         puts("  The sums are not low enough: the rules have to add up to something false.");
     }
-    puts("\nIndexes and rules count from 0, lines from 1. A rule with = counts as two.");
+    print_counting();
+}
+
+/* Prints what is wrong with the identifiers that a refutation names, which is right
+ * itself: how many they are, or the one at this place, a step counted from 0. */
+void print_misnamed(const struct list *list, const struct proposal *proposal, size_t place)
+{
+    size_t steps = proposal->count - 3;
+    puts("No. The refutation is right, but the identifiers beside it are not those of its"
+         " rules:\n");
+    if (proposal->named_count != steps) {
+        printf("  It has %zu steps, but line %zu of the refutation names %zu identifiers.\n", steps,
+               proposal->named_line, proposal->named_count);
+    } else {
+        print_rule(list, proposal->numbers[3 + place]);
+        printf("  In line %zu of the refutation the identifier at index %zu is %" PRIu32
+               ", but that of this rule is %" PRIu32 ".\n",
+               proposal->named_line, place, proposal->named[place], proposal->identifiers[place]);
+    }
+    print_counting();
 }

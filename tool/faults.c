@@ -87,3 +87,29 @@ struct fault first_fault(const struct list *list, const struct proposal *proposa
     }
     return fault;
 }
+
+/* Notes the identifiers of the steps' rules, as far as the steps are of rules. */
+void note_identifiers(const struct list *list, struct proposal *proposal)
+{
+    for (size_t at = 3; at < proposal->count && proposal->numbers[at] / 2 < list->count; at++) {
+        proposal->identifiers[at - 3] = identifier_of(list, proposal->numbers[at]);
+    }
+}
+
+/* Whether a refutation, which breaks nowhere, names identifiers that are not those of
+ * its rules, and the first step of which that is so. */
+bool is_misnamed(const struct proposal *proposal, size_t *place)
+{
+    size_t steps = proposal->count - 3;
+    *place = 0;
+    if (proposal->named_line == 0) {
+        return false;
+    }
+    if (proposal->named_count != steps) {
+        return true;
+    }
+    while (*place < steps && proposal->named[*place] == proposal->identifiers[*place]) {
+        *place += 1;
+    }
+    return *place < steps;
+}

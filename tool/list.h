@@ -26,8 +26,9 @@
 #define MOST_NAMES (UTVPI_MOST_VARIABLES + MOST_RULE)
 
 /* Where a line's bound stands: after its two terms, each a coefficient and a
- * variable. */
+ * variable. Behind it stands the identifier of the line's message. */
 #define BOUND 4
+#define IDENTIFIER (BOUND + 1)
 
 /* The most characters of a line as text: each number has eleven at most, and after
  * it a blank or the end. */
@@ -85,6 +86,15 @@ struct proposal {
     struct text input;
     uint32_t numbers[UTVPI_MOST_REFUTATION + 1];
     size_t count;
+
+    /* The identifiers that it names, one for each step, and the line of the file
+     * where; line 0 where it names none. */
+    uint32_t named[UTVPI_MOST_REFUTATION];
+    size_t named_count;
+    size_t named_line;
+
+    /* Those of its steps' rules. */
+    uint32_t identifiers[UTVPI_MOST_REFUTATION];
 };
 
 /* Why a refutation breaks at a number: in the head, at a step number, or after
@@ -124,6 +134,7 @@ void show(FILE *to, struct text text);
 bool is_blank(char c);
 bool is_digit(char c);
 bool is_letter(char c);
+bool begins_with_word(struct text text, const char *word);
 struct text trim(struct text text);
 bool wrong_in(const char *file, struct origin origin, struct text part, const char *what,
               const char *advice);
@@ -137,9 +148,15 @@ bool read_list(struct list *list);
 bool settle_form(struct list *list, struct origin origin, enum form form);
 bool add_line(struct list *list, struct origin origin, const int32_t line[UTVPI_LINE_NUMBERS]);
 
-/* numbers.c and words.c: one rule, in the one form and the other. */
+/* numbers.c and words.c: one rule, in the one form and the other; what is wrong with
+ * an identifier that is too large for 32 bits, and what to do about every one that is
+ * out of range. */
+extern const char identifier_range[];
+extern const char identifier_advice[];
 bool scan_magnitude(struct text *rest, int64_t *value);
+bool scan_identifier(struct text *rest, int64_t *value);
 struct text first_part(struct text rest);
+bool skip_separator(struct text *rest);
 bool read_numbers(struct list *list, struct origin origin);
 bool read_variables(struct list *list, struct origin origin);
 bool read_words(struct list *list, struct origin origin);
@@ -147,19 +164,23 @@ bool read_words(struct list *list, struct origin origin);
 /* proposal.c: a proposed refutation's numbers. Its input and file are set before. */
 bool read_proposal(struct proposal *proposal);
 
-/* steps.c: the step with a number, and where it leads. */
+/* steps.c: the step with a number, its line, and where it leads. */
 const int32_t *line_of(const struct list *list, uint32_t step);
+uint32_t identifier_of(const struct list *list, uint32_t step);
 struct step step_of(const struct list *list, uint32_t number);
 struct point opposite(struct point point);
 bool same_point(struct point one, struct point other);
 
-/* faults.c: where a proposed refutation breaks, and why. */
+/* faults.c: where a proposed refutation breaks, and why; the identifiers of its steps'
+ * rules, and the first that it names otherwise. */
 struct fault first_fault(const struct list *list, const struct proposal *proposal);
+void note_identifiers(const struct list *list, struct proposal *proposal);
+bool is_misnamed(const struct proposal *proposal, size_t *place);
 
 /* records.c: a list that is given as records. */
 bool is_records(struct text input);
 bool read_records(struct list *list);
-size_t record_of(size_t line);
+size_t record_of(const struct list *list, size_t line);
 
 /* convert.c: the list's numbers for the library, and the list in another form:
  * records, by the library, where a file is named, else text. */
@@ -175,9 +196,12 @@ void print_yes(const struct list *list, const int64_t *model, const int64_t *bou
                const uint32_t *groups);
 void print_rule(const struct list *list, uint32_t step);
 int64_t bound_together(const struct list *list, const uint32_t *refutation);
-void print_walks(const struct list *list, const uint32_t *refutation);
-void print_no(const struct list *list, const uint32_t *refutation, const char *shown);
+void print_walks(const struct list *list, const uint32_t *refutation,
+                 const uint32_t *identifiers);
+void print_no(const struct list *list, const uint32_t *refutation, const uint32_t *identifiers,
+              const char *shown);
 void print_broken(const struct list *list, const struct proposal *proposal, struct fault fault);
+void print_misnamed(const struct list *list, const struct proposal *proposal, size_t place);
 void print_refusal(const struct list *list, const char *file, int number, size_t place);
 void print_fault(const struct list *list, int number, size_t at);
 

@@ -1,11 +1,17 @@
-/* Rules in numbers, a x b y d, and the line "variables N". */
+/* Rules in numbers, a x b y d and the identifier, and the line "variables N". */
 #include "list.h"
 
 #include <string.h>
 
 static const char numbers_advice[] =
-    "write five whole numbers a x b y d, such as 1 0 -1 1 5, or a rule in words, such as"
+    "write " AS_TEXT(UTVPI_LINE_NUMBERS) " whole numbers a x b y d identifier, such as"
+    " 1 0 -1 1 5 0x18DA10F1, with 0 where there is no identifier, or a rule in words, such as"
     " door - lamp <= -5";
+
+const char identifier_range[] = "is not from 0 to " AS_TEXT(UTVPI_MOST_IDENTIFIER);
+const char identifier_advice[] =
+    "give the message's own number, from 0 to " AS_TEXT(UTVPI_MOST_IDENTIFIER)
+    ", without a flag that a tool may have added to it, such as 0x80000000";
 
 /* Takes digits off the rest. The value stops growing only where 32 bits hold it
  * with neither sign, so that a number that is too large stays too large. False
@@ -26,6 +32,35 @@ bool scan_magnitude(struct text *rest, int64_t *value)
     return true;
 }
 
+/* Takes hexadecimal digits off the rest, in the same way. */
+static bool scan_hexadecimal(struct text *rest, int64_t *value)
+{
+    static const char digits[] = "0123456789ABCDEF0123456789abcdef";
+    const char *digit;
+    bool some = false;
+    *value = 0;
+    while (rest->length > 0 && (digit = memchr(digits, rest->at[0], sizeof digits - 1)) != NULL) {
+        if (*value <= UINT32_MAX) {
+            *value = 16 * *value + (digit - digits) % 16;
+        }
+        rest->at++;
+        rest->length--;
+        some = true;
+    }
+    return some;
+}
+
+/* Takes an identifier's digits off the rest: decimal ones, or 0x and hexadecimal ones. */
+bool scan_identifier(struct text *rest, int64_t *value)
+{
+    if (rest->length < 2 || rest->at[0] != '0' || (rest->at[1] != 'x' && rest->at[1] != 'X')) {
+        return scan_magnitude(rest, value);
+    }
+    rest->at += 2;
+    rest->length -= 2;
+    return scan_hexadecimal(rest, value);
+}
+
 /* The characters up to the next blank or comma. */
 struct text first_part(struct text rest)
 {
@@ -37,9 +72,10 @@ struct text first_part(struct text rest)
     return part;
 }
 
-/* Takes a number with its sign off the rest. */
+/* Takes a number with its sign off the rest, one that stands at this place in its
+ * line. */
 static bool scan_number(const struct list *list, struct origin origin, struct text *rest,
-                        int32_t *number)
+                        size_t place, int32_t *number)
 {
     struct text part = first_part(*rest), digits = part;
     int64_t value;
@@ -47,18 +83,26 @@ static bool scan_number(const struct list *list, struct origin origin, struct te
     if (part.length == 0) {
         return wrong(list, origin, part, "a number is missing beside a comma", numbers_advice);
     }
+    if (part.at[0] == '@') {
+        return wrong(list, origin, part, "can't stand in a line of numbers",
+                     "write the identifier as the last number of the line, without @");
+    }
     if (negative || part.at[0] == '+') {
         digits.at++;
         digits.length--;
     }
-    if (!scan_magnitude(&digits, &value) || digits.length > 0) {
+    bool scanned = place == IDENTIFIER ? scan_identifier(&digits, &value)
+                                       : scan_magnitude(&digits, &value);
+    if (!scanned || digits.length > 0) {
         return wrong(list, origin, part, "is no whole number, and the line has no <=, >= or =",
                      numbers_advice);
     }
     value = negative ? -value : value;
     if (value < INT32_MIN || value > INT32_MAX) {
-        return wrong(list, origin, part, "is too large for 32 bits",
-                     "correct it; a bound is from -1,000,000 to 1,000,000");
+        return place == IDENTIFIER
+                   ? wrong(list, origin, part, identifier_range, identifier_advice)
+                   : wrong(list, origin, part, "is too large for 32 bits",
+                           "correct it; a bound is from -1,000,000 to 1,000,000");
     }
     *number = (int32_t)value;
     rest->at += part.length;
@@ -68,7 +112,7 @@ static bool scan_number(const struct list *list, struct origin origin, struct te
 
 /* Takes blanks with at most one comma among them off the rest. True if there was
  * a comma. */
-static bool skip_separator(struct text *rest)
+bool skip_separator(struct text *rest)
 {
     *rest = trim(*rest);
     if (rest->length == 0 || rest->at[0] != ',') {
@@ -99,7 +143,7 @@ bool read_numbers(struct list *list, struct origin origin)
     bool more = true;
     while (more) {
         int32_t number = 0;
-        if (!scan_number(list, origin, &rest, &number)) {
+        if (!scan_number(list, origin, &rest, count, &number)) {
             return false;
         }
         if (count < UTVPI_LINE_NUMBERS) {
@@ -110,8 +154,9 @@ bool read_numbers(struct list *list, struct origin origin)
     }
     if (count != UTVPI_LINE_NUMBERS) {
         return wrong(list, origin, nothing,
-                     count < UTVPI_LINE_NUMBERS ? "this line has fewer than five numbers"
-                                                : "this line has more than five numbers",
+                     count < UTVPI_LINE_NUMBERS
+                         ? "this line has fewer than " AS_TEXT(UTVPI_LINE_NUMBERS) " numbers"
+                         : "this line has more than " AS_TEXT(UTVPI_LINE_NUMBERS) " numbers",
                      numbers_advice);
     }
     if (!settle_form(list, origin, FORM_NUMBERS)) {

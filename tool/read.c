@@ -50,14 +50,6 @@ bool add_line(struct list *list, struct origin origin, const int32_t line[UTVPI_
     return true;
 }
 
-static bool starts_with_variables(struct text rule)
-{
-    static const char word[] = "variables";
-    size_t length = sizeof word - 1;
-    return rule.length >= length && memcmp(rule.at, word, length) == 0 &&
-           (rule.length == length || is_blank(rule.at[length]));
-}
-
 /* Reads one rule, which is not empty. */
 static bool read_rule(struct list *list, struct origin origin)
 {
@@ -81,8 +73,8 @@ static bool read_rule(struct list *list, struct origin origin)
     if (in_words) {
         return read_words(list, origin);
     }
-    return starts_with_variables(origin.rule) ? read_variables(list, origin)
-                                              : read_numbers(list, origin);
+    return begins_with_word(origin.rule, "variables") ? read_variables(list, origin)
+                                                      : read_numbers(list, origin);
 }
 
 /* Reads the whole input, up to the first thing that is wrong. With too many names

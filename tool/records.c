@@ -1,7 +1,7 @@
 /* Reading a list that is given as records: a two-byte length of the body, a two-byte
  * kind, the body, the lowest byte of each number first. One record of kind 1 has the
- * number of variables, each of kind 2 a line, and one of kind 3, without a body, is
- * the end. */
+ * number of variables, each of kind 4 a line, each of kind 2 one whose identifier is 0,
+ * without it, and one of kind 3, without a body, is the end. */
 #include "list.h"
 
 #include <string.h>
@@ -9,8 +9,9 @@
 /* The length of the body for each kind. */
 static const uint32_t body_of[] = {
     [UTVPI_KIND_VARIABLES] = UTVPI_VARIABLES_BYTES,
-    [UTVPI_KIND_LINE] = UTVPI_LINE_BYTES,
+    [UTVPI_KIND_LINE] = UTVPI_BARE_LINE_BYTES,
     [UTVPI_KIND_END] = 0,
+    [UTVPI_KIND_IDENTIFIED_LINE] = UTVPI_LINE_BYTES,
 };
 
 /* A refusal with its place, a byte offset; number 0 where nothing is wrong. */
@@ -26,6 +27,23 @@ static uint32_t unpack(const char *from, size_t bytes)
         number |= (uint32_t)(unsigned char)from[at] << (8 * at);
     }
     return number;
+}
+
+/* Of the record at an offset its kind, and a number of its body. */
+static uint32_t kind_at(struct text input, size_t at)
+{
+    return unpack(input.at + at + 2, 2);
+}
+
+static uint32_t number_at(struct text input, size_t at, size_t place)
+{
+    return unpack(input.at + at + UTVPI_RECORD_HEAD + 4 * place, 4);
+}
+
+/* Where the record behind it begins. */
+static size_t next_record(struct text input, size_t at)
+{
+    return at + UTVPI_RECORD_HEAD + body_of[kind_at(input, at)];
 }
 
 /* The number whose lowest 32 bits these are, in a way that every compiler takes. */
@@ -53,8 +71,8 @@ static int fault_of(struct text input, size_t at)
     if (left < UTVPI_RECORD_HEAD) {
         return UTVPI_RECORD_CUT;
     }
-    uint32_t length = unpack(input.at + at, 2), kind = unpack(input.at + at + 2, 2);
-    if (kind < UTVPI_KIND_VARIABLES || kind > UTVPI_KIND_END) {
+    uint32_t length = unpack(input.at + at, 2), kind = kind_at(input, at);
+    if (kind < UTVPI_KIND_VARIABLES || kind > UTVPI_KIND_IDENTIFIED_LINE) {
         return UTVPI_RECORD_UNKNOWN;
     }
     if (length != body_of[kind]) {
@@ -63,7 +81,12 @@ static int fault_of(struct text input, size_t at)
     if (left - UTVPI_RECORD_HEAD < length) {
         return UTVPI_RECORD_CUT;
     }
-    return (kind == UTVPI_KIND_VARIABLES) == (at == 0) ? 0 : UTVPI_RECORD_MISPLACED;
+    if ((kind == UTVPI_KIND_VARIABLES) != (at == 0)) {
+        return UTVPI_RECORD_MISPLACED;
+    }
+    return kind == UTVPI_KIND_IDENTIFIED_LINE && number_at(input, at, IDENTIFIER) == 0
+               ? UTVPI_RECORD_NO_IDENTIFIER
+               : 0;
 }
 
 /* Looks at all records, however many: what is wrong with the last of them comes
@@ -77,17 +100,21 @@ static struct damage first_damage(struct text input)
         if (fault.number != 0) {
             return fault;
         }
-        kind = unpack(input.at + fault.at + 2, 2);
-        fault.at += UTVPI_RECORD_HEAD + body_of[kind];
+        kind = kind_at(input, fault.at);
+        fault.at = next_record(input, fault.at);
     }
     fault.number = fault.at < input.length ? UTVPI_RECORD_AFTER_END : 0;
     return fault;
 }
 
 /* Where the record is that --text prints as this line, counted from 1. */
-size_t record_of(size_t line)
+size_t record_of(const struct list *list, size_t line)
 {
-    return line <= 1 ? 0 : UTVPI_BEFORE_LINES + (line - 2) * UTVPI_LINE_RECORD;
+    size_t at = 0;
+    for (size_t before = 1; before < line; before++) {
+        at = next_record(list->input, at);
+    }
+    return at;
 }
 
 static void read_count(struct list *list)
@@ -95,7 +122,7 @@ static void read_count(struct list *list)
     char *shown = list->shown[0];
     list->form = FORM_NUMBERS;
     list->declared = true;
-    list->variables = unpack(list->input.at + UTVPI_RECORD_HEAD, UTVPI_VARIABLES_BYTES);
+    list->variables = number_at(list->input, 0, 0);
     int length = snprintf(shown, MOST_SHOWN_LINE, "variables %" PRIu64, list->variables);
     list->variables_from = (struct origin){1, {shown, (size_t)length}};
 }
@@ -112,13 +139,14 @@ size_t show_line(char shown[MOST_SHOWN_LINE], const int32_t line[UTVPI_LINE_NUMB
     return length;
 }
 
-/* Adds the line in the record at an offset, and makes the text that it has none of. */
+/* Adds the line in the record at an offset, and makes the text that it has none of.
+ * What the record leaves out, the identifier, is 0. */
 static bool read_line(struct list *list, size_t at)
 {
     char *shown = list->shown[1 + list->count];
-    int32_t line[UTVPI_LINE_NUMBERS];
-    for (size_t part = 0; part < UTVPI_LINE_NUMBERS; part++) {
-        line[part] = with_sign(unpack(list->input.at + at + UTVPI_RECORD_HEAD + 4 * part, 4));
+    int32_t line[UTVPI_LINE_NUMBERS] = {0};
+    for (size_t place = 0; 4 * place < body_of[kind_at(list->input, at)]; place++) {
+        line[place] = with_sign(number_at(list->input, at, place));
     }
     size_t length = show_line(shown, line);
     return add_line(list, (struct origin){2 + list->count, {shown, length}}, line);
@@ -136,8 +164,8 @@ bool read_records(struct list *list)
     }
     size_t end = fault.at - UTVPI_RECORD_HEAD;
     read_count(list);
-    for (size_t at = UTVPI_BEFORE_LINES; at < end && list->count <= UTVPI_MOST_LINES;
-         at += UTVPI_LINE_RECORD) {
+    for (size_t at = next_record(list->input, 0); at < end && list->count <= UTVPI_MOST_LINES;
+         at = next_record(list->input, at)) {
         if (!read_line(list, at)) {
             return false;
         }

@@ -20,7 +20,7 @@ static struct words words_of(enum utvpi_refusal number)
 {
     static const char fault[] = "this is a fault of this program, not of the file: report it";
     static const char again[] = "look for a damaged part, or get the file again";
-    static char length[128];
+    static char length[160];
     switch (number) {
     case UTVPI_TOO_MANY_VARIABLES:
         return (struct words){"there are more than " AS_TEXT(UTVPI_MOST_VARIABLES) " events",
@@ -60,19 +60,23 @@ static struct words words_of(enum utvpi_refusal number)
                               " numbers",
                               "look for a shorter one; with --numbers this program gives one",
                               NOTHING};
+    case UTVPI_BAD_IDENTIFIER:
+        return (struct words){"the identifier is below 0 or above "
+                              AS_TEXT(UTVPI_MOST_IDENTIFIER),
+                              identifier_advice, RULE_AT_PLACE};
     case UTVPI_RECORD_CUT:
         return (struct words){"the file ends before this record does, or before the record of"
                               " kind 3 that ends a list",
                               "get the file again: the end is missing", NOTHING};
     case UTVPI_RECORD_UNKNOWN:
-        return (struct words){"this record's kind, its third and fourth byte, is not 1, 2 or 3",
+        return (struct words){"this record's kind, its third and fourth byte, is not 1, 2, 3 or 4",
                               again, NOTHING};
     case UTVPI_RECORD_LENGTH:
         snprintf(length, sizeof length,
                  "this record's length, its first two bytes, is not %d for kind %d, %zu for kind"
-                 " %d or 0 for kind %d",
-                 UTVPI_VARIABLES_BYTES, UTVPI_KIND_VARIABLES, UTVPI_LINE_BYTES, UTVPI_KIND_LINE,
-                 UTVPI_KIND_END);
+                 " %d, 0 for kind %d or %zu for kind %d",
+                 UTVPI_VARIABLES_BYTES, UTVPI_KIND_VARIABLES, UTVPI_BARE_LINE_BYTES,
+                 UTVPI_KIND_LINE, UTVPI_KIND_END, UTVPI_LINE_BYTES, UTVPI_KIND_IDENTIFIED_LINE);
         return (struct words){length, again, NOTHING};
     case UTVPI_RECORD_MISPLACED:
         return (struct words){"this record is out of place: kind 1, the number of variables,"
@@ -83,6 +87,11 @@ static struct words words_of(enum utvpi_refusal number)
                               "cut the file off at this byte, or get it again", NOTHING};
     case UTVPI_NO_ROOM:
         return (struct words){"a buffer has no room for the list, or for its file", fault,
+                              NOTHING};
+    case UTVPI_RECORD_NO_IDENTIFIER:
+        return (struct words){"this record is a line of kind 4, and its identifier is 0",
+                              "write the line as kind 2, which has no identifier, or look for a"
+                              " damaged part",
                               NOTHING};
     }
     return (struct words){"this number is not known", fault, NOTHING};
@@ -121,7 +130,7 @@ void print_refusal(const struct list *list, const char *file, int number, size_t
     fprintf(stderr, "utvpi: %s", file);
     if (origin.line > 0) {
         fprintf(stderr, list->records ? ", byte %zu" : ", line %zu",
-                list->records ? record_of(origin.line) : origin.line);
+                list->records ? record_of(list, origin.line) : origin.line);
     }
     fprintf(stderr, ": refused with number %d, place %zu: %s.\n", number, place, words.what);
     if (origin.line > 0) {

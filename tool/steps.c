@@ -7,6 +7,12 @@ const int32_t *line_of(const struct list *list, uint32_t step)
     return list->numbers + UTVPI_LINE_NUMBERS * (size_t)(step / 2);
 }
 
+/* The identifier of its line. */
+uint32_t identifier_of(const struct list *list, uint32_t step)
+{
+    return (uint32_t)line_of(list, step)[IDENTIFIER];
+}
+
 /* The point with the other sign. */
 struct point opposite(struct point point)
 {

@@ -1,7 +1,8 @@
 # Reads a file of rules, then what the tool printed about it, and checks a no, or a
-# yes on a refutation: each quoted rule stands in the line named, the rules add up
-# to the sums printed, and these to something false; with can_hold, to something
-# that is not. Prints what is wrong, if anything.
+# yes on a refutation: each quoted rule stands in the line named, with the identifier
+# beside it, the rules add up to the sums printed, and these to something false; with
+# can_hold, to something that is not. Takes line_numbers, the numbers of a line, of
+# which the last is the identifier. Prints what is wrong, if anything.
 
 # Adds a combination such as "x - 2*y <= 3" to sum[], and its bound to sum["<="].
 function add(text, sum,    part, count, at, sign, factor) {
@@ -38,11 +39,30 @@ function half(number) {
     return number % 2 == 0 ? number / 2 : (number - 1) / 2
 }
 
+# An identifier, decimal or hexadecimal with 0x, as it is quoted; nothing for 0.
+function quoted(text,    at, value) {
+    value = text + 0
+    if (text ~ /^0[xX]/) {
+        value = 0
+        for (at = 3; at <= length(text); at++) {
+            value = 16 * value + index("0123456789abcdef", tolower(substr(text, at, 1))) - 1
+        }
+    }
+    return value == 0 ? "" : sprintf("@ 0x%08X", value)
+}
+
+# Rules in words have the identifier behind an @, and are quoted without it.
 FNR == NR {
     sub(/#.*/, "")
     gsub(/^[ \t]+|[ \t\r]+$/, "")
     gsub(/\t/, " ")
     rule[FNR] = $0
+    if (match($0, / *@ */)) {
+        rule[FNR] = substr($0, 1, RSTART - 1)
+        identifier[FNR] = quoted(substr($0, RSTART + RLENGTH))
+    } else if ($0 !~ /[<>=]/ && split($0, part, /[ ,]+/) == line_numbers) {
+        identifier[FNR] = quoted(part[line_numbers])
+    }
     next
 }
 
@@ -52,6 +72,12 @@ FNR == NR {
     sub(/^  line +[0-9]+:  /, "", text)
     if (rule[number] == "" || index(text, rule[number] " ") != 1) {
         print "not in line " number ": " text
+    }
+    named = substr(text, length(rule[number]) + 1)
+    sub(/  (says: |twice:)  .*$/, "", named)
+    gsub(/^ +| +$/, "", named)
+    if (named != identifier[number]) {
+        print "not the identifier of line " number ": " text
     }
     sub(/^.* (says: |twice:)  /, "", text)
     add(text, walk)

@@ -68,6 +68,14 @@ bool is_letter(char c)
     return (c >= 'a' && c <= 'z') || (c >= 'A' && c <= 'Z') || c == '_';
 }
 
+/* Whether a text begins with a word, with nothing or a blank behind it. */
+bool begins_with_word(struct text text, const char *word)
+{
+    size_t length = strlen(word);
+    return text.length >= length && memcmp(text.at, word, length) == 0 &&
+           (text.length == length || is_blank(text.at[length]));
+}
+
 /* The text without the blanks around it. */
 struct text trim(struct text text)
 {

@@ -13,6 +13,7 @@ static int64_t model[UTVPI_MODEL_ROOM(UTVPI_MOST_VARIABLES)];
 static int64_t bounds[UTVPI_BOUNDS_ROOM(UTVPI_MOST_VARIABLES)];
 static uint32_t groups[UTVPI_GROUPS_ROOM(UTVPI_MOST_VARIABLES)];
 static uint32_t refutation[UTVPI_REFUTATION_ROOM(UTVPI_MOST_VARIABLES)];
+static uint32_t identifiers[UTVPI_IDENTIFIERS_ROOM(UTVPI_MOST_VARIABLES)];
 
 /* The list, the model and the refutation as the checkers take them. */
 static uint8_t list_bytes[UTVPI_LINE_BYTES * UTVPI_MOST_LINES];
@@ -66,6 +67,45 @@ static int answer_yes(const struct list *list)
     return STATUS_YES;
 }
 
+/* Whether the identifiers that the library gave for so many steps of its refutation,
+ * which is right, are those of their rules. */
+static bool identifiers_agree(const struct list *list, size_t steps)
+{
+    if (steps > UTVPI_IDENTIFIERS_ROOM(list->variables)) {
+        return false;
+    }
+    for (size_t at = 0; at < steps; at++) {
+        if (identifiers[at] != identifier_of(list, refutation[3 + at])) {
+            return false;
+        }
+    }
+    return true;
+}
+
+/* Prints numbers with a blank between them, after what stands there. */
+static void print_numbers(const char *before, const uint32_t *numbers, size_t count)
+{
+    fputs(before, stdout);
+    for (size_t at = 0; at < count; at++) {
+        printf(at > 0 || before[0] != '\0' ? " %" PRIu32 : "%" PRIu32, numbers[at]);
+    }
+    putchar('\n');
+}
+
+/* Prints a no in numbers: the refutation, of so many steps, and, where some rule has
+ * one, the identifiers of its steps' rules. */
+static void print_no_in_numbers(size_t steps)
+{
+    bool some = false;
+    for (size_t at = 0; at < steps; at++) {
+        some = some || identifiers[at] != 0;
+    }
+    print_numbers("", refutation, 3 + steps);
+    if (some) {
+        print_numbers("identifiers", identifiers, steps);
+    }
+}
+
 /* Prints a no, in words or, to be checked later, in numbers. */
 static int answer_no(const struct list *list, bool in_numbers)
 {
@@ -83,13 +123,13 @@ static int answer_no(const struct list *list, bool in_numbers)
                                              4 * (size_t)count))) {
         return disagree(fails);
     }
+    if (!identifiers_agree(list, (size_t)count - 3)) {
+        return disagree("the library answered no, but not with the identifiers of its rules");
+    }
     if (in_numbers) {
-        for (size_t at = 0; at < count; at++) {
-            printf(at > 0 ? " %" PRIu32 : "%" PRIu32, refutation[at]);
-        }
-        putchar('\n');
+        print_no_in_numbers((size_t)count - 3);
     } else {
-        print_no(list, refutation, "No. No whole numbers meet all the rules.");
+        print_no(list, refutation, identifiers, "No. No whole numbers meet all the rules.");
     }
     return STATUS_NO;
 }
@@ -124,7 +164,8 @@ static int answer(const struct list *list, bool in_numbers)
         model, UTVPI_MODEL_ROOM(UTVPI_MOST_VARIABLES),
         bounds, UTVPI_BOUNDS_ROOM(UTVPI_MOST_VARIABLES),
         groups, UTVPI_GROUPS_ROOM(UTVPI_MOST_VARIABLES),
-        refutation, UTVPI_REFUTATION_ROOM(UTVPI_MOST_VARIABLES), work, work_room(list));
+        refutation, UTVPI_REFUTATION_ROOM(UTVPI_MOST_VARIABLES),
+        identifiers, UTVPI_IDENTIFIERS_ROOM(UTVPI_MOST_VARIABLES), work, work_room(list));
     free(work);
     if (UTVPI_IS_REFUSAL(result)) {
         print_refusal(list, list->file, UTVPI_REFUSAL_NUMBER(result),
@@ -141,9 +182,23 @@ static int answer(const struct list *list, bool in_numbers)
                                : disagree("the library gave a number that is no answer");
 }
 
+/* Prints the answer on a proposed refutation that is right: yes, unless it names
+ * identifiers that are not those of its rules. */
+static int answer_right(const struct list *list, const struct proposal *proposal)
+{
+    size_t place;
+    if (is_misnamed(proposal, &place)) {
+        print_misnamed(list, proposal, place);
+        return STATUS_NO;
+    }
+    print_no(list, proposal->numbers, proposal->identifiers,
+             "Yes. This shows that no whole numbers meet all the rules.");
+    return STATUS_YES;
+}
+
 /* Checks a proposed refutation, number by number, so that neither it nor the list
  * need be packed. The answer is printed only if this program finds the same. */
-static int answer_check(const struct list *list, const struct proposal *proposal)
+static int answer_check(const struct list *list, struct proposal *proposal)
 {
     utvpi_progress kept = utvpi_refutation_begin();
     for (size_t at = 0; at < proposal->count; at++) {
@@ -162,10 +217,9 @@ static int answer_check(const struct list *list, const struct proposal *proposal
         return disagree("the library answered what is beyond its limits");
     }
     struct fault fault = first_fault(list, proposal);
+    note_identifiers(list, proposal);
     if (UTVPI_IS_YES(result) && fault.reason == NO_FAULT) {
-        print_no(list, proposal->numbers,
-                 "Yes. This shows that no whole numbers meet all the rules.");
-        return STATUS_YES;
+        return answer_right(list, proposal);
     }
     if (UTVPI_IS_NO(result) && fault.reason != NO_FAULT &&
         (size_t)UTVPI_NO_PLACE(result) == fault.place) {

@@ -1,11 +1,16 @@
-/* Rules in words: sums of names and numbers on both sides of <=, >= or =. */
+/* Rules in words: sums of names and numbers on both sides of <=, >= or =, and perhaps
+ * the identifier of a message behind them. */
 #include "list.h"
 
 #include <string.h>
 
 static const struct text nothing = {"", 0};
 
-enum kind { END, NAME, NUMBER, PLUS, MINUS, AT_MOST, AT_LEAST, EQUAL };
+static const char message_advice[] =
+    "write @ and the number of the message at the end of the rule, decimal or hexadecimal with"
+    " 0x, such as @ 416944369 or @ 0x18DA10F1";
+
+enum kind { END, NAME, NUMBER, PLUS, MINUS, AT_MOST, AT_LEAST, EQUAL, MESSAGE };
 
 /* A name with its sign, after all is moved to the left. */
 struct term {
@@ -25,6 +30,7 @@ struct parser {
     struct term terms[MOST_RULE];
     size_t count;
     int64_t constant;
+    int32_t identifier;
 };
 
 static bool fail(const struct parser *p, const char *what, const char *advice)
@@ -98,6 +104,32 @@ static bool next_relation(struct parser *p)
     return fail(p, "is not in scope", "write <= for at most, >= for at least or = for equal");
 }
 
+/* Takes @ and the number behind it, up to the next blank or @. */
+static bool next_message(struct parser *p)
+{
+    struct text rest = {p->rest.at + 1, p->rest.length - 1};
+    rest = trim(rest);
+    struct text number = {rest.at, 0};
+    while (number.length < rest.length && !is_blank(number.at[number.length]) &&
+           number.at[number.length] != '@') {
+        number.length++;
+    }
+    struct text digits = number;
+    if (number.length == 0) {
+        take(p, MESSAGE, 1);
+        return fail(p, "has no number behind it", message_advice);
+    }
+    take(p, MESSAGE, (size_t)(number.at + number.length - p->rest.at));
+    if (number.at[0] == '-' || number.at[0] == '+') {
+        return fail(p, "has a sign, and an identifier has none", message_advice);
+    }
+    if (!scan_identifier(&digits, &p->value) || digits.length > 0) {
+        return fail(p, "is no identifier", message_advice);
+    }
+    /* What 32 bits hold, the library looks at. */
+    return p->value <= INT32_MAX || fail(p, identifier_range, identifier_advice);
+}
+
 /* Takes the next part, whatever it is. */
 static bool next(struct parser *p)
 {
@@ -120,9 +152,13 @@ static bool next(struct parser *p)
     if (strchr("<>=!", c) != NULL) {
         return next_relation(p);
     }
+    if (c == '@') {
+        return next_message(p);
+    }
     take(p, END, 1);
     return fail(p, "can't stand in a rule",
-                "use names, whole numbers, +, - and one of <=, >= and =; # begins a comment");
+                "use names, whole numbers, +, - and one of <=, >= and =; @ begins an identifier,"
+                " # a comment");
 }
 
 /* The number of a name; a new name gets the next one. */
@@ -218,7 +254,26 @@ static bool add_turned(const struct parser *p, int sign)
         line[2 * at + 1] = (int32_t)p->terms[at].variable;
     }
     line[BOUND] = (int32_t)d;
+    line[IDENTIFIER] = p->identifier;
     return add_line(p->list, p->origin, line);
+}
+
+/* Reads the end of a rule: perhaps an identifier, and nothing behind it. */
+static bool read_end(struct parser *p)
+{
+    if (p->kind == MESSAGE) {
+        p->identifier = (int32_t)p->value;
+        if (!next(p)) {
+            return false;
+        }
+        if (p->kind != END) {
+            return fail(p, p->kind == MESSAGE ? "is a second identifier"
+                                              : "stands behind the identifier",
+                        "give one identifier, at the end of the rule");
+        }
+    }
+    return p->kind == END ||
+           fail(p, "is a second comparison", "write two rules, one to a line");
 }
 
 /* Reads a rule that has <, > or = in it. */
@@ -232,13 +287,10 @@ bool read_words(struct list *list, struct origin origin)
     if (relation == END) {
         return fail(&p, "the rule has no <=, >= or = between its sides", "write one of them");
     }
-    if (!next(&p) || !read_side(&p, -1)) {
-        return false;
+    if (relation == MESSAGE) {
+        return fail(&p, "stands before the end of the rule", message_advice);
     }
-    if (p.kind != END) {
-        return fail(&p, "is a second comparison", "write two rules, one to a line");
-    }
-    if (!reduce(&p)) {
+    if (!next(&p) || !read_side(&p, -1) || !read_end(&p) || !reduce(&p)) {
         return false;
     }
     return (relation == AT_LEAST || add_turned(&p, 1)) &&

@@ -3,7 +3,7 @@
 use crate::buffers::Buffers;
 use crate::chance::Chance;
 use crate::library;
-use crate::lines::{List, MOST_LINES, MOST_VARIABLES};
+use crate::lines::{List, IDENTIFIER, MOST_IDENTIFIER, MOST_LINES, MOST_VARIABLES};
 use crate::lists::{
     all_count, chain, grid, halves_apart, hub, lone_lines, met, negative_cycle, sparse, Hidden,
     Order,
@@ -117,8 +117,18 @@ pub fn families(most: usize) -> Vec<Family> {
 
 fn family((name, list): Shape, n: usize, lines: usize, count: usize) -> Family {
     let mut chance = Chance(5);
-    let lists = (0..count).map(|_| list(&mut chance, n, lines)).collect();
+    let list = |_| identified(list(&mut chance, n, lines));
+    let lists = (0..count).map(list).collect();
     Family { name, n, lists }
+}
+
+/// The same lines from any messages. The lists are otherwise as without identifiers.
+fn identified(mut list: List) -> List {
+    let mut chance = Chance(9);
+    for line in &mut list {
+        line[IDENTIFIER] = chance.below(MOST_IDENTIFIER + 1) as i32;
+    }
+    list
 }
 
 /// Sparse lists of which half can hold: of those drawn, the first of each verdict.
@@ -129,7 +139,7 @@ fn half_sparse(size: &Size, most: usize) -> Family {
     let mut out = Buffers::new(n);
     let mut lists = Vec::new();
     while missing != [0, 0] {
-        let list = sparse(&mut chance, n, size.lowest);
+        let list = identified(sparse(&mut chance, n, size.lowest));
         let holds = library::decide(n, &list, &mut out) == 0;
         let missing = &mut missing[usize::from(holds)];
         if *missing > 0 {

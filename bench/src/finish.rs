@@ -1,7 +1,7 @@
 //! From the table of least sums to an answer: what every plain way does at its end.
 
 use crate::buffers::Buffers;
-use crate::lines::Line;
+use crate::lines::{Line, NO};
 use crate::potentials::NegativeWalk;
 use crate::refutation::Refutation;
 use crate::rows::least_walk;
@@ -11,15 +11,15 @@ use crate::steps::{false_line, opposite, steps, Step, NONE};
 /// row of a point those from it; or finds a closed walk of negative sum.
 pub type Sums = fn(&[Step], usize, &mut [i64]) -> Result<(), NegativeWalk>;
 
-/// Decides a valid list: 0 for yes, 1,000,000 for no.
+/// Decides a valid list: 0 for yes, `NO` for no.
 pub fn decide(n: usize, list: &[Line], sums: Sums, out: &mut Buffers) -> i64 {
     let answer = solve(2 * n, list, sums, out);
     out.work.fill(0);
     match answer {
         Ok(()) => 0,
         Err(refutation) => {
-            refutation.write(&mut out.refutation);
-            1_000_000
+            refutation.write(list, out);
+            NO
         }
     }
 }

@@ -16,6 +16,8 @@ extern "C" {
         groups_len: usize,
         refutation: *mut u32,
         refutation_len: usize,
+        identifiers: *mut u32,
+        identifiers_len: usize,
         work: *mut i64,
         work_len: usize,
     ) -> i64;
@@ -45,6 +47,8 @@ pub fn decide(n: usize, list: &[Line], out: &mut Buffers) -> i64 {
             out.groups.len(),
             out.refutation.as_mut_ptr(),
             out.refutation.len(),
+            out.identifiers.as_mut_ptr(),
+            out.identifiers.len(),
             out.work.as_mut_ptr(),
             out.work.len(),
         )

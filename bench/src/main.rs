@@ -1,6 +1,7 @@
 //! Times deciding: the library and some ways in plain Rust, on the same lists, in
-//! one run. All of them write all outputs and clear the work area, and each answer
-//! is compared. Multiples are of the library's time to the others'.
+//! one run. All of them write all outputs, the identifiers of a refutation's steps
+//! among them, and clear the work area, and each answer is compared. Multiples are of
+//! the library's time to the others'.
 
 mod bars;
 mod buffers;

@@ -1,4 +1,7 @@
-//! A refutation, as deciding writes it.
+//! A refutation and the identifiers of its steps, as deciding writes them.
+
+use crate::buffers::Buffers;
+use crate::lines::{Line, IDENTIFIER};
 
 pub struct Refutation {
     kind: u32,
@@ -34,9 +37,13 @@ impl Refutation {
         }
     }
 
-    pub fn write(&self, buffer: &mut [u32]) {
+    pub fn write(&self, list: &[Line], out: &mut Buffers) {
         let counts = [self.first.len() as u32, self.second.len() as u32];
         let all = [&[self.kind], &counts[..], &self.first, &self.second].concat();
-        buffer[..all.len()].copy_from_slice(&all);
+        out.refutation[..all.len()].copy_from_slice(&all);
+        let steps = self.first.iter().chain(&self.second);
+        for (place, step) in out.identifiers.iter_mut().zip(steps) {
+            *place = list[*step as usize / 2][IDENTIFIER] as u32;
+        }
     }
 }

@@ -5,7 +5,7 @@ use std::hint::black_box;
 use crate::buffers::Buffers;
 use crate::clock::seconds;
 use crate::library::refutes;
-use crate::lines::Line;
+use crate::lines::{Line, IDENTIFIER};
 use crate::ways::WAYS;
 
 /// The seconds that a list takes each way.
@@ -31,6 +31,8 @@ fn answer(name: &str, n: usize, list: &[Line], result: i64, out: &Buffers) -> An
     assert!(cleared, "{name} leaves numbers in the work area");
     let refuted = result == 0 || refutes(n, list, &out.refutation);
     assert!(refuted, "{name} gives a wrong refutation");
+    let named = result == 0 || names_steps(list, out);
+    assert!(named, "{name} gives wrong identifiers");
     Answer {
         result,
         model: out.model.clone(),
@@ -38,6 +40,14 @@ fn answer(name: &str, n: usize, list: &[Line], result: i64, out: &Buffers) -> An
         groups: out.groups.clone(),
         kind: out.refutation[0],
     }
+}
+
+/// Whether each step of the refutation has the identifier of its line.
+fn names_steps(list: &[Line], out: &Buffers) -> bool {
+    let count = (out.refutation[1] + out.refutation[2]) as usize;
+    let steps = out.refutation[3..].iter().take(count);
+    let due = steps.map(|&step| list[step as usize / 2][IDENTIFIER] as u32);
+    due.eq(out.identifiers.iter().copied().take(count))
 }
 
 /// Whether a list can hold, and its times: the least of some tries, taken in turn.

@@ -8,7 +8,7 @@ use utvpi_tests::bytes;
 use utvpi_tests::chance::Chance;
 use utvpi_tests::decision::{decide, Decision, Reason, Solved, Verdict};
 use utvpi_tests::limits::{LARGEST_BOUND, MOST_LINES, SMALL_VARIABLES};
-use utvpi_tests::lines::{line, Line};
+use utvpi_tests::lines::{identify, line, Line};
 use utvpi_tests::make_lists::{small, Shape};
 use utvpi_tests::second::{self, Answer};
 use utvpi_tests::{brute, closure};
@@ -108,7 +108,8 @@ fn all_lists_of_two_lines() {
         }
         for first in &all {
             for second in &all {
-                let lines = [*first, *second];
+                let mut lines = [*first, *second];
+                identify(&mut chance, &mut lines);
                 let due = brute::verdict(n as usize, &lines);
                 let decision = decide(&mut chance, n as u64, &lines);
                 assert_eq!(decision.verdict, due, "n: {n}\nlines: {lines:?}");

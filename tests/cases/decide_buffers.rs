@@ -5,13 +5,13 @@
 
 use std::thread;
 
-use utvpi_tests::buffers::{needed, Buffers};
+use utvpi_tests::buffers::{needed, Buffers, Lengths, BUFFERS, OUTPUTS};
 use utvpi_tests::chance::Chance;
 use utvpi_tests::closure;
 use utvpi_tests::damage::{damaged_list, refused_lists};
 use utvpi_tests::decision::{decide, decide_in, Decision, Verdict};
 use utvpi_tests::limits::{LINE_NUMBERS, MOST_N, SMALL_VARIABLES};
-use utvpi_tests::lines::{zero, Line};
+use utvpi_tests::lines::{identified, zero, Line};
 use utvpi_tests::make_lists::{small, Shape};
 
 /// Some lists for these tests: most tiny, few larger.
@@ -29,25 +29,28 @@ fn some_list(chance: &mut Chance) -> (u64, Vec<Line>) {
     }
 }
 
+/// These lengths, each one less where this number has its bit; but a buffer of no
+/// numbers can't be shorter.
+fn cut_by(full: Lengths, short: usize) -> Lengths {
+    std::array::from_fn(|at| full[at].saturating_sub(short >> at & 1))
+}
+
 /// Each set of buffers may be one too short: the first short output is named,
 /// and the work area comes last.
 #[test]
 fn which_buffer_is_short() {
     let mut chance = Chance::new(70);
-    let lists: [&[i32]; 3] = [&[], &zero(-1), &zero(1)];
+    let lists = [vec![], vec![zero(-1)], vec![zero(1)]].map(|lines| identified(&lines).concat());
     for n in [0, 1, 2, 5, MOST_N] {
-        for short in 0..32 {
-            let cut = |at: usize| usize::from(short >> at & 1 == 1);
-            // A buffer of no numbers can't be shorter.
+        for short in 0..1 << BUFFERS {
             let full = needed(n);
-            let lengths: Vec<usize> = (0..5).map(|at| full[at].saturating_sub(cut(at))).collect();
-            let lengths: [usize; 5] = lengths.try_into().unwrap();
-            let first = (0..5).find(|&at| lengths[at] < full[at]);
-            for list in lists {
+            let lengths = cut_by(full, short);
+            let first = (0..BUFFERS).find(|&at| lengths[at] < full[at]);
+            for list in &lists {
                 let mut buffers = Buffers::new(&mut chance, lengths);
                 let verdict = decide_in(&mut buffers, n, list).verdict;
                 match first {
-                    Some(4) => assert_eq!(verdict, Verdict::Refused(8, 0)),
+                    Some(OUTPUTS) => assert_eq!(verdict, Verdict::Refused(8, 0)),
                     Some(at) => assert_eq!(verdict, Verdict::Refused(7, at + 1)),
                     None => assert!(!matches!(verdict, Verdict::Refused(..))),
                 }
@@ -61,12 +64,12 @@ fn which_buffer_is_short() {
 fn empty_buffers() {
     let mut chance = Chance::new(71);
     for n in [1, 3, MOST_N] {
-        for at in 0..5 {
+        for at in 0..BUFFERS {
             let mut lengths = needed(n);
             lengths[at] = 0;
             let mut buffers = Buffers::new(&mut chance, lengths);
             let verdict = decide_in(&mut buffers, n, &[]).verdict;
-            let due = if at == 4 { (8, 0) } else { (7, at + 1) };
+            let due = if at == OUTPUTS { (8, 0) } else { (7, at + 1) };
             assert_eq!(verdict, Verdict::Refused(due.0, due.1));
         }
     }
@@ -77,10 +80,8 @@ fn empty_buffers() {
 fn list_refusals_go_first() {
     let mut chance = Chance::new(72);
     for (n, list, due) in refused_lists() {
-        for short in 0..32 {
-            let full = needed(2);
-            let lengths = [0, 1, 2, 3, 4].map(|at| full[at] - (short >> at & 1));
-            let mut buffers = Buffers::new(&mut chance, lengths);
+        for short in 0..1 << BUFFERS {
+            let mut buffers = Buffers::new(&mut chance, cut_by(needed(2), short));
             let verdict = decide_in(&mut buffers, n, &list).verdict;
             assert_eq!(verdict, Verdict::Refused(due.0, due.1), "{list:?}");
         }
@@ -92,13 +93,13 @@ fn list_refusals_go_first() {
 #[test]
 fn damaged_lists() {
     let mut chance = Chance::new(73);
-    let mut refused = [0; 9];
+    let mut refused = [0; 14];
     let mut decided = 0;
     for _ in 0..60_000 {
         let (n, lines) = some_list(&mut chance);
         let mut lengths = needed(n);
         if chance.one_in(6) {
-            let at = chance.below(5);
+            let at = chance.below(BUFFERS);
             lengths[at] = lengths[at].saturating_sub(chance.between(1, 3) as usize);
         }
         let (n, list) = damaged_list(&mut chance, n, &lines.concat());
@@ -121,10 +122,9 @@ fn damaged_lists() {
     }
     println!("{decided} decided, refused by number {:?}", &refused[1..]);
     assert!(decided >= 1_000);
-    assert!(
-        refused[1..].iter().all(|&times| times >= 100),
-        "{refused:?}"
-    );
+    for number in [1, 2, 3, 4, 5, 6, 7, 8, 13] {
+        assert!(refused[number] >= 100, "refusal {number} in {refused:?}");
+    }
 }
 
 /// The same list gets the same answer whatever stood in the buffers, however

@@ -5,16 +5,17 @@ use utvpi_tests::buffers::{needed, Buffers};
 use utvpi_tests::chance::Chance;
 use utvpi_tests::decision::{decide, decide_in, Decision, Reason, Solved, Verdict};
 use utvpi_tests::document::{largest, CASE_4};
-use utvpi_tests::limits::SMALL_VARIABLES;
 use utvpi_tests::limits::{LARGEST_BOUND, LAST_VARIABLE, MOST_LINES, MOST_N, MOST_VARIABLES};
-use utvpi_tests::lines::{line, lone, zero, Line, BOUND, X, Y};
+use utvpi_tests::limits::{NO_IDENTIFIERS, SMALL_VARIABLES};
+use utvpi_tests::lines::{identified, identify, line, lone, zero, Line, BOUND, IDENTIFIER, X, Y};
 use utvpi_tests::{brute, closure};
 
 /// The numbers that stand for no least and no greatest value.
 const NO_LEAST: i64 = i64::MIN;
 const NO_GREATEST: i64 = i64::MAX;
 
-/// The decision, the same from buffers with different rubbish.
+/// The decision, the same from buffers with different rubbish, and the same but for
+/// the walks with other identifiers.
 fn decided(n: u64, lines: &[Line]) -> Decision {
     let mut chance = Chance::new(n + lines.len() as u64);
     let first = decide(&mut chance, n, lines);
@@ -26,6 +27,10 @@ fn decided(n: u64, lines: &[Line]) -> Decision {
     };
     for _ in 0..again {
         assert_eq!(decide(&mut chance, n, lines), first);
+        let mut others = lines.to_vec();
+        identify(&mut chance, &mut others);
+        let verdict = decide(&mut chance, n, &others).verdict;
+        assert_eq!(verdict, first.verdict, "{others:?}");
     }
     first
 }
@@ -158,13 +163,18 @@ fn case_11_the_limits() {
     longer.push(lines[0]);
     assert_eq!(refused(MOST_N, &longer.concat()), Verdict::Refused(3, 0));
     // One number more than a line.
-    let broken = [&line(1, 0, 1, 0, 5)[..], &[1]].concat();
+    let broken = [&identified(&[line(1, 0, 1, 0, 5)]).concat()[..], &[1]].concat();
     assert_eq!(refused(MOST_N, &broken), Verdict::Refused(2, 0));
     for at in [0, 1, MOST_LINES / 2, MOST_LINES - 1] {
         for bound in [1_000_001, -1_000_001, i32::MAX, i32::MIN] {
             let mut lines = lines.clone();
             lines[at][BOUND] = bound;
             assert_eq!(refused(MOST_N, &lines.concat()), Verdict::Refused(6, at));
+        }
+        for identifier in NO_IDENTIFIERS {
+            let mut lines = lines.clone();
+            lines[at][IDENTIFIER] = identifier;
+            assert_eq!(refused(MOST_N, &lines.concat()), Verdict::Refused(13, at));
         }
     }
 }
@@ -186,16 +196,17 @@ fn case_11_the_largest_sums() {
         groups: (0..MOST_VARIABLES as u32).collect(),
     });
     lines.reverse();
-    assert_eq!(decided(MOST_N, &lines).verdict, due);
+    assert_eq!(decided(MOST_N, &identified(&lines)).verdict, due);
     // The last one at most 1,000,000 above the first.
     lines.push(line(1, LAST_VARIABLE, -1, 0, most));
-    let verdict = decided(MOST_N, &lines).verdict;
+    let verdict = decided(MOST_N, &identified(&lines)).verdict;
     assert_eq!(verdict, Verdict::No(Reason::ClosedWalk));
 }
 
-/// The lines in some order, and of not too many variables as they are and turned
-/// round too: which walks are found late depends on it.
+/// The lines with identifiers, in some order, and of not too many variables as they are
+/// and turned round too: which walks are found late depends on it.
 fn orders(n: i32, lines: &[Line]) -> Vec<Vec<Line>> {
+    let lines = identified(lines);
     let order = Chance::new(9).order(lines.len());
     let mut orders = vec![order.iter().map(|&at| lines[at]).collect()];
     if n as usize <= SMALL_VARIABLES {
@@ -268,7 +279,7 @@ fn the_longest_halved_walks() {
 #[test]
 fn case_12_which_refusal() {
     for at in [X, Y] {
-        let mut line = line(1, 0, 1, 0, 5);
+        let mut line = identified(&[line(1, 0, 1, 0, 5)])[0];
         // The specification's n, and the most.
         for n in [64, MOST_VARIABLES] {
             line[at] = n as i32;
@@ -280,6 +291,6 @@ fn case_12_which_refusal() {
         line[at] = 99;
         assert_eq!(refused(64, &line), Verdict::Refused(4, 0));
     }
-    let two = [line(1, 0, 1, 0, 1_000_001), line(2, 0, 1, 0, 0)];
+    let two = identified(&[line(1, 0, 1, 0, 1_000_001), line(2, 0, 1, 0, 0)]);
     assert_eq!(refused(64, &two.concat()), Verdict::Refused(6, 0));
 }

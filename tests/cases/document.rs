@@ -2,16 +2,29 @@
 
 use utvpi_tests::bytes;
 use utvpi_tests::document::{largest, CASE_4};
+use utvpi_tests::limits::NO_IDENTIFIERS;
 use utvpi_tests::limits::{LINE_BYTES, LINE_NUMBERS, MOST_LINES, MOST_N, MOST_VARIABLES};
-use utvpi_tests::lines::{line, lone, zero, Line, BOUND};
+use utvpi_tests::lines::{identified, line, lone, zero, Line, BOUND, IDENTIFIER};
 use utvpi_tests::second::Answer::{self, No, Refused, Yes};
 
+/// The answer that is given to these lines as they are, and to the same ones with other
+/// identifiers.
+fn both(lines: &[Line], answer: impl Fn(&[u8]) -> Answer) -> Answer {
+    let [one, other] = [lines, &identified(lines)].map(|lines| answer(&bytes::list(lines)));
+    assert_eq!(one, other, "{lines:?}");
+    one
+}
+
 fn model(n: u64, lines: &[Line], values: &[i64]) -> Answer {
-    utvpi_tests::model(n, &bytes::list(lines), &bytes::model(values))
+    both(lines, |list| {
+        utvpi_tests::model(n, list, &bytes::model(values))
+    })
 }
 
 fn refutation(n: u64, lines: &[Line], numbers: &[u32]) -> Answer {
-    utvpi_tests::refutation(n, &bytes::list(lines), &bytes::refutation(numbers))
+    both(lines, |list| {
+        utvpi_tests::refutation(n, list, &bytes::refutation(numbers))
+    })
 }
 
 #[test]
@@ -143,6 +156,11 @@ fn case_11_just_too_much() {
             high[line][BOUND] = d;
             assert_eq!(refused(MOST_N, &bytes::list(&high)), Refused(6, line));
         }
+        for identifier in NO_IDENTIFIERS {
+            let mut other = lines.clone();
+            other[line][IDENTIFIER] = identifier;
+            assert_eq!(refused(MOST_N, &bytes::list(&other)), Refused(13, line));
+        }
     }
 }
 
@@ -164,7 +182,7 @@ fn case_11_a_broken_length() {
 
 #[test]
 fn case_12_variables_and_coefficients() {
-    let list = |lines: &[Line]| bytes::list(lines);
+    let list = |lines: &[Line]| bytes::list(&identified(lines));
     // Variable n of n, never taken as variable 0, and others with high bits: for
     // the specification's n, and for the most.
     for n in [64, MOST_VARIABLES as i32] {

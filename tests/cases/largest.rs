@@ -14,9 +14,10 @@ use utvpi_tests::files::{read, write};
 use utvpi_tests::library;
 use utvpi_tests::limits::{LARGEST_BOUND, LAST_VARIABLE, MOST_FILE, MOST_LINES};
 use utvpi_tests::limits::{MOST_N, MOST_NUMBERS, MOST_STACK, MOST_VARIABLES};
-use utvpi_tests::lines::{line, lone, zero, Line};
+use utvpi_tests::lines::{identify, line, lone, zero, Line};
 use utvpi_tests::make_lists::Shape;
-use utvpi_tests::records::List;
+use utvpi_tests::records::{self, List};
+use utvpi_tests::second::Answer;
 
 /// The decision on a list of the most variables and lines, which both checkers
 /// have accepted, after making sure that another method answers the same, that
@@ -26,7 +27,7 @@ fn decided(chance: &mut Chance, lines: &[Line]) -> Decision {
     assert_eq!(lines.len(), MOST_LINES);
     let numbers = lines.concat();
     let file = write(chance, MOST_N, &numbers, MOST_FILE).unwrap();
-    assert_eq!(file.len(), MOST_FILE);
+    assert_eq!(file.len(), records::size(&numbers));
     let list = read(chance, &file, MOST_NUMBERS).unwrap();
     let decision = decide(chance, MOST_N, lines);
     assert_eq!(decision.verdict, closure::verdict(MOST_VARIABLES, lines));
@@ -37,7 +38,7 @@ fn decided(chance: &mut Chance, lines: &[Line]) -> Decision {
         // Cut by its last step, it has fewer numbers than its counts ask for.
         assert_eq!(
             library::refutation_end(kept, MOST_N, &list.numbers),
-            1_000_002
+            Answer::No(2).code()
         );
         let kept = last.iter().fold(kept, take);
         assert_eq!(library::refutation_end(kept, MOST_N, &list.numbers), 0);
@@ -54,7 +55,7 @@ fn direction(x: i32) -> i32 {
 }
 
 /// These lines and others that the values ±n to n meet with much to spare, up to
-/// the most, in some order.
+/// the most, with identifiers and in some order.
 fn filled(chance: &mut Chance, mut lines: Vec<Line>) -> Vec<Line> {
     while lines.len() < MOST_LINES {
         let mut term = || [chance.pick(&[-1, 1]), chance.below(MOST_VARIABLES) as i32];
@@ -62,6 +63,7 @@ fn filled(chance: &mut Chance, mut lines: Vec<Line>) -> Vec<Line> {
         let bound = chance.between(LARGEST_BOUND / 2, LARGEST_BOUND) as i32;
         lines.push(line(a, x, b, y, bound));
     }
+    identify(chance, &mut lines);
     let order = chance.order(lines.len());
     order.iter().map(|&at| lines[at]).collect()
 }
@@ -142,6 +144,7 @@ fn random_lists() {
         };
         let mut lines = shape.met(&mut chance, 1);
         lines.push(zero(0));
+        identify(&mut chance, &mut lines);
         let Verdict::Yes(solved) = decided(&mut chance, &lines).verdict else {
             panic!("values meet the list, but it is a no");
         };
@@ -149,6 +152,7 @@ fn random_lists() {
         let x = (0..MOST_VARIABLES).find(near).unwrap();
         let greatest = solved.bounds[2 * x + 1] as i32;
         lines[MOST_LINES - 1] = line(0, 0, -1, x as i32, -greatest - 1);
+        identify(&mut chance, &mut lines);
         let verdict = decided(&mut chance, &lines).verdict;
         assert!(matches!(verdict, Verdict::No(_)), "{verdict:?}");
     }
@@ -165,7 +169,8 @@ fn little_stack() {
     let (numbers, packed) = (lines.concat(), bytes::list(&lines));
     let values = bytes::model(&[0; MOST_VARIABLES]);
     let proposed = bytes::refutation(&[1, 1, 0, 0]);
-    let mut file = vec![0; MOST_FILE];
+    let size = records::size(&numbers);
+    let mut file = vec![0; size];
     let mut again = vec![0; MOST_NUMBERS];
     let mut buffers = Buffers::new(&mut Chance::new(114), needed(MOST_N));
     let calls = thread::Builder::new().stack_size(MOST_STACK + OWN_STACK);
@@ -183,7 +188,8 @@ fn little_stack() {
         });
         calls.unwrap().join().unwrap()
     });
-    let (size, count) = (MOST_FILE as i64, MOST_LINES as i64);
-    assert_eq!(results, [0, 1_000_003, 1_000_000, size, count, 0]);
+    let [at_0, at_3] = [0, 3].map(|place| Answer::No(place).code());
+    let due = [0, at_3, at_0, size as i64, MOST_LINES as i64, 0];
+    assert_eq!(results, due);
     assert_eq!(again, numbers);
 }

@@ -11,7 +11,7 @@ use utvpi_tests::document::CASE_4;
 use utvpi_tests::library::{self, Progress};
 use utvpi_tests::limits::NUMBER_BYTES;
 use utvpi_tests::limits::{LARGEST_BOUND, MOST_LINES, MOST_REFUTATION, MOST_VARIABLES};
-use utvpi_tests::lines::{line, lone, zero, Line, BOUND};
+use utvpi_tests::lines::{identified, line, lone, zero, Line, BOUND};
 use utvpi_tests::make_cases::some_case;
 use utvpi_tests::second;
 use utvpi_tests::second::Answer::{self, No, Refused, Yes};
@@ -226,7 +226,7 @@ fn random_pieces() {
             }
         }
     }
-    seen.must_include(&[1, 2, 3, 4, 5, 6, 11], 140_000);
+    seen.must_include(&[1, 2, 3, 4, 5, 6, 11, 13], 140_000);
     println!("accepted when cut {cuts:?}, {} asked early", early.inputs);
     assert!(cuts.all().iter().all(|&times| times >= 500), "{cuts:?}");
     assert!(early.inputs >= 50_000 && early.yes >= 500 && early.no >= 10_000);
@@ -269,7 +269,13 @@ fn all_ways_to_cut() {
             _ if read < 3 => No(0),
             _ => No(2),
         };
-        for way in 0..1 << (numbers.len() + 1) {
+        for way in 0..2 << (numbers.len() + 1) {
+            // The identifiers that the specification has, or others.
+            let lines = match way % 2 {
+                0 => lines.clone(),
+                _ => identified(&lines),
+            };
+            let way = way / 2;
             let mut reading = Reading::begin(n, &lines.concat(), numbers);
             for place in (0..=numbers.len()).filter(|place| way >> place & 1 == 1) {
                 reading.take_up_to(place);
@@ -329,19 +335,23 @@ fn unless_long(length: usize, answer: Answer) -> Answer {
     }
 }
 
+/// A list whose steps each lead from x to x, or from -x to -x: x - x ≤ d.
+fn round(d: i32) -> Vec<i32> {
+    identified(&[line(1, 0, -1, 0, d)]).concat()
+}
+
 /// One walk as long as is let in, or about so long: refusal 11 comes with the
 /// first number too many and stays.
 #[test]
 fn lengths_of_one_walk() {
     for length in LENGTHS {
         let right = of_length(length - 3, length);
-        // x - x ≤ d: each step leads from x to x. The 32 low bits of 65,533 times
-        // -983,040 are those of a number above 0.
+        // The 32 low bits of 65,533 times -983,040 are those of a number above 0.
         for d in [-1_000_000, -983_040, -1, 0] {
             let due = unless_long(length, if d < 0 { Yes } else { No(length - 1) });
-            assert_eq!(answer_if_long(1, &line(1, 0, -1, 0, d), &right), due, "{d}");
+            assert_eq!(answer_if_long(1, &round(d), &right), due, "{d}");
         }
-        let list = line(1, 0, -1, 0, -1);
+        let list = round(-1);
         // Counts that are right where as many numbers are read as are let in.
         let most = of_length(MOST_REFUTATION - 3, length);
         let due = unless_long(
@@ -375,7 +385,7 @@ fn lengths_of_two_walks() {
         for (at, step) in numbers[3..].iter_mut().enumerate() {
             *step = 2 * (at as u32 % 2);
         }
-        for list in [halves.concat(), largest.concat()] {
+        for list in [halves, largest].map(|lines| identified(&lines).concat()) {
             numbers[..3].copy_from_slice(&[1, steps as u32, 0]);
             let end = if steps % 2 == 0 { Yes } else { No(length - 1) };
             let due = unless_long(length, end);
@@ -394,7 +404,7 @@ fn lengths_of_two_walks() {
 #[test]
 fn list_refusals_go_first() {
     for (n, list, (number, place)) in damage::refused_lists() {
-        let after_a_line = [&line(1, 0, -1, 0, -1)[..], &list].concat();
+        let after_a_line = [&round(-1)[..], &list].concat();
         let shift = usize::from(number >= 4);
         for length in [4, MOST_REFUTATION, MOST_REFUTATION + 1, TOO_MANY] {
             let numbers = of_length(length - 3, length);
@@ -542,7 +552,7 @@ fn answer_to(kept: Progress, n: u64, list: &[i32]) -> Answer {
         Refused(number, place) => Refused(number, place),
         _ if kept.read > MOST_REFUTATION => Refused(11, 0),
         _ if result == 0 => Yes,
-        _ => No(usize::try_from(result - 1_000_000).unwrap_or(usize::MAX)),
+        _ => No(usize::try_from(result - No(0).code()).unwrap_or(usize::MAX)),
     };
     let shown = || format!("{kept:?}, n {n}, {list:?}: {result}");
     assert_eq!(result, answer.code(), "{}", shown());
@@ -627,7 +637,7 @@ fn any_state() {
     println!("{changed} states were changed, of which {changed_yes} were accepted");
     println!("{at_kept_place} broke at the place kept, {at_last_number} at the last number");
     assert!(at_kept_place >= 1_000 && at_last_number >= 1_000);
-    seen.must_include(&[1, 2, 3, 4, 5, 6, 11], 200_000);
+    seen.must_include(&[1, 2, 3, 4, 5, 6, 11, 13], 200_000);
     assert!(changed >= 100_000 && changed_yes >= 1_000);
 }
 
@@ -660,7 +670,7 @@ fn any_number_for_good() {
 #[test]
 fn any_bytes() {
     let mut chance = Chance::new(82);
-    let list = CASE_4.concat();
+    let list = identified(&CASE_4).concat();
     let (mut broken, mut too_long) = (0, 0);
     for round in 0..200_000 {
         let mut bytes: Stored = std::array::from_fn(|_| chance.next() as u8);

@@ -7,7 +7,7 @@ use utvpi_tests::bytes;
 use utvpi_tests::chance::Chance;
 use utvpi_tests::library;
 use utvpi_tests::limits::MOST_REFUTATION;
-use utvpi_tests::lines::{line, lone, zero, Line, BOUND};
+use utvpi_tests::lines::{identified, identify, line, lone, zero, Line, BOUND};
 use utvpi_tests::make;
 use utvpi_tests::second::{self, Answer, Fault};
 
@@ -107,26 +107,24 @@ const BROKEN: [(&[u32], usize); 50] = [
 
 /// What the end answers to these numbers, taken one by one.
 fn taken(n: u64, lines: &[Line], numbers: &[u32]) -> i64 {
-    let list = lines.concat();
-    let take = |kept, &number: &u32| library::refutation_take(kept, &list, number);
-    let kept = numbers.iter().fold(library::refutation_begin(), take);
-    library::refutation_end(kept, n, &list)
+    library::refutation_in_pieces(n, &lines.concat(), numbers)
 }
 
 #[test]
 fn places_worked_out_by_hand() {
-    let list = bytes::list(&LINES);
+    let lines = identified(&LINES);
+    let list = bytes::list(&lines);
     for right in RIGHT {
         let packed = bytes::refutation(right);
         let answer = utvpi_tests::refutation(2, &list, &packed);
         assert_eq!(answer, Answer::Yes, "{right:?}");
-        assert_eq!(taken(2, &LINES, right), 0, "{right:?}");
+        assert_eq!(taken(2, &lines, right), 0, "{right:?}");
     }
     for (numbers, place) in BROKEN {
         let mut packed = bytes::refutation(numbers);
         let result = library::check_refutation(2, &list, &packed);
-        assert_eq!(result, 1_000_000 + place as i64, "{numbers:?}");
-        assert_eq!(taken(2, &LINES, numbers), result, "{numbers:?}");
+        assert_eq!(result, Answer::No(place).code(), "{numbers:?}");
+        assert_eq!(taken(2, &lines, numbers), result, "{numbers:?}");
         let answer = utvpi_tests::refutation(2, &list, &packed);
         assert_eq!(answer, Answer::No(place), "{numbers:?}");
         // Bytes beyond whole numbers leave no place to name.
@@ -148,7 +146,7 @@ fn all_short_refutations() {
         zero(-1),
         line(1, 0, -1, 0, 0),
     ];
-    let list = bytes::list(&lines);
+    let list = bytes::list(&identified(&lines));
     let (mut yes, mut no_at) = (0, [0; 7]);
     for head in 0..5 * 5 * 5 {
         let head = [head / 25, head / 5 % 5, head % 5];
@@ -188,6 +186,7 @@ fn some_right(chance: &mut Chance, long: usize) -> Refuted {
         let (sign, variable) = (chance.pick(&[-1, 1]), chance.below(n as usize) as i32);
         lines.push(chance.pick(&[lone(sign, variable, 0), line(0, 0, sign, variable, 0)]));
         lines.push(zero(make::bound(chance)));
+        identify(chance, &mut lines);
         if chance.one_in(long) && proposal.kind != 3 {
             // Round and round, as often as there is room.
             let round = [&proposal.second[..], &proposal.first].concat();
@@ -420,7 +419,7 @@ fn damage_at_every_place() {
 /// The library's place on a refutation that is not accepted.
 fn place_of(n: u64, list: &[u8], numbers: &[u32]) -> Option<usize> {
     let result = library::check_refutation(n, list, &bytes::refutation(numbers));
-    let place = usize::try_from(result - 1_000_000).ok();
+    let place = usize::try_from(result - Answer::No(0).code()).ok();
     assert!(place.is_some() || result == 0, "the result is {result}");
     place
 }

@@ -2,9 +2,9 @@
 //! given where several apply; and which line a model's no names.
 
 use utvpi_tests::bytes;
-use utvpi_tests::limits::{LARGEST_VALUE, LAST_VARIABLE, LINE_BYTES, MOST_LINES};
+use utvpi_tests::limits::{LARGEST_VALUE, LAST_IDENTIFIER, LAST_VARIABLE, LINE_BYTES, MOST_LINES};
 use utvpi_tests::limits::{MOST_N, MOST_REFUTATION, MOST_VARIABLES};
-use utvpi_tests::lines::{line, lone, zero, Line, BOUND, X};
+use utvpi_tests::lines::{identified, line, lone, zero, Line, BOUND, IDENTIFIER, X};
 use utvpi_tests::make;
 use utvpi_tests::second::Answer::{self, No, Refused, Yes};
 use utvpi_tests::{model, refutation};
@@ -19,6 +19,7 @@ enum Fault {
     Coefficient(usize),
     Variable(usize),
     Bound(usize),
+    Identifier(usize),
     ModelLength,
     ModelValue(usize),
     LongRefutation,
@@ -35,6 +36,7 @@ impl Fault {
             Coefficient(line) => ((4, line, 4), Refused(4, line)),
             Variable(line) => ((4, line, 5), Refused(5, line)),
             Bound(line) => ((4, line, 6), Refused(6, line)),
+            Identifier(line) => ((4, line, 13), Refused(13, line)),
             ModelLength => ((9, 0, 0), Refused(9, 0)),
             ModelValue(index) => ((10, index, 0), Refused(10, index)),
             LongRefutation => ((11, 0, 0), Refused(11, 0)),
@@ -42,36 +44,45 @@ impl Fault {
     }
 }
 
-const FAULTS: [Fault; 15] = [
+const FAULTS: [Fault; 18] = [
     Variables,
     ListLength,
     Lines,
     Coefficient(0),
     Variable(0),
     Bound(0),
+    Identifier(0),
     Coefficient(1),
     Variable(1),
     Bound(1),
+    Identifier(1),
     Coefficient(MOST_LINES - 1),
     Bound(MOST_LINES - 1),
+    Identifier(MOST_LINES - 1),
     ModelLength,
     ModelValue(0),
     ModelValue(MOST_VARIABLES - 1),
     LongRefutation,
 ];
 
+/// The bytes of these lines with identifiers.
+fn list(lines: &[Line]) -> Vec<u8> {
+    bytes::list(&identified(lines))
+}
+
 /// Both checkers' answers to an input with just these faults.
 fn answers(faults: &[Fault]) -> [Answer; 2] {
     let has = |fault| faults.contains(&fault);
     let more = |fault| usize::from(has(fault));
     let line = line(1, LAST_VARIABLE, -1, 0, 5);
-    let mut lines: Vec<Line> = vec![line; MOST_LINES + more(Lines)];
+    let mut lines = identified(&vec![line; MOST_LINES + more(Lines)]);
     let mut values = vec![LARGEST_VALUE; MOST_VARIABLES];
     for fault in faults {
         match *fault {
             Coefficient(line) => lines[line][2] = 2,
             Variable(line) => lines[line][X] = 2 * LAST_VARIABLE,
             Bound(line) => lines[line][BOUND] = -1_000_001,
+            Identifier(line) => lines[line][IDENTIFIER] = LAST_IDENTIFIER + 1,
             ModelValue(index) => values[index] = -LARGEST_VALUE - 1,
             _ => {}
         }
@@ -177,9 +188,9 @@ fn coefficients_and_variables() {
             line(0, 0, coefficient, 0, 0),
             line(1, 7, coefficient, 99, i32::MAX),
         ] {
-            let list = bytes::list(&[line(1, 0, 1, 1, 0), bad]);
-            assert_eq!(model(2, &list, &[0; 16]), Refused(4, 1));
-            assert_eq!(refutation(2, &list, &[]), Refused(4, 1));
+            let packed = list(&[line(1, 0, 1, 1, 0), bad]);
+            assert_eq!(model(2, &packed, &[0; 16]), Refused(4, 1));
+            assert_eq!(refutation(2, &packed, &[]), Refused(4, 1));
         }
     }
     // Every number of variables, with variable numbers about both ends of its range.
@@ -193,13 +204,13 @@ fn coefficients_and_variables() {
                 for line in [lone(sign, variable, 0), line(0, 0, sign, variable, 0)] {
                     let expected = if there { Yes } else { Refused(5, 0) };
                     let values = vec![0; 8 * n as usize];
-                    assert_eq!(model(n as u64, &bytes::list(&[line]), &values), expected);
+                    assert_eq!(model(n as u64, &list(&[line]), &values), expected);
                 }
             }
             // Beside the coefficient 0 only the number 0 stands, even if n is 0.
             for line in [line(0, variable, 0, 0, 0), line(0, 0, 0, variable, 0)] {
                 let expected = if variable == 0 { No(0) } else { Refused(5, 0) };
-                assert_eq!(refutation(n as u64, &bytes::list(&[line]), &[]), expected);
+                assert_eq!(refutation(n as u64, &list(&[line]), &[]), expected);
             }
         }
     }
@@ -208,10 +219,7 @@ fn coefficients_and_variables() {
 #[test]
 fn bounds_at_their_limits() {
     for d in [-1_000_000, -999_999, 999_999, 1_000_000] {
-        assert_eq!(
-            refutation(1, &bytes::list(&[line(1, 0, 1, 0, d)]), &[]),
-            No(0)
-        );
+        assert_eq!(refutation(1, &list(&[line(1, 0, 1, 0, d)]), &[]), No(0));
     }
     for d in [
         -1_000_001,
@@ -222,10 +230,10 @@ fn bounds_at_their_limits() {
         i32::MAX,
     ] {
         assert_eq!(
-            refutation(1, &bytes::list(&[line(1, 0, 1, 0, d)]), &[]),
+            refutation(1, &list(&[line(1, 0, 1, 0, d)]), &[]),
             Refused(6, 0)
         );
-        assert_eq!(model(1, &bytes::list(&[zero(d)]), &[0; 8]), Refused(6, 0));
+        assert_eq!(model(1, &list(&[zero(d)]), &[0; 8]), Refused(6, 0));
     }
 }
 
@@ -248,10 +256,7 @@ fn the_length_of_a_model() {
             16 * MOST_VARIABLES,
         ] {
             let expected = if bytes == right { Yes } else { Refused(9, 0) };
-            assert_eq!(
-                model(n, &bytes::list(&[zero(0)]), &vec![0; bytes]),
-                expected
-            );
+            assert_eq!(model(n, &list(&[zero(0)]), &vec![0; bytes]), expected);
             // Values beyond the limits come after the length.
             if bytes != right {
                 assert_eq!(model(n, &[], &vec![127; bytes]), Refused(9, 0));
@@ -262,7 +267,7 @@ fn the_length_of_a_model() {
 
 #[test]
 fn the_values_of_a_model() {
-    let line = bytes::list(&[line(1, 0, -1, LAST_VARIABLE, 0)]);
+    let line = list(&[line(1, 0, -1, LAST_VARIABLE, 0)]);
     let model_of = |values: &[i64]| model(MOST_N, &line, &bytes::model(values));
     for value in [LARGEST_VALUE, -LARGEST_VALUE] {
         assert_eq!(model_of(&[value; MOST_VARIABLES]), Yes);
@@ -291,8 +296,8 @@ fn the_values_of_a_model() {
 
 #[test]
 fn the_length_of_a_refutation() {
-    let lines = bytes::list(&[zero(-1)]);
-    let bad = bytes::list(&[zero(-1), line(0, 1, 0, 0, 0)]);
+    let lines = list(&[zero(-1)]);
+    let bad = list(&[zero(-1), line(0, 1, 0, 0, 0)]);
     let right = bytes::refutation(&[3, 1, 0, 0]);
     // Bytes that are no multiple of four: a no, and after the list's refusals.
     for bytes in 0..40 {
@@ -348,9 +353,9 @@ fn the_first_line_that_a_model_fails() {
     for first in (0..MOST_LINES).step_by(13).chain([MOST_LINES - 1]) {
         let mut lines: Vec<Line> = vec![line(1, 0, 1, 1, 0); MOST_LINES];
         lines[first] = line(0, 0, -1, 0, -1);
-        assert_eq!(model(2, &bytes::list(&lines), &[0; 16]), No(first));
+        assert_eq!(model(2, &list(&lines), &[0; 16]), No(first));
         lines[first..].fill(line(-1, 0, 1, 1, -1));
-        assert_eq!(model(2, &bytes::list(&lines), &[0; 16]), No(first));
+        assert_eq!(model(2, &list(&lines), &[0; 16]), No(first));
     }
 }
 
@@ -364,9 +369,9 @@ fn the_left_side_of_a_line() {
                     let left = make::left_side(&line(a, x, b, y, 0), &values);
                     for d in [left - 1, left, left + 1, -1_000_000, 1_000_000] {
                         if d.abs() <= 1_000_000 {
-                            let list = bytes::list(&[zero(0), line(a, x, b, y, d as i32)]);
+                            let packed = list(&[zero(0), line(a, x, b, y, d as i32)]);
                             let expected = if left <= d { Yes } else { No(1) };
-                            assert_eq!(model(6, &list, &bytes::model(&values)), expected);
+                            assert_eq!(model(6, &packed, &bytes::model(&values)), expected);
                         }
                     }
                 }

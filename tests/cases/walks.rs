@@ -3,14 +3,15 @@
 
 use utvpi_tests::bytes;
 use utvpi_tests::limits::MOST_REFUTATION;
-use utvpi_tests::lines::{line, lone, zero, Line};
+use utvpi_tests::lines::{identified, line, lone, zero, Line};
 use utvpi_tests::second::Answer::{self, No, Yes};
 
 /// As many steps as a refutation has room for.
 const MOST_STEPS: usize = MOST_REFUTATION - 3;
 
 fn refutation(n: u64, lines: &[Line], numbers: &[u32]) -> Answer {
-    utvpi_tests::refutation(n, &bytes::list(lines), &bytes::refutation(numbers))
+    let list = bytes::list(&identified(lines));
+    utvpi_tests::refutation(n, &list, &bytes::refutation(numbers))
 }
 
 fn kind_1(n: u64, lines: &[Line], walk: &[u32]) -> Answer {

@@ -7,11 +7,18 @@ use crate::library::{self, Lent};
 /// How many numbers lie before and behind what is lent.
 const GUARD: usize = 16;
 
-/// The lengths that n variables, at most MOST_VARIABLES, ask for: model, bounds,
-/// groups, refutation, work area.
-pub fn needed(n: u64) -> [usize; 5] {
+/// How many buffers are lent, and how many of them are for output: all but the last.
+pub const BUFFERS: usize = 6;
+pub const OUTPUTS: usize = BUFFERS - 1;
+
+/// A length for each: model, bounds, groups, refutation, identifiers, work area.
+pub type Lengths = [usize; BUFFERS];
+
+/// The lengths that n variables, at most MOST_VARIABLES, ask for.
+pub fn needed(n: u64) -> Lengths {
     let n = n as usize;
-    [n, 2 * n, n, 4 + 4 * n, 16 * n * n + 64 * n + 64]
+    let steps = 4 + 4 * n;
+    [n, 2 * n, n, steps, steps, 16 * n * n + 64 * n + 64]
 }
 
 /// The numbers that are lent and the guards around them.
@@ -39,19 +46,20 @@ impl<T: Copy> Guarded<T> {
     }
 }
 
-/// All five.
+/// All of them.
 #[derive(Clone, Debug, PartialEq, Eq)]
 pub struct Buffers {
     pub model: Guarded<i64>,
     pub bounds: Guarded<i64>,
     pub groups: Guarded<u32>,
     pub refutation: Guarded<u32>,
+    pub identifiers: Guarded<u32>,
     pub work: Guarded<i64>,
 }
 
 impl Buffers {
     /// Buffers of these lengths, full of rubbish of one sort or another.
-    pub fn new(chance: &mut Chance, lengths: [usize; 5]) -> Buffers {
+    pub fn new(chance: &mut Chance, lengths: Lengths) -> Buffers {
         let sort = chance.below(8);
         let mut count = 0;
         let mut rubbish = || match sort {
@@ -70,7 +78,8 @@ impl Buffers {
             bounds: Guarded::new(lengths[1], &mut rubbish),
             groups: Guarded::new(lengths[2], || rubbish() as u32),
             refutation: Guarded::new(lengths[3], || rubbish() as u32),
-            work: Guarded::new(lengths[4], &mut rubbish),
+            identifiers: Guarded::new(lengths[4], || rubbish() as u32),
+            work: Guarded::new(lengths[5], &mut rubbish),
         }
     }
 
@@ -80,12 +89,13 @@ impl Buffers {
         Buffers::new(chance, lengths)
     }
 
-    pub fn lengths(&self) -> [usize; 5] {
+    pub fn lengths(&self) -> Lengths {
         [
             self.model.length,
             self.bounds.length,
             self.groups.length,
             self.refutation.length,
+            self.identifiers.length,
             self.work.length,
         ]
     }
@@ -97,6 +107,7 @@ impl Buffers {
             bounds: self.bounds.lent_mut(),
             groups: self.groups.lent_mut(),
             refutation: self.refutation.lent_mut(),
+            identifiers: self.identifiers.lent_mut(),
             work: self.work.lent_mut(),
         };
         library::decide(n, list, lent)

@@ -1,9 +1,10 @@
 //! Damages input in all the ways in which a file or a program may get it wrong.
 
 use crate::chance::Chance;
+use crate::limits::{EDGE_IDENTIFIERS, LAST_IDENTIFIER, NO_IDENTIFIERS};
 use crate::limits::{LARGEST_BOUND, LARGEST_VALUE, LAST_VARIABLE, LINE_BYTES, LINE_NUMBERS};
 use crate::limits::{MOST_LINES, MOST_N, MOST_NUMBERS, NUMBER_BYTES};
-use crate::lines::{line, lone, zero, BOUND, X, Y};
+use crate::lines::{identifier, line, lone, of_message, zero, Line, BOUND, IDENTIFIER, X, Y};
 
 /// Numbers at which a wrong width or a wrong limit shows.
 const EXTREMES: [i64; 12] = [
@@ -68,6 +69,11 @@ fn other_count(chance: &mut Chance, n: u64) -> u64 {
     }
 }
 
+/// Another identifier, at the limits or beyond.
+fn other_identifier(chance: &mut Chance) -> i32 {
+    chance.pick(&[&EDGE_IDENTIFIERS[..], &NO_IDENTIFIERS].concat())
+}
+
 /// Damages whole lines, or numbers.
 fn damage_list(chance: &mut Chance, list: &mut Vec<u8>) {
     let lines = list.len() / LINE_BYTES;
@@ -76,7 +82,7 @@ fn damage_list(chance: &mut Chance, list: &mut Vec<u8>) {
     }
     let at = LINE_BYTES * chance.below(lines);
     let line: Vec<u8> = list[at..at + LINE_BYTES].to_vec();
-    match chance.below(6) {
+    match chance.below(7) {
         0 => drop(list.drain(at..at + LINE_BYTES)),
         1 => drop(list.splice(at..at, line)),
         2 => swap(list, at, LINE_BYTES * chance.below(lines), LINE_BYTES),
@@ -89,6 +95,11 @@ fn damage_list(chance: &mut Chance, list: &mut Vec<u8>) {
         4 => {
             let bound = chance.pick(&BOUNDS);
             put(list, at + NUMBER_BYTES * BOUND, bound);
+        }
+        // The same for an identifier.
+        5 => {
+            let identifier = other_identifier(chance);
+            put(list, at + NUMBER_BYTES * IDENTIFIER, identifier);
         }
         // The number of a variable that is just not there, or of one beside 0.
         _ => {
@@ -200,7 +211,7 @@ fn damage_number(chance: &mut Chance, n: u64, list: &mut [i32]) {
     let variable = line + chance.pick(&[X, Y]);
     let coefficient = variable - 1;
     let n = n as i32;
-    match chance.below(9) {
+    match chance.below(10) {
         0 => list[coefficient] = chance.pick(&[2, -2, 3, 255, 257, 65_537, i32::MIN, i32::MAX]),
         1 => list[variable] = chance.pick(&[n, n.wrapping_add(1), -1, LAST_VARIABLE + 1, 1 << 16]),
         2 => list[variable] = chance.pick(&[i32::MIN, i32::MAX, 1 << 24, -1 << 16]),
@@ -208,13 +219,51 @@ fn damage_number(chance: &mut Chance, n: u64, list: &mut [i32]) {
         4 => (list[coefficient], list[variable]) = (0, chance.pick(&[1, -1, n, i32::MIN])),
         5 => list[line + BOUND] = chance.pick(&BOUNDS),
         6 => list[line + BOUND] = chance.pick(&[i32::MIN, i32::MAX, 1 << 30, -1 << 24]),
-        7 => list[chance.below(LINE_NUMBERS) + line] ^= 1 << chance.below(32),
+        7 => list[line + IDENTIFIER] = other_identifier(chance),
+        8 => list[chance.below(LINE_NUMBERS) + line] ^= 1 << chance.below(32),
         _ => list.swap(line + chance.below(LINE_NUMBERS), chance.below(list.len())),
     }
 }
 
+/// The refusals of a line, in the order in which they are given. A set of them is a
+/// number with a bit for each.
+const LINE_REFUSALS: [u8; 4] = [4, 5, 6, 13];
+
+/// Every two sets.
+pub fn all_faults() -> impl Iterator<Item = (usize, usize)> {
+    let sets = 0..1 << LINE_REFUSALS.len();
+    sets.clone()
+        .flat_map(move |one| sets.clone().map(move |two| (one, two)))
+}
+
+/// The first refusal of a set.
+pub fn first_fault(faults: usize) -> Option<u8> {
+    let found = (0..LINE_REFUSALS.len()).find(|at| faults >> at & 1 == 1);
+    found.map(|at| LINE_REFUSALS[at])
+}
+
+/// A line of two variables with just these faults.
+pub fn faulty_line(chance: &mut Chance, faults: usize) -> Line {
+    let mut line = of_message(line(1, 0, -1, 1, 7), identifier(chance));
+    let variable = chance.pick(&[X, Y]);
+    let coefficient = variable - 1;
+    for (at, refusal) in LINE_REFUSALS.into_iter().enumerate() {
+        if faults >> at & 1 == 1 {
+            match refusal {
+                4 => line[coefficient] = chance.pick(&[2, -2, i32::MIN, i32::MAX]),
+                5 => line[variable] = chance.pick(&[-1, 2, LAST_VARIABLE + 1, i32::MIN, i32::MAX]),
+                6 => line[BOUND] = chance.pick(&[BOUNDS[0], BOUNDS[3], i32::MIN, i32::MAX]),
+                _ => line[IDENTIFIER] = chance.pick(&NO_IDENTIFIERS),
+            }
+        }
+    }
+    line
+}
+
 /// Lists that are refused, each with its n, and the refusal's number and place.
-pub fn refused_lists() -> [(u64, Vec<i32>, (u8, usize)); 7] {
+pub fn refused_lists() -> [(u64, Vec<i32>, (u8, usize)); 11] {
+    let low = |line| of_message(line, -1);
+    let high = |line| of_message(line, LAST_IDENTIFIER + 1);
     [
         (MOST_N + 1, vec![0; LINE_NUMBERS - 2], (1, 0)),
         (MOST_N, vec![0; MOST_NUMBERS + LINE_NUMBERS + 1], (2, 0)),
@@ -223,5 +272,9 @@ pub fn refused_lists() -> [(u64, Vec<i32>, (u8, usize)); 7] {
         (2, lone(1, 2, 1_000_001).to_vec(), (5, 0)),
         (2, line(0, 0, 0, 1, 1_000_001).to_vec(), (5, 0)),
         (2, [zero(1_000_001), lone(2, 0, 0)].concat(), (6, 0)),
+        (2, low(zero(1_000_001)).to_vec(), (6, 0)),
+        (2, high(zero(0)).to_vec(), (13, 0)),
+        (2, [high(zero(0)), lone(2, 0, 0)].concat(), (13, 0)),
+        (2, [zero(0), low(lone(1, 1, 0))].concat(), (13, 1)),
     ]
 }

@@ -4,6 +4,7 @@
 use crate::buffers::{needed, Buffers};
 use crate::bytes;
 use crate::chance::Chance;
+use crate::limits::NO;
 use crate::lines::Line;
 use crate::second::{self, Answer};
 
@@ -36,12 +37,28 @@ pub enum Reason {
     HalvedWalks,
 }
 
-/// A verdict, and on a no the numbers that were handed over.
+/// A verdict, and on a no the numbers that were handed over: the refutation, and an
+/// identifier for each of its steps.
 #[derive(Clone, Debug, PartialEq, Eq)]
 pub struct Decision {
     pub verdict: Verdict,
     pub refutation: Vec<u32>,
+    pub identifiers: Vec<u32>,
 }
+
+impl Decision {
+    /// A verdict with which nothing is handed over.
+    fn only(verdict: Verdict) -> Decision {
+        Decision {
+            verdict,
+            refutation: Vec::new(),
+            identifiers: Vec::new(),
+        }
+    }
+}
+
+/// A no, as a result.
+const A_NO: i64 = NO as i64;
 
 /// Decides lines in buffers full of rubbish, some longer than they need be.
 pub fn decide(chance: &mut Chance, n: u64, lines: &[Line]) -> Decision {
@@ -63,13 +80,10 @@ pub fn decide_in(buffers: &mut Buffers, n: u64, list: &[i32]) -> Decision {
             let Answer::Refused(number, place) = refused else {
                 unreachable!()
             };
-            Decision {
-                verdict: Verdict::Refused(number, place),
-                refutation: Vec::new(),
-            }
+            Decision::only(Verdict::Refused(number, place))
         }
         (None, 0) => yes(n, list, buffers, &mut allowed),
-        (None, 1_000_000) => no(n, list, buffers, &mut allowed),
+        (None, A_NO) => no(n, list, buffers, &mut allowed),
         (None, _) => panic!("the result is {result}\n{}", shown()),
     };
     if *buffers != allowed {
@@ -84,7 +98,7 @@ pub fn decide_in(buffers: &mut Buffers, n: u64, list: &[i32]) -> Decision {
 
 /// Reads a yes, and lets `allowed` have what may be written with it.
 fn yes(n: u64, list: &[i32], buffers: &Buffers, allowed: &mut Buffers) -> Decision {
-    let [model, bounds, groups, _, work] = needed(n);
+    let [model, bounds, groups, .., work] = needed(n);
     let solved = Solved {
         model: buffers.model.lent()[..model].to_vec(),
         bounds: buffers.bounds.lent()[..bounds].to_vec(),
@@ -101,15 +115,12 @@ fn yes(n: u64, list: &[i32], buffers: &Buffers, allowed: &mut Buffers) -> Decisi
         "the model {:?} is not accepted\nn: {n}\nlist: {list:?}",
         solved.model
     );
-    Decision {
-        verdict: Verdict::Yes(solved),
-        refutation: Vec::new(),
-    }
+    Decision::only(Verdict::Yes(solved))
 }
 
 /// Reads a no, and lets `allowed` have what may be written with it.
 fn no(n: u64, list: &[i32], buffers: &Buffers, allowed: &mut Buffers) -> Decision {
-    let [_, _, _, room, work] = needed(n);
+    let [_, _, _, room, _, work] = needed(n);
     let lent = &buffers.refutation.lent()[..room];
     let shown = || format!("n: {n}\nlist: {list:?}\nrefutation: {lent:?}");
     let steps = u64::from(lent[1]) + u64::from(lent[2]);
@@ -121,6 +132,10 @@ fn no(n: u64, list: &[i32], buffers: &Buffers, allowed: &mut Buffers) -> Decisio
     let packed = bytes::refutation(&refutation);
     let answer = crate::refutation(n, &bytes::numbers(list), &packed);
     assert_eq!(answer, Answer::Yes, "not accepted\n{}", shown());
+    let identifiers = buffers.identifiers.lent()[..steps as usize].to_vec();
+    let due = second::identifiers(list, &refutation[3..]);
+    assert_eq!(identifiers, due, "the steps' identifiers\n{}", shown());
+    allowed.identifiers.lent_mut()[..due.len()].copy_from_slice(&due);
     let reason = match refutation[0] {
         1 => Reason::ClosedWalk,
         2 => Reason::HalvedWalks,
@@ -129,6 +144,7 @@ fn no(n: u64, list: &[i32], buffers: &Buffers, allowed: &mut Buffers) -> Decisio
     Decision {
         verdict: Verdict::No(reason),
         refutation,
+        identifiers,
     }
 }
 
@@ -142,6 +158,8 @@ fn first_difference(buffers: &Buffers, allowed: &Buffers) -> &'static str {
         "the groups' buffer"
     } else if buffers.refutation != allowed.refutation {
         "the refutation's buffer"
+    } else if buffers.identifiers != allowed.identifiers {
+        "the identifiers' buffer"
     } else {
         "the work area"
     }

@@ -65,6 +65,8 @@ extern "C" {
         groups_len: usize,
         refutation: *mut u32,
         refutation_len: usize,
+        identifiers: *mut u32,
+        identifiers_len: usize,
         work: *mut i64,
         work_len: usize,
     ) -> i64;
@@ -125,6 +127,7 @@ pub struct Lent<'a> {
     pub bounds: &'a mut [i64],
     pub groups: &'a mut [u32],
     pub refutation: &'a mut [u32],
+    pub identifiers: &'a mut [u32],
     pub work: &'a mut [i64],
 }
 
@@ -144,6 +147,8 @@ pub fn decide(n: u64, list: &[i32], lent: Lent) -> i64 {
             lent.groups.len(),
             lent.refutation.as_mut_ptr(),
             lent.refutation.len(),
+            lent.identifiers.as_mut_ptr(),
+            lent.identifiers.len(),
             lent.work.as_mut_ptr(),
             lent.work.len(),
         )
@@ -166,6 +171,13 @@ pub fn refutation_take(kept: Progress, list: &[i32], number: u32) -> Progress {
 pub fn refutation_end(kept: Progress, n: u64, list: &[i32]) -> i64 {
     // The function reads the list within its length and keeps no pointer.
     unsafe { utvpi_refutation_end(kept, n, list.as_ptr(), list.len()) }
+}
+
+/// The same after all these numbers, taken one by one.
+pub fn refutation_in_pieces(n: u64, list: &[i32], numbers: &[u32]) -> i64 {
+    let take = |kept, &number: &u32| refutation_take(kept, list, number);
+    let kept = numbers.iter().fold(refutation_begin(), take);
+    refutation_end(kept, n, list)
 }
 
 /// The result of `utvpi_read_list`.

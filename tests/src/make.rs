@@ -3,7 +3,7 @@
 
 use crate::chance::Chance;
 use crate::limits::{LARGEST_BOUND, MOST_N, MOST_REFUTATION, MOST_VARIABLES};
-use crate::lines::{line, lone, zero, Line, BOUND, X, Y};
+use crate::lines::{identifier, line, lone, of_message, zero, Line, BOUND, IDENTIFIER, X, Y};
 
 /// A point: a variable's number, and 1 for the variable or -1 for its negative.
 type Point = (i32, i32);
@@ -51,9 +51,9 @@ pub fn bound(chance: &mut Chance) -> i32 {
     bound as i32
 }
 
-/// A valid line of any of the nine coefficient pairs, with a bound.
+/// A valid line of any of the nine coefficient pairs, with a bound and an identifier.
 pub fn some_line(chance: &mut Chance, n: u64) -> Line {
-    let mut line = zero(bound(chance));
+    let mut line = of_message(zero(bound(chance)), identifier(chance));
     for place in [0, 2] {
         if n > 0 && !chance.one_in(4) {
             line[place] = chance.pick(&[-1, 1]);
@@ -99,13 +99,16 @@ pub fn lines_met_by(chance: &mut Chance, values: &[i64], count: usize) -> Vec<Li
     lines
 }
 
-/// A line that has a step between these points, and the step's side.
+/// A line that has a step between these points, from any message, and the step's side.
 fn line_between(chance: &mut Chance, from: Point, to: Point) -> (Line, u32) {
     let ((v, s), (w, t)) = (from, to);
-    if to == opposite(from) && chance.one_in(2) {
-        return (chance.pick(&[lone(s, v, 0), line(0, 0, s, v, 0)]), 0);
-    }
-    chance.pick(&[(line(s, v, -t, w, 0), 0), (line(-t, w, s, v, 0), 1)])
+    let (mut line, side) = if to == opposite(from) && chance.one_in(2) {
+        (chance.pick(&[lone(s, v, 0), line(0, 0, s, v, 0)]), 0)
+    } else {
+        chance.pick(&[(line(s, v, -t, w, 0), 0), (line(-t, w, s, v, 0), 1)])
+    };
+    line[IDENTIFIER] = identifier(chance);
+    (line, side)
 }
 
 /// How often d counts in the weight of a line's steps.
@@ -324,7 +327,8 @@ pub fn near_false_line(chance: &mut Chance, n: u64) -> (Vec<Line>, Proposal) {
     let count = chance.between(1, 6) as usize;
     let mut lines = lines(chance, n, count);
     let at = chance.below(count);
-    lines[at] = zero(chance.pick(&[-1_000_000, -2, -1, -1, 0, 1]));
+    let d = chance.pick(&[-1_000_000, -2, -1, -1, 0, 1]);
+    lines[at] = of_message(zero(d), identifier(chance));
     let named = if chance.one_in(4) {
         chance.below(count)
     } else {

@@ -3,7 +3,7 @@
 
 use crate::chance::Chance;
 use crate::limits::{LARGEST_BOUND, MOST_LINES, SMALL_LINES};
-use crate::lines::{line, lone, zero, Line, BOUND};
+use crate::lines::{identify, line, lone, zero, Line, BOUND};
 use crate::make::left_side;
 
 /// A line with both variables, at times with one, and the bound 0.
@@ -35,6 +35,7 @@ pub fn small(chance: &mut Chance) -> (u64, Vec<Line>) {
     for line in &mut lines {
         line[BOUND] = line[BOUND].clamp(-4, 4);
     }
+    identify(chance, &mut lines);
     (n, lines)
 }
 
@@ -92,6 +93,7 @@ impl Shape {
                 *line = zero(chance.pick(&[-1, 0, 1, -LARGEST_BOUND]) as i32);
             }
         }
+        identify(chance, &mut lines);
         chance
             .order(lines.len())
             .iter()

@@ -1,8 +1,11 @@
 //! A second reader and writer of files for lists, written from the description
 //! of such files alone and sharing nothing with the library.
 
-use crate::limits::{KIND_END, KIND_LINE, KIND_VARIABLES};
-use crate::limits::{LINE_BYTES, LINE_NUMBERS, NUMBER_BYTES, RECORD_HEAD, VARIABLES_BYTES};
+use crate::bytes;
+use crate::limits::{record_at, RECORD_HEAD, VARIABLES_BYTES};
+use crate::limits::{BARE_LINE_BYTES, LINE_BYTES, LINE_NUMBERS, NUMBER_BYTES};
+use crate::limits::{KIND_END, KIND_IDENTIFIED_LINE, KIND_LINE, KIND_VARIABLES};
+use crate::lines::IDENTIFIER;
 use crate::second::{self, Answer};
 
 /// A list: its n and its numbers, line by line.
@@ -27,15 +30,24 @@ pub fn read(file: &[u8], room: usize) -> Result<List, Refusal> {
         if (kind == KIND_VARIABLES) != (at == 0) {
             return Err((23, at as u64));
         }
-        if kind == KIND_LINE && numbers.len() + LINE_NUMBERS > room {
-            return Err((25, at as u64));
-        }
         let words = body
             .chunks(NUMBER_BYTES)
             .map(|four| four.try_into().unwrap());
         match kind {
             KIND_VARIABLES => words.for_each(|four| n = u64::from(u32::from_le_bytes(four))),
-            _ => numbers.extend(words.map(i32::from_le_bytes)),
+            KIND_END => {}
+            _ => {
+                let mut line: Vec<i32> = words.map(i32::from_le_bytes).collect();
+                // A line of kind 4 has its identifier, which is not 0.
+                if kind == KIND_IDENTIFIED_LINE && line[IDENTIFIER] == 0 {
+                    return Err((26, at as u64));
+                }
+                line.resize(LINE_NUMBERS, 0);
+                if numbers.len() + line.len() > room {
+                    return Err((25, at as u64));
+                }
+                numbers.extend(line);
+            }
         }
         at += RECORD_HEAD + body.len();
         if kind == KIND_END {
@@ -59,17 +71,25 @@ fn record(bytes: &[u8]) -> Result<(usize, &[u8]), u64> {
         return Err(20);
     }
     let (length, kind) = (two(0), two(2));
-    let due = match kind {
-        KIND_VARIABLES => VARIABLES_BYTES,
-        KIND_LINE => LINE_BYTES,
-        KIND_END => 0,
-        _ => return Err(21),
+    let Some(due) = body_bytes(kind) else {
+        return Err(21);
     };
     if length != due {
         return Err(22);
     }
     let body = bytes.get(RECORD_HEAD..RECORD_HEAD + length);
     body.map(|body| (kind, body)).ok_or(20)
+}
+
+/// The length of a kind's body, if there is such a kind.
+pub fn body_bytes(kind: usize) -> Option<usize> {
+    match kind {
+        KIND_VARIABLES => Some(VARIABLES_BYTES),
+        KIND_LINE => Some(BARE_LINE_BYTES),
+        KIND_END => Some(0),
+        KIND_IDENTIFIED_LINE => Some(LINE_BYTES),
+        _ => None,
+    }
 }
 
 /// What the list itself is refused with, if it is.
@@ -106,11 +126,35 @@ pub fn variables(n: u32) -> Vec<u8> {
     packed(VARIABLES_BYTES, KIND_VARIABLES, &n.to_le_bytes())
 }
 pub fn line(numbers: &[i32]) -> Vec<u8> {
-    let body: Vec<u8> = numbers.iter().flat_map(|word| word.to_le_bytes()).collect();
-    packed(LINE_BYTES, KIND_LINE, &body)
+    match numbers[IDENTIFIER] {
+        0 => bare_line(numbers),
+        _ => identified_line(numbers),
+    }
 }
 pub fn end() -> Vec<u8> {
     packed(0, KIND_END, &[])
+}
+
+/// The record of a line without its identifier, or with it, whatever it is.
+pub fn bare_line(numbers: &[i32]) -> Vec<u8> {
+    let body = bytes::numbers(&numbers[..IDENTIFIER]);
+    packed(BARE_LINE_BYTES, KIND_LINE, &body)
+}
+pub fn identified_line(numbers: &[i32]) -> Vec<u8> {
+    let body = bytes::numbers(numbers);
+    packed(LINE_BYTES, KIND_IDENTIFIED_LINE, &body)
+}
+
+/// Where in a file the record of this line begins, or the end's behind so many lines.
+pub fn place(numbers: &[i32], line: usize) -> usize {
+    let before = numbers.chunks_exact(LINE_NUMBERS).take(line);
+    let bare = before.clone().filter(|line| line[IDENTIFIER] == 0).count();
+    record_at(bare, before.count() - bare)
+}
+
+/// The length of the file of these lines.
+pub fn size(numbers: &[i32]) -> usize {
+    place(numbers, usize::MAX) + RECORD_HEAD
 }
 
 /// A record with this length, kind and body, which need not fit together. Length and

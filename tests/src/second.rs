@@ -3,9 +3,9 @@
 //! sharing nothing with the library. It reads the bytes into vectors first and
 //! then looks at them rule by rule.
 
-use crate::buffers::needed;
-use crate::limits::{LARGEST_BOUND, LARGEST_VALUE, LINE_BYTES, LINE_NUMBERS};
-use crate::limits::{MOST_LINES, MOST_N, MOST_REFUTATION, NUMBER_BYTES};
+use crate::buffers::{needed, Lengths, BUFFERS, OUTPUTS};
+use crate::limits::{LARGEST_BOUND, LARGEST_VALUE, LAST_IDENTIFIER, LINE_BYTES, LINE_NUMBERS};
+use crate::limits::{MOST_LINES, MOST_N, MOST_REFUTATION, NO, NUMBER_BYTES, REFUSAL_UNIT};
 
 const MOST_REFUTATION_BYTES: usize = NUMBER_BYTES * MOST_REFUTATION;
 
@@ -24,13 +24,15 @@ impl Answer {
     pub fn code(self) -> i64 {
         match self {
             Answer::Yes => 0,
-            Answer::No(place) => 1_000_000 + place as i64,
-            Answer::Refused(number, place) => -(i64::from(number) * 100_000 + place as i64),
+            Answer::No(place) => (NO + place) as i64,
+            Answer::Refused(number, place) => {
+                -((usize::from(number) * REFUSAL_UNIT + place) as i64)
+            }
         }
     }
 }
 
-/// The line a·x + b·y ≤ d.
+/// The line a·x + b·y ≤ d, from the message with this identifier.
 #[derive(Clone, Copy, Debug)]
 struct Line {
     a: i32,
@@ -38,6 +40,7 @@ struct Line {
     b: i32,
     y: i32,
     d: i32,
+    identifier: i32,
 }
 
 impl Line {
@@ -57,6 +60,8 @@ impl Line {
             Some(5)
         } else if i64::from(self.d).abs() > LARGEST_BOUND {
             Some(6)
+        } else if self.identifier < 0 || self.identifier > LAST_IDENTIFIER {
+            Some(13)
         } else {
             None
         }
@@ -129,6 +134,22 @@ struct Step {
     weight: i64,
 }
 
+/// The lines that these numbers are.
+fn lines_of(numbers: &[i32]) -> Vec<Line> {
+    let line = |numbers: &[i32]| match *numbers {
+        [a, x, b, y, d, identifier] => Line {
+            a,
+            x,
+            b,
+            y,
+            d,
+            identifier,
+        },
+        _ => unreachable!(),
+    };
+    numbers.chunks(LINE_NUMBERS).map(line).collect()
+}
+
 /// The list's lines, or what it is refused with.
 fn read_list(n: u64, list: &[u8]) -> Result<Vec<Line>, Answer> {
     if n > MOST_N {
@@ -144,13 +165,7 @@ fn read_list(n: u64, list: &[u8]) -> Result<Vec<Line>, Answer> {
         .chunks(NUMBER_BYTES)
         .map(|four| i32::from_le_bytes(four.try_into().unwrap()))
         .collect();
-    let lines: Vec<Line> = numbers
-        .chunks(LINE_NUMBERS)
-        .map(|line| match *line {
-            [a, x, b, y, d, ..] => Line { a, x, b, y, d },
-            _ => unreachable!(),
-        })
-        .collect();
+    let lines = lines_of(&numbers);
     for (place, line) in lines.iter().enumerate() {
         if let Some(number) = line.refusal(n) {
             return Err(Answer::Refused(number, place));
@@ -237,16 +252,24 @@ pub fn list_refusal(n: u64, list: &[i32]) -> Option<Answer> {
     read_list(n, &bytes).err()
 }
 
-/// What `utvpi_decide` is to refuse this list with, if it is to: the lengths are
-/// those of model, bounds, groups, refutation and work area.
-pub fn decide_refusal(n: u64, list: &[i32], lengths: [usize; 5]) -> Option<Answer> {
+/// What `utvpi_decide` is to refuse this list with, if it is to, in buffers of these
+/// lengths.
+pub fn decide_refusal(n: u64, list: &[i32], lengths: Lengths) -> Option<Answer> {
     if let Some(refused) = list_refusal(n, list) {
         return Some(refused);
     }
-    match (0..5).find(|&at| lengths[at] < needed(n)[at])? {
-        4 => Some(Answer::Refused(8, 0)),
+    match (0..BUFFERS).find(|&at| lengths[at] < needed(n)[at])? {
+        OUTPUTS => Some(Answer::Refused(8, 0)),
         output => Some(Answer::Refused(7, output + 1)),
     }
+}
+
+/// The identifiers that `utvpi_decide` is to hand over with these steps of a valid
+/// list: of each that of its line.
+pub fn identifiers(list: &[i32], steps: &[u32]) -> Vec<u32> {
+    let lines = lines_of(list);
+    let of = |&step: &u32| lines[step as usize / 2].identifier as u32;
+    steps.iter().map(of).collect()
 }
 
 /// The head's rules in their order, and then the steps.

@@ -8,7 +8,7 @@ pub struct Seen {
     pub inputs: usize,
     pub yes: usize,
     pub no: usize,
-    pub refused: [usize; 12],
+    pub refused: [usize; 14],
 }
 
 impl Seen {

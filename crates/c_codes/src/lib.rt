@@ -52,7 +52,7 @@ pub fn check_code(a: CheckAnswer) -> i64
     }
 }
 
-// Refusals 1 to 6 of a list in bytes. Where none applies, its numbers are written.
+// The refusals of a list in bytes. Where none applies, its numbers are written.
 pub fn decode_list(n: usize, list: &[u8], numbers: &mut [i32]) -> Validity
     requires { ⌜ lineSize * maxLines ≤ length (now numbers) ⌝ }
     ensures { λ r. ⌜ Decoded n (now (list .entry)) (now (numbers .exit)) r ⌝ }

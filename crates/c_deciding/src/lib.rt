@@ -29,11 +29,21 @@ pub extern "C" fn utvpi_decide(
     bounds: &mut [i64],
     groups: &mut [u32],
     refutation: &mut [u32],
+    identifiers: &mut [u32],
     work: &mut [i64],
 ) -> i64
     ensures { λ r. ⌜ DecideReturns n (now (list .entry)) r
-        (record { model = now (model .entry); bounds = now (bounds .entry); groups = now (groups .entry); refutation = now (refutation .entry); work = now (work .entry) })
-        (record { model = now (model .exit); bounds = now (bounds .exit); groups = now (groups .exit); refutation = now (refutation .exit); work = now (work .exit) }) ⌝ }
+        (record { model = now (model .entry); bounds = now (bounds .entry); groups = now (groups .entry); refutation = now (refutation .entry); identifiers = now (identifiers .entry); work = now (work .entry) })
+        (record { model = now (model .exit); bounds = now (bounds .exit); groups = now (groups .exit); refutation = now (refutation .exit); identifiers = now (identifiers .exit); work = now (work .exit) }) ⌝ }
 {
-    decide_code(decide(n as usize, list, model, bounds, groups, refutation, work))
+    decide_code(decide(
+        n as usize,
+        list,
+        model,
+        bounds,
+        groups,
+        refutation,
+        identifiers,
+        work,
+    ))
 }

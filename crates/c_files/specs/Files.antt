@@ -11,7 +11,7 @@ use Rattle.lines.specs.Line.{lineCount}
 use Rattle.lines.specs.Numbers.{number-some}
 use Rattle.little_endian.specs.Bytes.{AreBytes}
 use Rattle.file_records.specs.declared.FileRefusal.{FileRefusal}
-use Rattle.file_records.specs.declared.FileRefusal.the-variants.{Cut, UnknownKind, WrongLength, OutOfPlace, Trailing, NoRoom, List as OfList}
+use Rattle.file_records.specs.declared.FileRefusal.the-variants.{Cut, UnknownKind, WrongLength, OutOfPlace, Trailing, NoRoom, NoIdentifier, List as OfList}
 use Rattle.file_records.specs.Refusal.{fileNumber, filePlace}
 use Rattle.file_list.specs.declared.Listed.{Listed}
 use Rattle.file_list.specs.declared.ReadAnswer.{ReadAnswer}
@@ -59,6 +59,7 @@ refusal-some (WrongLength k) e = omega arith
 refusal-some (OutOfPlace k) e = omega arith
 refusal-some (Trailing k) e = omega arith
 refusal-some (NoRoom k) e = omega arith
+refusal-some (NoIdentifier k) e = omega arith
 refusal-some (OfList r) e = omega (arith, number-some r)
 
 -- n and the number of lines, as returned

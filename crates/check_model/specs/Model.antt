@@ -22,7 +22,7 @@ unfoldable pub valuesValidity : ℕ → List ℤ → Validity
 valuesValidity k [] = Valid
 valuesValidity k (v ∷ vs) = refuseIf (not (isWithin maxValue v)) (BadValue k) orElse valuesValidity (k + 1) vs
 
--- 1 to 6; then 9, 10
+-- the list's; then 9, 10
 unfoldable pub modelValidity : ℕ → List ℤ → List ℤ → Validity
 modelValidity n L m =
     validityOf n L

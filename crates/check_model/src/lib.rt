@@ -82,7 +82,7 @@ fn values_validity(model: &[i64]) -> Validity
     Validity::Valid
 }
 
-// The first of refusals 1 to 6, 9 and 10 that applies.
+// The first refusal that applies: the list's, 9 and 10.
 fn model_validity(n: usize, list: &[i32], model: &[i64]) -> Validity
     ensures { λ r. ⌜ r ≡ modelValidity n (now (list .entry)) (now (model .entry)) ⌝ }
 {

@@ -54,7 +54,7 @@ takeAll L s [] = s
 takeAll L s (r ∷ R) = takeAll L (takeOn L s r) R
 
 -- ---- the end
--- 1 to 6; then 11; then yes, or no with the place; what no refutation could have left breaks at once
+-- the list's refusals; then 11; then yes, or no with the place; what no refutation could have left breaks at once
 unfoldable pub endAnswer : ℕ → List ℤ → Progress → CheckAnswer
 endAnswer n L s = unlessRefused (validityOf n L orElse refuseIf (ltb maxRefutation (s .read)) LongRefutation) (cond (isSmall s) (verdict s) (No 0))
 

@@ -82,7 +82,7 @@ pub fn take_on(mut kept: Progress, list: &[i32], number: u32) -> Progress
     kept.only_if(false)
 }
 
-// The answer on all numbers that were taken: refusals 1 to 6, then 11, then whether they refute the list.
+// The answer on all numbers that were taken: the list's refusals, then 11, then whether they refute the list.
 pub fn end(kept: Progress, n: usize, list: &[i32]) -> CheckAnswer
     ensures { λ r. ⌜ r ≡ endAnswer n (now (list .entry)) kept ⌝ }
 {

@@ -1,4 +1,4 @@
--- What the refutation checker answers: refusals 1 to 6, then 11, then yes or no.
+-- What the refutation checker answers: the list's refusals, then 11, then yes or no.
 use mathlib.Core.Bool.{cond}
 use mathlib.Core.List.{List}
 use Prim.Native.Nat.{ℕ}
@@ -15,7 +15,7 @@ use Rattle.check_answers.specs.Answer.{unlessRefused}
 use Rattle.check_refutation.specs.declared.Progress.{Progress}
 use Rattle.check_refutation.specs.Progress.{start, run, accepted, brokenAt}
 
--- 1 to 6; then 11
+-- the list's; then 11
 unfoldable pub refutationValidity : ℕ → List ℤ → List ℕ → Validity
 refutationValidity n L R = validityOf n L orElse refuseIf (ltb maxRefutation (length R)) LongRefutation
 

@@ -269,7 +269,7 @@ fn read_all(list: &[i32], refutation: &[u32]) -> Progress
     s
 }
 
-// Refusals 1 to 6, then 11, then yes, or no with the place where the refutation breaks.
+// The list's refusals, then 11, then yes, or no with the place where the refutation breaks.
 pub fn check_refutation(n: usize, list: &[i32], refutation: &[u32]) -> CheckAnswer
     ensures { λ r. ⌜ r ≡ refutationAnswer n (now (list .entry)) (now (refutation .entry)) ⌝ }
 {

@@ -8,3 +8,4 @@ pub mod Place
 pub mod Sound
 pub mod Answered
 pub mod Breaks
+pub mod Bare

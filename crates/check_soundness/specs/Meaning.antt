@@ -17,7 +17,7 @@ use Rattle.integers.specs.Laws.{and-true, both-true}
 use Rattle.lines.specs.Line.{lineAt, lineCount, isFalse}
 use Rattle.steps.specs.declared.Step.{Step}
 use Rattle.steps.specs.Point.{opposite}
-use Rattle.steps.specs.Walk.{Path, total, Names, path-append}
+use Rattle.steps.specs.Walk.{Path, total, Names, path-append, names-append}
 use Rattle.check_refutation.specs.declared.Progress.{Progress}
 use Rattle.check_refutation.specs.Progress.{headSize, start, countsOk, isFalseStep, headOn, onlyIf, advance, run, closes, accepted, accepts}
 use Rattle.check_refutation.specs.Small.{run-read}
@@ -303,12 +303,6 @@ accepts-closed L R c =
     let all : take p (w .steps) ≡ w .steps = take-all p (w .steps) (omega (arith, names-length L ks (w .steps) (w .named))) in
     let low : f .first ⋖ pos 0 = subst (λ (x : ℤ). x ⋖ pos 0) (sym (o .first ∙ ap total all)) (c .low) in
     ap (accepts L) (c .is) ∙ accepted-end L 1 p 0 ks (omega arith) (o .good) (closes-1 f kind .1 (o .to ∙ sym (o .from), low))
-
-names-append : (L : List ℤ) (ks ls : List ℕ) (ss ts : List Step) → Names L ks ss → Names L ls ts → Names L (ks ++ ls) (ss ++ ts)
-names-append L [] ls [] ts a b = b
-names-append L [] ls (s ∷ ss) ts a b = absurd a
-names-append L (k ∷ ks) ls [] ts a b = absurd a
-names-append L (k ∷ ks) ls (s ∷ ss) ts a b = (a .0, names-append L ks ls ss ts (a .1) b)
 
 end-append : (u m : ℕ) (ss ts : List Step) → Path u ss m → endAfter (length ss) u (ss ++ ts) ≡ m
 end-append u m [] ts p = p

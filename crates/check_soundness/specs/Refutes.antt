@@ -1,15 +1,18 @@
 -- The specification's three kinds of refutation, as it states them: what the checker's rule has to say yes to, and nothing else.
-use mathlib.Core.Path.{_≡_}
+use mathlib.Core.Path.{_≡_, refl}
 use mathlib.Core.Bool.{true}
 use mathlib.Core.List.{List, [], _∷_, _++_}
-use Prim.Native.Nat.{ℕ, _*_, _<_}
+use Prim.Native.Nat.{ℕ, _+_, _*_, _<_}
+use native.Mathlib.Omega.{arith}
 use lib.IntN.{ℤ, pos, _+ℤ_}
-use lib.ListN.{length}
+use lib.ListN.{length, length-append}
 use Rattle.integers.specs.Integer.{_⋖_, half}
 use Rattle.lines.specs.Line.{lineAt, lineCount, isFalse}
 use Rattle.steps.specs.declared.Step.{Step}
 use Rattle.steps.specs.Point.{opposite}
 use Rattle.steps.specs.Walk.{Path, total, Names}
+use Rattle.check_refutation.specs.Progress.{headSize}
+use Rattle.check_soundness.specs.Head.{stepsIn}
 
 -- the step numbers of a walk from a point to a point, and its steps
 pub record Walk (L : List ℤ) (from : ℕ) (numbers : List ℕ) (to : ℕ) : Type 0 where
@@ -53,3 +56,9 @@ pub data Refutes (L : List ℤ) (R : List ℕ) : Type 0 where
   kind-1 : Closed L R → Refutes L R
   kind-2 : There-and-back L R → Refutes L R
   kind-3 : Falsehood L R → Refutes L R
+
+-- it has as many numbers as its head and its counts say, also where other numbers stand behind it
+pub stated-length : (L : List ℤ) (R : List ℕ) → Refutes L R → (rest : List ℕ) → length R ≡ headSize + stepsIn (R ++ rest)
+stated-length L R (kind-1 c) rest = rw (c .is) (omega arith)
+stated-length L R (kind-2 c) rest = rw (c .is) (omega (arith, length-append (c .numbers) (c .more)))
+stated-length L R (kind-3 c) rest = rw (c .is) refl

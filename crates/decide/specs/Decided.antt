@@ -1,6 +1,6 @@
 -- What deciding answers and leaves in the lent buffers, for every input: the specification's promise.
 use mathlib.Core.Path.{_≡_, refl, sym, ap, subst, _∙_}
-use mathlib.Core.Bool.{Bool, true, false, cond}
+use mathlib.Core.Bool.{Bool, true, false, not, cond}
 use mathlib.Core.List.{List, _++_}
 use Prim.Native.Nat.{ℕ, _+_, _*_, _-_, _^_, _<_, _≤_}
 use native.Mathlib.Omega.{arith}
@@ -24,7 +24,10 @@ use Rattle.decide_yes.specs.Ready.{AnswersReady}
 use Rattle.theory_bounds.specs.Verdict.{verdictOf}
 use Rattle.theory_bounds.specs.Answers.{modelOf, boundsOf, groupsOf, boundAt, groupAt}
 use Rattle.theory_answers.specs.Refuted.{Due}
-use Rattle.decide_buffers.specs.Room.{Lent, Lengths, lengthsOf, modelRoom, boundsRoom, groupsRoom, workRoom, lentRooms, HaveRoom, roomsValidity, decideValidity, valid-room, room-valid, model-room, bounds-room, groups-room, refutation-room, work-room, work-small}
+use Rattle.check_soundness.specs.Head.{stepsIn}
+use Rattle.check_soundness.specs.Refutes.{Refutes, stated-length}
+use Rattle.decide_identifiers.specs.Identifiers.{identifiersOf, StepsNamed, steps-named, identifiers-front, counts-front}
+use Rattle.decide_buffers.specs.Room.{Lent, Lengths, lengthsOf, modelRoom, boundsRoom, groupsRoom, workRoom, lentRooms, HaveRoom, roomsValidity, decideValidity, valid-room, room-valid, model-room, bounds-room, groups-room, refutation-room, identifiers-room, work-room, work-small}
 use Rattle.decide.specs.declared.Answer.{Answer}
 use Rattle.decide.specs.declared.Answer.the-variants.{Yes, No, Refused}
 use Rattle.decide.specs.Searched.{usedRoom, SearchReady, Searched, tableIn}
@@ -49,6 +52,7 @@ pub record OnYes (n : ℕ) (L : List ℤ) (b a : Lent) : Type 0 where
   pub bounds : a .bounds ≡ boundsOf n (linesOf L) ++ drop (boundsRoom n) (b .bounds)
   pub groups : a .groups ≡ groupsOf n (linesOf L) ++ drop (groupsRoom n) (b .groups)
   pub refutation : a .refutation ≡ b .refutation
+  pub identifiers : a .identifiers ≡ b .identifiers
   pub work : a .work ≡ cleared n (b .work)
 
 -- of a refutation of kind 1 or 2 only the walks are free
@@ -56,6 +60,7 @@ pub record OnNo (n : ℕ) (L : List ℤ) (b a : Lent) : Type 0 where
   pub numbers : List ℕ
   pub due : Due n L numbers
   pub refutation : a .refutation ≡ numbers ++ drop (length numbers) (b .refutation)
+  pub identifiers : a .identifiers ≡ identifiersOf L numbers ++ drop (stepsIn numbers) (b .identifiers)
   pub model : a .model ≡ b .model
   pub bounds : a .bounds ≡ b .bounds
   pub groups : a .groups ≡ b .groups
@@ -135,14 +140,29 @@ module _ (n : ℕ) (L : List ℤ) (b : Lent) where
     cleared-is w₁ w₂ k z = z ∙ ap (λ (x : List ℤ). replicate (workRoom n) (pos 0) ++ x) (behind-room w₁ k)
 
     module _ (R₁ : List ℕ) (w₁ : List ℤ) where
-      pub decided-no : Searched n L (b .refutation) (b .work) R₁ w₁ true → (w₂ : List ℤ) → w₂ ≡ replicate (workRoom n) (pos 0) ++ drop (workRoom n) w₁
-          → Decided n L No b (record { model = b .model; bounds = b .bounds; groups = b .groups; refutation = R₁; work = w₂ })
-      decided-no k w₂ z =
-          let r = k .on-no refl in
+      -- each step of the refutation that was found names a line, and there is room for the identifiers
+      pub identifiers-ready : {t : Bool} → Searched n L (b .refutation) (b .work) R₁ w₁ t → t ≡ true → StepsNamed L R₁ × (stepsIn R₁ ≤ length (b .identifiers))
+      identifiers-ready k z =
+          let o = decide-ok n L b e in
+          let r = k .on-no z in
+          let rest = drop (length (r .0)) (b .refutation) in
+          let u = r .1 .refutes in
+          (rw (r .2) (steps-named n L (r .0) rest u (valid-list n L (o .list) .lines)), rw (r .2) (omega (arith, stated-length L (r .0) u rest, r .1 .size, identifiers-room (o .rooms))))
+
+      pub decided-no : {t : Bool} → Searched n L (b .refutation) (b .work) R₁ w₁ t → t ≡ true → (I : List ℕ) → I ≡ identifiersOf L R₁ ++ drop (stepsIn R₁) (b .identifiers) → (w₂ : List ℤ) → w₂ ≡ replicate (workRoom n) (pos 0) ++ drop (workRoom n) w₁
+          → Decided n L No b (record { model = b .model; bounds = b .bounds; groups = b .groups; refutation = R₁; identifiers = I; work = w₂ })
+      decided-no k y I i w₂ z =
+          let r = k .on-no y in
           record {
-            is = answer-no (k .verdict);
-            leaves = record { numbers = r .0; due = r .1; refutation = r .2; model = refl; bounds = refl; groups = refl; work = cleared-is w₁ w₂ (k .behind) z };
+            is = answer-no (k .verdict ∙ ap not y);
+            leaves = record { numbers = r .0; due = r .1; refutation = r .2; identifiers = i ∙ written (r .0) (r .1 .refutes) (r .2); model = refl; bounds = refl; groups = refl; work = cleared-is w₁ w₂ (k .behind) z };
           }
+        where
+          written : (R : List ℕ) → Refutes L R → R₁ ≡ R ++ drop (length R) (b .refutation)
+              → identifiersOf L R₁ ++ drop (stepsIn R₁) (b .identifiers) ≡ identifiersOf L R ++ drop (stepsIn R) (b .identifiers)
+          written R u e =
+              let rest = drop (length R) (b .refutation) in
+              rw (e, identifiers-front n L R rest u, counts-front n L R rest u)
 
       module _ (k : Searched n L (b .refutation) (b .work) R₁ w₁ false) where
         ok : ListOk n L
@@ -162,7 +182,7 @@ module _ (n : ℕ) (L : List ℤ) (b : Lent) where
             × (bs ≡ tabulate (boundsRoom n) (boundAt (tableOf (2 * n) (tableIn n w₁))) ++ drop (boundsRoom n) (b .bounds))
             × (g ≡ tabulate n (groupAt (tableOf (2 * n) (tableIn n w₁))) ++ drop (groupsRoom n) (b .groups))
             → (w₂ : List ℤ) → w₂ ≡ replicate (workRoom n) (pos 0) ++ drop (workRoom n) w₁
-            → Decided n L Yes b (record { model = m; bounds = bs; groups = g; refutation = R₁; work = w₂ })
+            → Decided n L Yes b (record { model = m; bounds = bs; groups = g; refutation = R₁; identifiers = b .identifiers; work = w₂ })
         decided-yes m bs g h w₂ z =
             record {
               is = answer-yes (k .verdict);
@@ -172,6 +192,7 @@ module _ (n : ℕ) (L : List ℤ) (b : Lent) where
                     bounds = h .1 ∙ ap (λ (x : List ℤ). x ++ drop (boundsRoom n) (b .bounds)) (ap (λ (q : List ℤ). tabulate (boundsRoom n) (boundAt (tableOf (2 * n) q))) table-is ∙ bounds-agree n L (ok .variables) (ok .lines));
                     groups = h .2 ∙ ap (λ (x : List ℕ). x ++ drop (groupsRoom n) (b .groups)) (ap (λ (q : List ℤ). tabulate n (groupAt (tableOf (2 * n) q))) table-is ∙ groups-agree n L (ok .variables) (ok .lines));
                     refutation = k .on-yes refl .0;
+                    identifiers = refl;
                     work = cleared-is w₁ w₂ (k .behind) z;
                   };
             }

@@ -1,11 +1,10 @@
 -- What an answer says of the verdict, and the parts of the lent buffers that deciding writes, with what stands in them.
 use mathlib.Core.Path.{_≡_, refl, ap, _∙_}
 use mathlib.Core.Bool.{Bool, true, false, cond}
-use mathlib.Core.List.{List, _++_}
+use mathlib.Core.List.{List}
 use Prim.Native.Nat.{ℕ, _+_}
-use native.Mathlib.Omega.{arith}
 use lib.IntN.{ℤ}
-use lib.ListN.{length, take, drop, length-append}
+use lib.ListN.{length, take, drop}
 use lib.Seq.{take-at}
 use Rattle.integers.specs.Laws.{never}
 use Rattle.integers.specs.Sequence.{length-tabulate}
@@ -15,9 +14,10 @@ use Rattle.lines.specs.declared.Validity.the-variants as validity
 use Rattle.lines.specs.Line.{linesOf}
 use Rattle.check_refutation.specs.Progress.{headSize}
 use Rattle.check_soundness.specs.Head.{stepsIn}
-use Rattle.check_soundness.specs.Refutes.{Refutes, kind-1, kind-2, kind-3}
+use Rattle.check_soundness.specs.Refutes.{stated-length}
 use Rattle.theory_bounds.specs.Verdict.{verdictOf}
 use Rattle.theory_bounds.specs.Answers.{modelOf, boundsOf, groupsOf}
+use Rattle.decide_identifiers.specs.Identifiers.{identifiersOf, length-identifiers, counts-front}
 use Rattle.decide_buffers.specs.Room.{Lent, modelRoom, boundsRoom, groupsRoom}
 use Rattle.decide.specs.declared.Answer.the-variants.{Yes, No}
 use Rattle.decide.specs.Decided.{unlessRefused, decideAnswer, answerFor, validityFor, OnYes, OnNo}
@@ -37,6 +37,10 @@ stated R = take (headSize + stepsIn R) R
 
 abbrev pub refutationIn : Lent → List ℕ
 refutationIn a = stated (a .refutation)
+
+-- the identifiers of its steps
+abbrev pub identifiersIn : Lent → List ℕ
+identifiersIn a = take (stepsIn (a .refutation)) (a .identifiers)
 
 -- ---- the verdict, by the answer
 module _ (n : ℕ) (L : List ℤ) (b : Lent) where
@@ -59,11 +63,6 @@ module _ (n : ℕ) (L : List ℤ) (b : Lent) where
       go (validity.Refused r) t e = never (cc)
 
 -- ---- the written part is the refutation
-pub stated-length : (L : List ℤ) (R : List ℕ) → Refutes L R → (rest : List ℕ) → length R ≡ headSize + stepsIn (R ++ rest)
-stated-length L R (kind-1 c) rest = rw (c .is) (omega arith)
-stated-length L R (kind-2 c) rest = rw (c .is) (omega (arith, length-append (c .numbers) (c .more)))
-stated-length L R (kind-3 c) rest = rw (c .is) refl
-
 module _ {n : ℕ} {L : List ℤ} {b a : Lent} where
   pub model-in : OnYes n L b a → modelIn n a ≡ modelOf n (linesOf L)
   unfolding modelOf
@@ -81,3 +80,11 @@ module _ {n : ℕ} {L : List ℤ} {b a : Lent} where
   refutation-in w =
       let size = stated-length L (w .numbers) (w .due .refutes) (drop (length (w .numbers)) (b .refutation)) in
       ap (λ (R : List ℕ). take (headSize + stepsIn R) R) (w .refutation) ∙ take-at (w .numbers) _ _ size
+
+  -- the counts that the buffer states are those of the refutation
+  pub steps-in : (w : OnNo n L b a) → stepsIn (a .refutation) ≡ stepsIn (w .numbers)
+  steps-in w = ap stepsIn (w .refutation) ∙ counts-front n L (w .numbers) (drop (length (w .numbers)) (b .refutation)) (w .due .refutes)
+
+  pub identifiers-in : (w : OnNo n L b a) → identifiersIn a ≡ identifiersOf L (w .numbers)
+  identifiers-in w =
+      rw (steps-in w) (ap (take (stepsIn (w .numbers))) (w .identifiers) ∙ take-at (identifiersOf L (w .numbers)) _ _ (length-identifiers L (w .numbers)))

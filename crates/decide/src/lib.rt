@@ -4,6 +4,7 @@ use decide_buffers::decide_validity;
 use decide_buffers::work_room;
 use decide_false_line::first_false;
 use decide_halves::first_bad;
+use decide_identifiers::write_identifiers;
 use decide_written_walks::write_closed;
 use decide_written_walks::write_false;
 use decide_written_walks::write_halves;
@@ -110,11 +111,12 @@ pub fn decide(
     bounds: &mut [i64],
     groups: &mut [u32],
     refutation: &mut [u32],
+    identifiers: &mut [u32],
     work: &mut [i64],
 ) -> Answer
     ensures { λ r. ⌜ Decided n (now (list .entry)) r
-        (record { model = now (model .entry); bounds = now (bounds .entry); groups = now (groups .entry); refutation = now (refutation .entry); work = now (work .entry) })
-        (record { model = now (model .exit); bounds = now (bounds .exit); groups = now (groups .exit); refutation = now (refutation .exit); work = now (work .exit) }) ⌝ }
+        (record { model = now (model .entry); bounds = now (bounds .entry); groups = now (groups .entry); refutation = now (refutation .entry); identifiers = now (identifiers .entry); work = now (work .entry) })
+        (record { model = now (model .exit); bounds = now (bounds .exit); groups = now (groups .exit); refutation = now (refutation .exit); identifiers = now (identifiers .exit); work = now (work .exit) }) ⌝ }
 {
     let found = decide_validity(
         n,
@@ -123,6 +125,7 @@ pub fn decide(
         bounds.len(),
         groups.len(),
         refutation.len(),
+        identifiers.len(),
         work.len(),
     );
     if let Validity::Refused(r) = found {
@@ -130,6 +133,7 @@ pub fn decide(
     }
     let room = work_room(n);
     if refuted(list, n, refutation, work) {
+        write_identifiers(list, refutation, identifiers);
         clear(work, room);
         return Answer::No;
     }

@@ -1,3 +1,2 @@
-pub mod Fill
 pub mod Reading
 pub mod Grouping

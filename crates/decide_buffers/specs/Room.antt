@@ -25,6 +25,7 @@ pub record Lent : Type 0 where
   pub bounds : List ℤ
   pub groups : List ℕ
   pub refutation : List ℕ
+  pub identifiers : List ℕ
   pub work : List ℤ
 
 -- how long each is
@@ -33,10 +34,11 @@ pub record Lengths : Type 0 where
   pub bounds : ℕ
   pub groups : ℕ
   pub refutation : ℕ
+  pub identifiers : ℕ
   pub work : ℕ
 
 abbrev pub lengthsOf : Lent → Lengths
-lengthsOf b = record { model = length (b .model); bounds = length (b .bounds); groups = length (b .groups); refutation = length (b .refutation); work = length (b .work) }
+lengthsOf b = record { model = length (b .model); bounds = length (b .bounds); groups = length (b .groups); refutation = length (b .refutation); identifiers = length (b .identifiers); work = length (b .work) }
 
 -- ---- the room that each needs for n variables
 abbrev pub modelRoom : ℕ → ℕ
@@ -50,6 +52,9 @@ groupsRoom n = n
 
 abbrev pub refutationRoom : ℕ → ℕ
 refutationRoom n = 4 + 4 * n
+
+abbrev pub identifiersRoom : ℕ → ℕ
+identifiersRoom n = 4 + 4 * n
 
 abbrev pub workRoom : ℕ → ℕ
 workRoom n = 16 * n * n + 64 * n + 64
@@ -68,6 +73,7 @@ outputRooms =
     ∷ record { room = boundsRoom; size = λ s. s .bounds; refusal = ShortOutput 2 }
     ∷ record { room = groupsRoom; size = λ s. s .groups; refusal = ShortOutput 3 }
     ∷ record { room = refutationRoom; size = λ s. s .refutation; refusal = ShortOutput 4 }
+    ∷ record { room = identifiersRoom; size = λ s. s .identifiers; refusal = ShortOutput 5 }
     ∷ []
 
 -- 8: the work area
@@ -80,7 +86,7 @@ lentRooms = outputRooms ++ workRooms
 
 -- no place is greater
 abbrev pub mostPlace : ℕ
-mostPlace = 4
+mostPlace = 5
 
 -- ---- the first that is short
 abbrev pub firstShort : List Room → ℕ → Lengths → Validity
@@ -90,7 +96,7 @@ firstShort (r ∷ rs) n s = refuseIf (ltb (r .size s) (r .room n)) (r .refusal) 
 unfoldable pub roomsValidity : ℕ → Lengths → Validity
 roomsValidity n s = firstShort lentRooms n s
 
--- 1 to 6; then 7, 8
+-- the list's; then 7, 8
 unfoldable pub decideValidity : ℕ → List ℤ → Lengths → Validity
 decideValidity n L s = validityOf n L orElse roomsValidity n s
 
@@ -131,8 +137,11 @@ module _ {n : ℕ} {s : Lengths} (h : HaveRoom lentRooms n s) where
   pub refutation-room : refutationRoom n ≤ s .refutation
   refutation-room = h .1 .1 .1 .0
 
+  pub identifiers-room : identifiersRoom n ≤ s .identifiers
+  identifiers-room = h .1 .1 .1 .1 .0
+
   pub work-room : workRoom n ≤ s .work
-  work-room = h .1 .1 .1 .1 .0
+  work-room = h .1 .1 .1 .1 .1 .0
 
 -- ---- the places are small
 abbrev PlacesBelow : ℕ → List Room → Type 0
@@ -146,7 +155,7 @@ placed-short m (r ∷ rs) p n s =
 
 pub placed-rooms : (m : ℕ) → mostPlace < m → (n : ℕ) (s : Lengths) → Placed m (roomsValidity n s)
 unfolding roomsValidity
-placed-rooms m h n s = placed-short m lentRooms (omega arith, (omega arith, (omega arith, (omega arith, (omega arith, tt))))) n s
+placed-rooms m h n s = placed-short m lentRooms (omega arith, (omega arith, (omega arith, (omega arith, (omega arith, (omega arith, tt)))))) n s
 
 -- ---- more variables need no less
 work-more : (n k : ℕ) → n ≤ k → workRoom n ≤ workRoom k
@@ -158,7 +167,7 @@ work-more n k h =
 pub fewer-room : (n k : ℕ) → n ≤ k → (s : Lengths) → HaveRoom lentRooms k s → HaveRoom lentRooms n s
 fewer-room n k h s r = (
   omega (arith, h, model-room r),
-  (omega (arith, h, bounds-room r), (omega (arith, h, groups-room r), (omega (arith, h, refutation-room r), (omega (arith, work-more n k h, work-room r), tt)))),
+  (omega (arith, h, bounds-room r), (omega (arith, h, groups-room r), (omega (arith, h, refutation-room r), (omega (arith, h, identifiers-room r), (omega (arith, work-more n k h, work-room r), tt))))),
 )
 
 -- no number of the sum comes near 64 bits

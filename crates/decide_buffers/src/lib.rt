@@ -8,7 +8,7 @@ ghost use Prim.Native.Nat.{_+_, _*_, _≤_};
 ghost use lib.IntN.{pos};
 ghost use lib.ListN.{length, drop, replicate};
 ghost use Rattle.lines.specs.Limits.{maxVariables};
-ghost use Rattle.decide_buffers.specs.Room.{modelRoom, boundsRoom, groupsRoom, refutationRoom, workRoom, roomsValidity, decideValidity};
+ghost use Rattle.decide_buffers.specs.Room.{modelRoom, boundsRoom, groupsRoom, refutationRoom, identifiersRoom, workRoom, roomsValidity, decideValidity};
 
 // The numbers of a room for each variable, for each pair of variables, and besides.
 const MODEL_EACH: usize = 1;
@@ -20,6 +20,10 @@ const GROUPS_EACH: usize = 1;
 const REFUTATION_EACH: usize = 4;
 
 const REFUTATION_MORE: usize = 4;
+
+const IDENTIFIERS_EACH: usize = 4;
+
+const IDENTIFIERS_MORE: usize = 4;
 
 const WORK_PAIR: usize = 16;
 
@@ -36,6 +40,8 @@ pub const FEW_BOUNDS: usize = BOUNDS_EACH * FEW_VARIABLES;
 pub const FEW_GROUPS: usize = GROUPS_EACH * FEW_VARIABLES;
 
 pub const FEW_REFUTATION: usize = REFUTATION_EACH * FEW_VARIABLES + REFUTATION_MORE;
+
+pub const FEW_IDENTIFIERS: usize = IDENTIFIERS_EACH * FEW_VARIABLES + IDENTIFIERS_MORE;
 
 pub const FEW_WORK: usize = WORK_PAIR * FEW_VARIABLES * FEW_VARIABLES
     + WORK_EACH * FEW_VARIABLES
@@ -73,6 +79,14 @@ pub fn refutation_room(n: usize) -> usize
     REFUTATION_EACH * n + REFUTATION_MORE
 }
 
+// The room for the identifiers of a refutation's steps.
+pub fn identifiers_room(n: usize) -> usize
+    requires { ⌜ n ≤ maxVariables ⌝ }
+    ensures { λ r. ⌜ r ≡ identifiersRoom n ⌝ }
+{
+    IDENTIFIERS_EACH * n + IDENTIFIERS_MORE
+}
+
 // The named part of the work area.
 pub fn work_room(n: usize) -> usize
     requires { ⌜ n ≤ maxVariables ⌝ }
@@ -88,10 +102,11 @@ fn rooms_validity(
     bounds: usize,
     groups: usize,
     refutation: usize,
+    identifiers: usize,
     work: usize,
 ) -> Validity
     requires { ⌜ n ≤ maxVariables ⌝ }
-    ensures { λ r. ⌜ r ≡ roomsValidity n (record { model = model; bounds = bounds; groups = groups; refutation = refutation; work = work }) ⌝ }
+    ensures { λ r. ⌜ r ≡ roomsValidity n (record { model = model; bounds = bounds; groups = groups; refutation = refutation; identifiers = identifiers; work = work }) ⌝ }
 {
     if model < model_room(n) {
         return Validity::Refused(Refusal::ShortOutput(1));
@@ -105,13 +120,16 @@ fn rooms_validity(
     if refutation < refutation_room(n) {
         return Validity::Refused(Refusal::ShortOutput(4));
     }
+    if identifiers < identifiers_room(n) {
+        return Validity::Refused(Refusal::ShortOutput(5));
+    }
     if work < work_room(n) {
         return Validity::Refused(Refusal::ShortWorkArea);
     }
     Validity::Valid
 }
 
-// The first of refusals 1 to 8 that applies. Buffers are given by their lengths.
+// The first refusal that applies: the list's, 7 and 8. Buffers are given by their lengths.
 pub fn decide_validity(
     n: usize,
     list: &[i32],
@@ -119,15 +137,16 @@ pub fn decide_validity(
     bounds: usize,
     groups: usize,
     refutation: usize,
+    identifiers: usize,
     work: usize,
 ) -> Validity
-    ensures { λ r. ⌜ r ≡ decideValidity n (now (list .entry)) (record { model = model; bounds = bounds; groups = groups; refutation = refutation; work = work }) ⌝ }
+    ensures { λ r. ⌜ r ≡ decideValidity n (now (list .entry)) (record { model = model; bounds = bounds; groups = groups; refutation = refutation; identifiers = identifiers; work = work }) ⌝ }
 {
     let found = list_validity(n, list);
     if let Validity::Refused(r) = found {
         return Validity::Refused(r);
     }
-    rooms_validity(n, model, bounds, groups, refutation, work)
+    rooms_validity(n, model, bounds, groups, refutation, identifiers, work)
 }
 
 // Zeros in the first room numbers.

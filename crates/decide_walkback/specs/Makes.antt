@@ -5,8 +5,8 @@ use mathlib.Core.List.{List}
 use Prim.Native.Nat.{ℕ, _+_, _*_, _/_, _%_, _<_, _≤_}
 use native.Mathlib.Omega.{arith}
 use borrow.Author.Count.{below-more}
-use borrow.Author.Tests.{ltb-true, eqb-true, eq-eqb, ne-eqb}
-use lib.Dec.{eqb, ltb}
+use borrow.Author.Tests.{eqb-true, eq-eqb, ne-eqb}
+use lib.Dec.{eqb}
 use lib.IntN.{ℤ, pos, _+ℤ_}
 use lib.ListN.{length, getD}
 use mir.Syntax.{w64}
@@ -20,7 +20,8 @@ use Rattle.lines.specs.Valid.{LinesOk}
 use Rattle.steps.specs.declared.Step.{Step}
 use Rattle.steps.specs.declared.NamedStep.{NamedStep}
 use Rattle.steps.specs.declared.NamedStep.the-variants.{Found, Nothing}
-use Rattle.steps.specs.Step.{maxWeight, stepOf, stepNumbered}
+use Rattle.steps.specs.Step.{maxWeight, stepNumbered}
+use Rattle.steps.specs.Laws.{from-line}
 use Rattle.steps.specs.Mirror.{line-step-known}
 use Rattle.lines.specs.Limits.{absentGreatest}
 
@@ -114,18 +115,6 @@ pub sum-fits : (d w : ℤ) → Within maxEntry d → Within maxWeight w → SFit
 sum-fits d w a b = simp ints (omega zs)
 
 -- ---- the step with a number
--- it is the step of a side of one of the list's lines
-from-line : (L : List ℤ) (k : ℕ) (t : Step) → stepNumbered L k ≡ Found t → (k / 2 < lineCount L) × (stepOf (lineAt L (k / 2)) (k % 2) ≡ Found t)
-unfolding stepNumbered
-from-line L k t e = go (ltb (k / 2) (lineCount L)) refl e
-  where
-    go : (b : Bool) → ltb (k / 2) (lineCount L) ≡ b → cond b (stepOf (lineAt L (k / 2)) (k % 2)) Nothing ≡ Found t → (k / 2 < lineCount L) × (stepOf (lineAt L (k / 2)) (k % 2) ≡ Found t)
-    go true i q = (ltb-true _ _ i, q)
-    go false i q = never (cc)
-
-pub number-below : (L : List ℤ) (k : ℕ) (t : Step) → stepNumbered L k ≡ Found t → k < 2 * lineCount L
-number-below L k t e = omega (arith, from-line L k t e .0)
-
 pub numbered-start : (n : ℕ) (L : List ℤ) (k : ℕ) (t : Step) → LinesOk n L → stepNumbered L k ≡ Found t → t .from < 2 * n
 numbered-start n L k t ok e =
     let l = from-line L k t e in

@@ -22,7 +22,8 @@ use Rattle.lines.specs.Limits.{absentGreatest}
 use Rattle.theory_walks.specs.Graph.{numbered}
 use Rattle.decide_rows.specs.Stored.{stored, storedRow}
 use Rattle.decide_walkback.specs.declared.Move.{Move}
-use Rattle.decide_walkback.specs.Makes.{entry, maxEntry, Near, startOf, Maker, SearchOk, IsMaker, makes, number-below}
+use Rattle.decide_walkback.specs.Makes.{entry, maxEntry, Near, startOf, Maker, SearchOk, IsMaker, makes}
+use Rattle.steps.specs.Laws.{number-below}
 
 -- the N numbers of the work area from a place on
 abbrev pub rowIn : ℕ → List ℤ → ℕ → List ℤ

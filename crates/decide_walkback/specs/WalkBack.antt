@@ -11,7 +11,7 @@ use lib.ListN.{length, getD, set, take, drop, length-append, length-drop, length
 use lib.Seq.{take-nil, take-take, take-length, take-suc, take-append-le, drop-append-le, drop-at, set-at, length-take-le}
 use Rattle.integers.specs.Linear.{ints}
 use Rattle.lines.specs.Limits.{maxVariables}
-use Rattle.lines.specs.Line.{linesOf, lineCount}
+use Rattle.lines.specs.Line.{linesOf}
 use Rattle.lines.specs.Valid.{LinesOk, all-ok}
 use Rattle.steps.specs.declared.Step.{Step}
 use Rattle.steps.specs.Step.{maxWeight, stepsOf}
@@ -23,7 +23,7 @@ use Rattle.lines.specs.Limits.{absentGreatest}
 use Rattle.theory_walks.specs.Graph.{weights-small}
 use Rattle.decide_rows.specs.Stored.{stored, storedRow, storedRows}
 use Rattle.decide_walkback.specs.declared.Move.{Move}
-use Rattle.decide_walkback.specs.Makes.{entry, startOf, made, number-below, numbered-start}
+use Rattle.decide_walkback.specs.Makes.{entry, startOf, made, numbered-start}
 use Rattle.decide_walkback.specs.Move.{rowIn, SmallRow, MoveOk, Stays, Goes, Moved, entry-in, stored-at, stored-some, not-absent}
 
 -- ---- what the function asks and promises
@@ -304,11 +304,3 @@ module _ (n : ℕ) (L : List ℤ) (u : ℕ) (w₀ : List ℤ) (top v place : ℕ
           path = subst (λ (x : ℕ). Path x (b .steps) v) (s .0) (b .path);
           sum = b .sum ∙ ap some (ap (λ (x : ℤ). x +ℤ total (b .steps)) (s .1) ∙ zero-plus (total (b .steps)));
         }
-
--- ---- what callers use of it
--- every number that names a step is below twice the number of lines
-pub names-below : (L : List ℤ) (ks : List ℕ) (ts : List Step) → Names L ks ts → (i : ℕ) → i < length ks → getD ks i 0 < 2 * lineCount L
-names-below L [] ts a i h = absurd (omega arith)
-names-below L (k ∷ ks) [] a i h = absurd a
-names-below L (k ∷ ks) (t ∷ ts) a zero h = number-below L k t (a .0)
-names-below L (k ∷ ks) (t ∷ ts) a (suc i) h = names-below L ks ts (a .1) i (omega arith)

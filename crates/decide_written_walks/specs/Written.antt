@@ -11,7 +11,7 @@ use Rattle.lines.specs.Line.{number, lineCount, linesOf}
 use Rattle.steps.specs.declared.Step.{Step}
 use Rattle.steps.specs.Step.{stepsOf}
 use Rattle.steps.specs.Walk.{Path, total, Names}
-use Rattle.decide_walkback.specs.WalkBack.{names-below}
+use Rattle.steps.specs.Laws.{names-below}
 use Rattle.decide_written_walks.specs.Copy.{StepNumbers, copiedTo}
 use Rattle.decide_written_walks.specs.Shortest.{walkStart, WalkReady, SumFound, WalkFound}
 

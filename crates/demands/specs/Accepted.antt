@@ -14,7 +14,7 @@ use Rattle.little_endian.specs.Writing.{int32Bytes, nat32Bytes, int64Bytes}
 use Rattle.steps.specs.declared.Step.{Step}
 use Rattle.steps.specs.Walk.{Names}
 use Rattle.check_answers.specs.declared.CheckAnswer.the-variants.{Yes}
-use Rattle.decide_walkback.specs.Makes.{number-below}
+use Rattle.steps.specs.Laws.{number-below}
 use Rattle.check_model.specs.Model.{modelValidity, modelAnswer}
 use Rattle.check_model.specs.Laws.{valid-model, value-fits}
 use Rattle.check_model.specs.Meaning.{yes-exactly}

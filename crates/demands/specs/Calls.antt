@@ -27,8 +27,9 @@ use Rattle.theory_bounds.specs.Answers.{modelOf, boundsOf, groupsOf}
 use Rattle.theory_answers.specs.Refuted.{Due}
 use Rattle.decide_buffers.specs.Room.{Lent, modelRoom, boundsRoom, groupsRoom}
 use Rattle.decide.specs.declared.Answer.{Answer}
+use Rattle.decide_identifiers.specs.Identifiers.{identifiersOf}
 use Rattle.decide.specs.declared.Answer.the-variants.{Yes, No, Refused}
-use Rattle.decide.specs.Parts.{yes-verdict, no-verdict, modelIn, boundsIn, groupsIn, refutationIn, model-in, bounds-in, groups-in, refutation-in}
+use Rattle.decide.specs.Parts.{yes-verdict, no-verdict, modelIn, boundsIn, groupsIn, refutationIn, identifiersIn, model-in, bounds-in, groups-in, refutation-in, identifiers-in}
 use Rattle.decide.specs.Decided.{unlessRefused, decideAnswer, cleared, OnYes, OnNo, Leaves, answerFor, Decided, validityFor, decide-ok}
 use Rattle.decide.specs.Places.{Below}
 use Rattle.c_codes.specs.Codes.{noCode, refusalUnit, refusalCode}
@@ -57,9 +58,9 @@ module _ {n : ℕ} {L : List ℤ} (c : Call n L) where
   pub call-valid : validityOf n L ≡ Valid
   call-valid = decide-ok n L (c .before) all-valid .list
 
-  answer-is : c .answer ≡ cond (verdictOf n (linesOf L)) Yes No
+  pub call-answer : c .answer ≡ cond (verdictOf n (linesOf L)) Yes No
   unfolding decideAnswer
-  answer-is = c .decided .is ∙ ap (λ (v : Validity). unlessRefused v (cond (verdictOf n (linesOf L)) Yes No)) all-valid
+  call-answer = c .decided .is ∙ ap (λ (v : Validity). unlessRefused v (cond (verdictOf n (linesOf L)) Yes No)) all-valid
 
   pub call-yes : c .answer ≡ Yes → verdictOf n (linesOf L) ≡ true
   call-yes e = yes-verdict n L (c .before) (sym (c .decided .is) ∙ e)
@@ -68,10 +69,10 @@ module _ {n : ℕ} {L : List ℤ} (c : Call n L) where
   call-no e = no-verdict n L (c .before) (sym (c .decided .is) ∙ e)
 
   pub verdict-yes : verdictOf n (linesOf L) ≡ true → c .answer ≡ Yes
-  verdict-yes e = answer-is ∙ ap (λ (t : Bool). cond t Yes No) e
+  verdict-yes e = call-answer ∙ ap (λ (t : Bool). cond t Yes No) e
 
   pub verdict-no : verdictOf n (linesOf L) ≡ false → c .answer ≡ No
-  verdict-no e = answer-is ∙ ap (λ (t : Bool). cond t Yes No) e
+  verdict-no e = call-answer ∙ ap (λ (t : Bool). cond t Yes No) e
 
   pub on-yes : c .answer ≡ Yes → OnYes n L (c .before) (c .after)
   on-yes e = subst (λ (x : Answer). Leaves n L x (c .before) (c .after)) e (c .decided .leaves)
@@ -84,6 +85,10 @@ module _ {n : ℕ} {L : List ℤ} (c : Call n L) where
 
   pub call-accepted : c .answer ≡ No → refutationAnswer n L (refutationIn (c .after)) ≡ check.Yes
   call-accepted e = due-accepted n L call-valid (refutationIn (c .after)) (call-due e)
+
+  -- each step's identifier is that of its line
+  pub call-identifiers : c .answer ≡ No → identifiersIn (c .after) ≡ identifiersOf L (refutationIn (c .after))
+  call-identifiers e = let w = on-no e in identifiers-in w ∙ ap (identifiersOf L) (sym (refutation-in w))
 
   pub call-written : c .answer ≡ Yes → Written n (linesOf L) (modelIn n (c .after)) (boundsIn n (c .after)) (groupsIn n (c .after))
   call-written e =

@@ -9,7 +9,7 @@ use lib.IntN.{ℤ, pos, negℤ}
 use lib.ListN.{length, take, drop, replicate}
 use Rattle.lines.specs.declared.Validity.the-variants.{Valid}
 use Rattle.lines.specs.Line.{lineAt, linesOf, isFalse}
-use Rattle.lines.specs.Refusal.{coefficientsOk, variableOk, variablesOk, constantOk, linesValidity, validityOf}
+use Rattle.lines.specs.Refusal.{coefficientsOk, variableOk, variablesOk, constantOk, identifierOk, linesValidity, validityOf}
 use Rattle.steps.specs.declared.Step.{Step}
 use Rattle.steps.specs.Point.{opposite}
 use Rattle.steps.specs.Table.{entry, digit}
@@ -69,6 +69,7 @@ Gives n L c (on-yes m b g) =
       bounds = b ++ drop (boundsRoom n) (c .before .bounds);
       groups = g ++ drop (groupsRoom n) (c .before .groups);
       refutation = c .before .refutation;
+      identifiers = c .before .identifiers;
       work = replicate (workRoom n) (pos 0) ++ drop (workRoom n) (c .before .work);
     })
 Gives n L c (on-no R sums) = (c .answer ≡ No) × OnNo n L (c .before) (c .after) × Due n L R × WalkSums L R sums
@@ -88,23 +89,23 @@ minus k = negℤ (pos k)
 -- the lists of cases 4, 8 and 9, which wrong versions are tried on
 abbrev pub list-4 : List ℤ
 list-4 =
-    pos 1 ∷ pos 0 ∷ minus 1 ∷ pos 1 ∷ pos 2
-    ∷ pos 1 ∷ pos 0 ∷ pos 1 ∷ pos 1 ∷ minus 1
-    ∷ minus 1 ∷ pos 0 ∷ minus 1 ∷ pos 2 ∷ minus 4
-    ∷ minus 1 ∷ pos 0 ∷ pos 1 ∷ pos 2 ∷ pos 3
+    pos 1 ∷ pos 0 ∷ minus 1 ∷ pos 1 ∷ pos 2 ∷ pos 0
+    ∷ pos 1 ∷ pos 0 ∷ pos 1 ∷ pos 1 ∷ minus 1 ∷ pos 0
+    ∷ minus 1 ∷ pos 0 ∷ minus 1 ∷ pos 2 ∷ minus 4 ∷ pos 0
+    ∷ minus 1 ∷ pos 0 ∷ pos 1 ∷ pos 2 ∷ pos 3 ∷ pos 0
     ∷ []
 
 abbrev pub list-8 : List ℤ
 list-8 =
-    pos 1 ∷ pos 0 ∷ pos 0 ∷ pos 0 ∷ pos 3
-    ∷ minus 1 ∷ pos 0 ∷ pos 0 ∷ pos 0 ∷ minus 4
+    pos 1 ∷ pos 0 ∷ pos 0 ∷ pos 0 ∷ pos 3 ∷ pos 0
+    ∷ minus 1 ∷ pos 0 ∷ pos 0 ∷ pos 0 ∷ minus 4 ∷ pos 0
     ∷ []
 
 abbrev list-7 : List ℤ
-list-7 = pos 1 ∷ pos 0 ∷ minus 1 ∷ pos 0 ∷ minus 1 ∷ []
+list-7 = pos 1 ∷ pos 0 ∷ minus 1 ∷ pos 0 ∷ minus 1 ∷ pos 0 ∷ []
 
 abbrev pub list-9 : List ℤ
-list-9 = minus 1 ∷ pos 0 ∷ minus 1 ∷ pos 0 ∷ minus 7 ∷ []
+list-9 = minus 1 ∷ pos 0 ∷ minus 1 ∷ pos 0 ∷ minus 7 ∷ pos 0 ∷ []
 
 unfoldable pub cases : List Case
 cases =
@@ -113,17 +114,17 @@ cases =
     -- 2
     ∷ record { n = 1; list = []; expected = on-yes (pos 0 ∷ []) (absentLeast ∷ absentGreatest ∷ []) (0 ∷ []) }
     -- 3, and with d = 0
-    ∷ record { n = 0; list = pos 0 ∷ pos 0 ∷ pos 0 ∷ pos 0 ∷ minus 1 ∷ []; expected = on-no (3 ∷ 1 ∷ 0 ∷ 0 ∷ []) [] }
-    ∷ record { n = 0; list = pos 0 ∷ pos 0 ∷ pos 0 ∷ pos 0 ∷ pos 0 ∷ []; expected = on-yes [] [] [] }
+    ∷ record { n = 0; list = pos 0 ∷ pos 0 ∷ pos 0 ∷ pos 0 ∷ minus 1 ∷ pos 0 ∷ []; expected = on-no (3 ∷ 1 ∷ 0 ∷ 0 ∷ []) [] }
+    ∷ record { n = 0; list = pos 0 ∷ pos 0 ∷ pos 0 ∷ pos 0 ∷ pos 0 ∷ pos 0 ∷ []; expected = on-yes [] [] [] }
     -- 4
     ∷ record { n = 3; list = list-4; expected = on-no (2 ∷ 2 ∷ 2 ∷ 0 ∷ 3 ∷ 4 ∷ 7 ∷ []) (pos 1 ∷ minus 1 ∷ []) }
     -- 5
     ∷ record {
       n = 3;
       list =
-          pos 1 ∷ pos 0 ∷ minus 1 ∷ pos 1 ∷ pos 2
-          ∷ pos 1 ∷ pos 0 ∷ pos 1 ∷ pos 1 ∷ minus 1
-          ∷ minus 1 ∷ pos 0 ∷ minus 1 ∷ pos 2 ∷ minus 4
+          pos 1 ∷ pos 0 ∷ minus 1 ∷ pos 1 ∷ pos 2 ∷ pos 0
+          ∷ pos 1 ∷ pos 0 ∷ pos 1 ∷ pos 1 ∷ minus 1 ∷ pos 0
+          ∷ minus 1 ∷ pos 0 ∷ minus 1 ∷ pos 2 ∷ minus 4 ∷ pos 0
           ∷ [];
       expected = on-yes (pos 0 ∷ minus 1 ∷ pos 4 ∷ []) (absentLeast ∷ pos 0 ∷ absentLeast ∷ absentGreatest ∷ pos 4 ∷ absentGreatest ∷ []) (0 ∷ 1 ∷ 2 ∷ []);
     }
@@ -131,23 +132,23 @@ cases =
     ∷ record {
       n = 2;
       list =
-          pos 1 ∷ pos 0 ∷ pos 1 ∷ pos 0 ∷ pos 1
-          ∷ minus 1 ∷ pos 0 ∷ minus 1 ∷ pos 0 ∷ pos 1
-          ∷ pos 1 ∷ pos 1 ∷ pos 1 ∷ pos 1 ∷ pos 1
-          ∷ minus 1 ∷ pos 1 ∷ minus 1 ∷ pos 1 ∷ pos 1
+          pos 1 ∷ pos 0 ∷ pos 1 ∷ pos 0 ∷ pos 1 ∷ pos 0
+          ∷ minus 1 ∷ pos 0 ∷ minus 1 ∷ pos 0 ∷ pos 1 ∷ pos 0
+          ∷ pos 1 ∷ pos 1 ∷ pos 1 ∷ pos 1 ∷ pos 1 ∷ pos 0
+          ∷ minus 1 ∷ pos 1 ∷ minus 1 ∷ pos 1 ∷ pos 1 ∷ pos 0
           ∷ [];
       expected = on-yes (pos 0 ∷ pos 0 ∷ []) (pos 0 ∷ pos 0 ∷ pos 0 ∷ pos 0 ∷ []) (0 ∷ 0 ∷ []);
     }
     -- 7, and with d = 0
     ∷ record { n = 1; list = list-7; expected = on-no (1 ∷ 1 ∷ 0 ∷ 0 ∷ []) (minus 1 ∷ []) }
-    ∷ record { n = 1; list = pos 1 ∷ pos 0 ∷ minus 1 ∷ pos 0 ∷ pos 0 ∷ []; expected = on-yes (pos 0 ∷ []) (absentLeast ∷ absentGreatest ∷ []) (0 ∷ []) }
+    ∷ record { n = 1; list = pos 1 ∷ pos 0 ∷ minus 1 ∷ pos 0 ∷ pos 0 ∷ pos 0 ∷ []; expected = on-yes (pos 0 ∷ []) (absentLeast ∷ absentGreatest ∷ []) (0 ∷ []) }
     -- 8, and with the second d -3
     ∷ record { n = 1; list = list-8; expected = on-no (1 ∷ 2 ∷ 0 ∷ 0 ∷ 2 ∷ []) (minus 2 ∷ []) }
     ∷ record {
       n = 1;
       list =
-          pos 1 ∷ pos 0 ∷ pos 0 ∷ pos 0 ∷ pos 3
-          ∷ minus 1 ∷ pos 0 ∷ pos 0 ∷ pos 0 ∷ minus 3
+          pos 1 ∷ pos 0 ∷ pos 0 ∷ pos 0 ∷ pos 3 ∷ pos 0
+          ∷ minus 1 ∷ pos 0 ∷ pos 0 ∷ pos 0 ∷ minus 3 ∷ pos 0
           ∷ [];
       expected = on-yes (pos 3 ∷ []) (pos 3 ∷ pos 3 ∷ []) (0 ∷ []);
     }
@@ -157,8 +158,8 @@ cases =
     ∷ record {
       n = 2;
       list =
-          pos 1 ∷ pos 0 ∷ minus 1 ∷ pos 1 ∷ pos 0
-          ∷ minus 1 ∷ pos 0 ∷ pos 1 ∷ pos 1 ∷ pos 0
+          pos 1 ∷ pos 0 ∷ minus 1 ∷ pos 1 ∷ pos 0 ∷ pos 0
+          ∷ minus 1 ∷ pos 0 ∷ pos 1 ∷ pos 1 ∷ pos 0 ∷ pos 0
           ∷ [];
       expected = on-yes (pos 0 ∷ pos 0 ∷ []) (absentLeast ∷ absentGreatest ∷ absentLeast ∷ absentGreatest ∷ []) (0 ∷ 0 ∷ []);
     }
@@ -173,6 +174,7 @@ leaves-yes : {n : ℕ} {L : List ℤ} {b a : Lent} → OnYes n L b a → (m bs :
       bounds = bs ++ drop (boundsRoom n) (b .bounds);
       groups = g ++ drop (groupsRoom n) (b .groups);
       refutation = b .refutation;
+      identifiers = b .identifiers;
       work = replicate (workRoom n) (pos 0) ++ drop (workRoom n) (b .work);
     }
 leaves-yes {n} {L} {b} {a} w m bs g e f h =
@@ -182,6 +184,7 @@ leaves-yes {n} {L} {b} {a} w m bs g e f h =
       bounds = (w .bounds ∙ ap (λ (x : List ℤ). x ++ drop (boundsRoom n) (b .bounds)) f) t;
       groups = (w .groups ∙ ap (λ (x : List ℕ). x ++ drop (groupsRoom n) (b .groups)) h) t;
       refutation = w .refutation t;
+      identifiers = w .identifiers t;
       work = w .work t;
     }
 
@@ -219,7 +222,7 @@ _then_ : {A B : Type 0} → A → B → A × B
 a then b = (a, b)
 
 pub all-cases : AllHold cases
-unfolding cases coefficientsOk variableOk variablesOk constantOk linesValidity validityOf lineAt isFalse
+unfolding cases coefficientsOk variableOk variablesOk constantOk identifierOk linesValidity validityOf lineAt isFalse
     opposite entry digit stepOf stepNumbered stepsOf
     countsOk isFalseStep headOn joins turns along advance run closes accepted verdict refutationValidity refutationAnswer
     relaxRow startRow rounds rowAt best noNegative

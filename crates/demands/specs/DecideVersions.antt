@@ -1,8 +1,8 @@
 -- Versions of deciding that answer idly, by guessing or with a refusal out of its order, each a definition, and at a named input what breaks the promise.
 use mathlib.Core.Path.{_≡_, refl, sym, ap, subst, _∙_}
 use mathlib.Core.Bool.{Bool, true, false, cond, not}
-use mathlib.Core.List.{List, [], _∷_, _++_, reverse}
-use Prim.Native.Nat.{ℕ, zero, suc, _+_, _%_, _<_}
+use mathlib.Core.List.{List, [], _∷_, _++_, reverse, map}
+use Prim.Native.Nat.{ℕ, zero, suc, _+_, _/_, _%_, _<_}
 use native.Mathlib.Omega.{arith}
 use lib.Dec.{eqb, ltb}
 use lib.IntN.{ℤ, pos, negℤ}
@@ -15,7 +15,7 @@ use Rattle.lines.specs.declared.Validity.{Validity}
 use Rattle.lines.specs.declared.Validity.the-variants as validity
 use Rattle.lines.specs.Limits.{lineSize, maxVariables, maxLines, maxConstant}
 use Rattle.lines.specs.Line.{lineAt, lineCount, linesOf, isFalse}
-use Rattle.lines.specs.Refusal.{_orElse_, refuseIf, Rule, firstBroken, coefficientsOk, variableOk, variablesOk, constantOk, linesValidity, validityOf}
+use Rattle.lines.specs.Refusal.{_orElse_, refuseIf, Rule, firstBroken, coefficientsOk, variableOk, variablesOk, constantOk, identifierOk, linesValidity, validityOf}
 use Rattle.steps.specs.declared.Step.{Step}
 use Rattle.steps.specs.declared.NamedStep.the-variants.{Found, Nothing}
 use Rattle.steps.specs.Point.{opposite}
@@ -25,7 +25,7 @@ use Rattle.steps.specs.Walk.{Names}
 use Rattle.check_answers.specs.declared.CheckAnswer.the-variants as check
 use Rattle.check_refutation.specs.Progress.{headSize, countsOk, headOn, wrongAfter, joins, turns, along, advance, run, closes, accepted, brokenAt}
 use Rattle.check_refutation.specs.Answer.{verdict, refutationValidity, refutationAnswer}
-use Rattle.check_soundness.specs.Head.{kindOf}
+use Rattle.check_soundness.specs.Head.{kindOf, stepsIn}
 use Rattle.check_soundness.specs.Refutes.{Refutes, kind-1, kind-2, kind-3}
 use Rattle.theory_walks.specs.Row.{relaxRow, startRow, rounds, rowAt, best}
 use Rattle.theory_walks.specs.Negative.{noNegative}
@@ -36,11 +36,12 @@ use Rattle.theory_bounds.specs.Extend.{limit, pick}
 use Rattle.theory_bounds.specs.Model.{model}
 use Rattle.theory_bounds.specs.Table.{tableModel}
 use Rattle.lines.specs.Limits.{absentLeast, absentGreatest}
-use Rattle.theory_bounds.specs.Verdict.{hasFalse, consistentHalves, verdictOf, dueKind}
+use Rattle.theory_bounds.specs.Verdict.{hasFalse, firstFalse, consistentHalves, verdictOf, dueKind}
 use Rattle.theory_bounds.specs.Answers.{modelOf, boundsOf, groupsOf}
 use Rattle.theory_answers.specs.Refuted.{Due, due-refutation}
 use Rattle.theory_answers.specs.Decided.{due-accepted}
-use Rattle.decide_buffers.specs.Room.{Lent, lengthsOf, modelRoom, boundsRoom, groupsRoom, refutationRoom, workRoom, outputRooms, workRooms, firstShort, roomsValidity, decideValidity}
+use Rattle.decide_buffers.specs.Room.{Lent, lengthsOf, modelRoom, boundsRoom, groupsRoom, refutationRoom, identifiersRoom, workRoom, outputRooms, workRooms, firstShort, roomsValidity, decideValidity}
+use Rattle.decide_identifiers.specs.Identifiers.{stepAt, identifiersOf, length-identifiers}
 use Rattle.decide.specs.declared.Answer.{Answer}
 use Rattle.decide.specs.declared.Answer.the-variants.{Yes, No, Refused}
 use Rattle.decide.specs.Parts.{no-verdict, refutationIn, refutation-in}
@@ -69,12 +70,24 @@ written n model bounds groups b =
       bounds = bounds ++ drop (boundsRoom n) (b .bounds);
       groups = groups ++ drop (groupsRoom n) (b .groups);
       refutation = b .refutation;
+      identifiers = b .identifiers;
       work = cleared n (b .work);
     }
 
--- on a no: a refutation in front, and a cleared work area
-abbrev refuted : ℕ → List ℕ → Lent → Lent
-refuted n R b = record { model = b .model; bounds = b .bounds; groups = b .groups; refutation = R ++ drop (length R) (b .refutation); work = cleared n (b .work) }
+-- on a no: a refutation in front and what is given for its identifiers, and a cleared work area
+abbrev refutedWith : ℕ → List ℕ → List ℕ → Lent → Lent
+refutedWith n R I b =
+    record {
+      model = b .model;
+      bounds = b .bounds;
+      groups = b .groups;
+      refutation = R ++ drop (length R) (b .refutation);
+      identifiers = I ++ drop (length I) (b .identifiers);
+      work = cleared n (b .work);
+    }
+
+abbrev refuted : ℕ → List ℤ → List ℕ → Lent → Lent
+refuted n L R = refutedWith n R (identifiersOf L R)
 
 -- by the answer; a refusal leaves everything as it was
 abbrev leftBy : Answer → (before onYes onNo : Lent) → Lent
@@ -113,7 +126,7 @@ abbrev rightYes : Left
 rightYes n L = written n (modelOf n (linesOf L)) (boundsOf n (linesOf L)) (groupsOf n (linesOf L))
 
 abbrev rightNo : Left
-rightNo n L = refuted n (dueNumbers n L)
+rightNo n L = refuted n L (dueNumbers n L)
 
 pub right : Version
 right = leaving rightYes rightNo
@@ -123,8 +136,19 @@ unfolding right
 right-keeps n L b = record { is = refl; leaves = go (answerFor n L b) refl }
   where
     go : (a : Answer) → answerFor n L b ≡ a → Leaves n L a b (leftBy a b (rightYes n L b) (rightNo n L b))
-    go Yes e = record { model = refl; bounds = refl; groups = refl; refutation = refl; work = refl }
-    go No e = record { numbers = dueNumbers n L; due = due-numbers n L (no-verdict n L b e); refutation = refl; model = refl; bounds = refl; groups = refl; work = refl }
+    go Yes e = record { model = refl; bounds = refl; groups = refl; refutation = refl; identifiers = refl; work = refl }
+    go No e =
+        let R = dueNumbers n L in
+        record {
+          numbers = R;
+          due = due-numbers n L (no-verdict n L b e);
+          refutation = refl;
+          identifiers = ap (λ (k : ℕ). identifiersOf L R ++ drop k (b .identifiers)) (length-identifiers L R);
+          model = refl;
+          bounds = refl;
+          groups = refl;
+          work = refl;
+        }
     go (Refused r) e = refl
 
 -- ---- what the promise says of a version with the right answer
@@ -143,6 +167,7 @@ roomWith n r =
       bounds = replicate (boundsRoom n) (pos 0);
       groups = replicate (groupsRoom n) 0;
       refutation = replicate (refutationRoom n) r;
+      identifiers = replicate (identifiersRoom n) 0;
       work = replicate (workRoom n) (pos 0);
     }
 
@@ -151,13 +176,13 @@ room n = roomWith n 0
 
 -- x at most 5
 abbrev atMost5 : List ℤ
-atMost5 = pos 1 ∷ pos 0 ∷ pos 0 ∷ pos 0 ∷ pos 5 ∷ []
+atMost5 = pos 1 ∷ pos 0 ∷ pos 0 ∷ pos 0 ∷ pos 5 ∷ pos 0 ∷ []
 
 -- x and y equal
 abbrev equalPair : List ℤ
 equalPair =
-    pos 1 ∷ pos 0 ∷ negℤ (pos 1) ∷ pos 1 ∷ pos 0
-    ∷ negℤ (pos 1) ∷ pos 0 ∷ pos 1 ∷ pos 1 ∷ pos 0
+    pos 1 ∷ pos 0 ∷ negℤ (pos 1) ∷ pos 1 ∷ pos 0 ∷ pos 0
+    ∷ negℤ (pos 1) ∷ pos 0 ∷ pos 1 ∷ pos 1 ∷ pos 0 ∷ pos 0
     ∷ []
 
 no-lines-yes : answerFor 0 [] (room 0) ≡ Yes
@@ -165,11 +190,11 @@ unfolding decideAnswer decideValidity roomsValidity validityOf linesValidity ver
 no-lines-yes = refl
 
 false-list-no : answerFor 0 falseList (room 0) ≡ No
-unfolding decideAnswer decideValidity roomsValidity validityOf linesValidity coefficientsOk variableOk variablesOk constantOk lineAt isFalse verdictOf hasFalse
+unfolding decideAnswer decideValidity roomsValidity validityOf linesValidity coefficientsOk variableOk variablesOk constantOk identifierOk lineAt isFalse verdictOf hasFalse
 false-list-no = refl
 
 list-8-no : answerFor 1 list-8 (roomWith 1 9) ≡ No
-unfolding decideAnswer decideValidity roomsValidity validityOf linesValidity coefficientsOk variableOk variablesOk constantOk lineAt isFalse verdictOf hasFalse noNegative
+unfolding decideAnswer decideValidity roomsValidity validityOf linesValidity coefficientsOk variableOk variablesOk constantOk identifierOk lineAt isFalse verdictOf hasFalse noNegative
     entry digit stepOf stepsOf relaxRow startRow rounds rowAt best
 list-8-no = refl
 
@@ -200,8 +225,8 @@ namesLastShort = refusingBy lastShortFirst
 pub names-last-short-breaks : Keeps namesLastShort → ⊥
 unfolding namesLastShort decideAnswer decideValidity roomsValidity validityOf linesValidity
 names-last-short-breaks k =
-    let e : Refused (ShortOutput 4) ≡ Refused (ShortOutput 1) = k 1 [] (room 0) .is in
-    let p : _≡_ {A = ℕ} 4 1 = cc in absurd (omega arith)
+    let e : Refused (ShortOutput 5) ≡ Refused (ShortOutput 1) = k 1 [] (room 0) .is in
+    let p : _≡_ {A = ℕ} 5 1 = cc in absurd (omega arith)
 
 -- within a line it refuses 6 before 5
 abbrev constantRules : List Rule
@@ -227,10 +252,10 @@ refusesConstantsFirst =
 
 -- variable 0 where there is none, and d beyond its limit
 abbrev twiceWrong : List ℤ
-twiceWrong = pos 1 ∷ pos 0 ∷ pos 0 ∷ pos 0 ∷ pos (maxConstant + 1) ∷ []
+twiceWrong = pos 1 ∷ pos 0 ∷ pos 0 ∷ pos 0 ∷ pos (maxConstant + 1) ∷ pos 0 ∷ []
 
 pub refuses-constants-first-breaks : Keeps refusesConstantsFirst → ⊥
-unfolding refusesConstantsFirst decideAnswer decideValidity roomsValidity validityOf linesValidity coefficientsOk variableOk variablesOk constantOk lineAt
+unfolding refusesConstantsFirst decideAnswer decideValidity roomsValidity validityOf linesValidity coefficientsOk variableOk variablesOk constantOk identifierOk lineAt
 refuses-constants-first-breaks k = let e : Refused (BadConstant 0) ≡ Refused (BadVariable 0) = k 0 twiceWrong (room 0) .is in never (cc)
 
 -- it says yes to every list, with a model of zeros
@@ -238,12 +263,12 @@ pub yesWithZeros : Version
 yesWithZeros n L b = outcome (unlessRefused (validityFor n L b) Yes) b (written n (replicate n (pos 0)) (boundsOf n (linesOf L)) (groupsOf n (linesOf L)) b) b
 
 pub yes-with-zeros-breaks : Keeps yesWithZeros → ⊥
-unfolding yesWithZeros decideValidity roomsValidity validityOf linesValidity coefficientsOk variableOk variablesOk constantOk lineAt
+unfolding yesWithZeros decideValidity roomsValidity validityOf linesValidity coefficientsOk variableOk variablesOk constantOk identifierOk lineAt
 yes-with-zeros-breaks k = let e : Yes ≡ No = k 0 falseList (room 0) .is ∙ false-list-no in never (cc)
 
 -- it says no to every list, with one stock refutation
 pub noWithStock : Version
-noWithStock n L b = outcome (unlessRefused (validityFor n L b) No) b b (refuted n (3 ∷ 1 ∷ 0 ∷ 0 ∷ []) b)
+noWithStock n L b = outcome (unlessRefused (validityFor n L b) No) b b (refuted n L (3 ∷ 1 ∷ 0 ∷ 0 ∷ []) b)
 
 pub no-with-stock-breaks : Keeps noWithStock → ⊥
 unfolding noWithStock decideValidity roomsValidity validityOf linesValidity
@@ -272,7 +297,7 @@ pub ownGroups : Version
 ownGroups = leaving ownGroupsYes rightNo
 
 pub own-groups-breaks : Keeps ownGroups → ⊥
-unfolding ownGroups decideAnswer decideValidity roomsValidity validityOf linesValidity coefficientsOk variableOk variablesOk constantOk lineAt isFalse verdictOf hasFalse noNegative consistentHalves
+unfolding ownGroups decideAnswer decideValidity roomsValidity validityOf linesValidity coefficientsOk variableOk variablesOk constantOk identifierOk lineAt isFalse verdictOf hasFalse noNegative consistentHalves
     entry digit stepOf stepsOf relaxRow startRow rounds rowAt best opposite groupsOf halves tight
 own-groups-breaks k =
     let s = on-yes ownGroupsYes rightNo k 2 equalPair (room 2) refl in
@@ -290,7 +315,7 @@ pub absentBounds : Version
 absentBounds = leaving absentBoundsYes rightNo
 
 pub absent-bounds-breaks : Keeps absentBounds → ⊥
-unfolding absentBounds decideAnswer decideValidity roomsValidity validityOf linesValidity coefficientsOk variableOk variablesOk constantOk lineAt isFalse verdictOf hasFalse noNegative consistentHalves
+unfolding absentBounds decideAnswer decideValidity roomsValidity validityOf linesValidity coefficientsOk variableOk variablesOk constantOk identifierOk lineAt isFalse verdictOf hasFalse noNegative consistentHalves
     entry digit stepOf stepsOf relaxRow startRow rounds rowAt best opposite boundsOf halves
 absent-bounds-breaks k =
     let s = on-yes absentBoundsYes rightNo k 1 atMost5 (room 1) refl in
@@ -298,7 +323,7 @@ absent-bounds-breaks k =
 
 -- on a no it states a refutation's kind and counts, and leaves out the steps
 abbrev headNo : Left
-headNo n L = refuted n (take headSize (dueNumbers n L))
+headNo n L = refutedWith n (take headSize (dueNumbers n L)) (identifiersOf L (dueNumbers n L))
 
 pub countsNotWritten : Version
 countsNotWritten = leaving rightYes headNo
@@ -354,7 +379,7 @@ zeroModel = leaving zeroModelYes rightNo
 
 -- case 9: x is at least 4
 pub zero-model-breaks : Keeps zeroModel → ⊥
-unfolding zeroModel decideAnswer decideValidity roomsValidity validityOf linesValidity coefficientsOk variableOk variablesOk constantOk lineAt isFalse verdictOf hasFalse noNegative consistentHalves
+unfolding zeroModel decideAnswer decideValidity roomsValidity validityOf linesValidity coefficientsOk variableOk variablesOk constantOk identifierOk lineAt isFalse verdictOf hasFalse noNegative consistentHalves
     entry digit stepOf stepsOf relaxRow startRow rounds rowAt best opposite assign above atMost near halves tight limit pick model tableModel modelOf
 zero-model-breaks k =
     let s = on-yes zeroModelYes rightNo k 1 list-9 (room 1) refl in
@@ -365,18 +390,18 @@ abbrev stock : ℕ → List ℕ
 stock k = cond (eqb k 3) (3 ∷ 1 ∷ 0 ∷ 0 ∷ []) (cond (eqb k 1) (1 ∷ 2 ∷ 0 ∷ 0 ∷ 2 ∷ []) (2 ∷ 1 ∷ 1 ∷ 0 ∷ 2 ∷ []))
 
 abbrev stockNo : Left
-stockNo n L = refuted n (stock (dueKind n (linesOf L)))
+stockNo n L = refuted n L (stock (dueKind n (linesOf L)))
 
 pub stockRefutation : Version
 stockRefutation = leaving rightYes stockNo
 
 list-4-no : answerFor 3 list-4 (room 3) ≡ No
-unfolding decideAnswer decideValidity roomsValidity validityOf linesValidity coefficientsOk variableOk variablesOk constantOk lineAt isFalse verdictOf hasFalse noNegative consistentHalves
+unfolding decideAnswer decideValidity roomsValidity validityOf linesValidity coefficientsOk variableOk variablesOk constantOk identifierOk lineAt isFalse verdictOf hasFalse noNegative consistentHalves
     entry digit stepOf stepsOf relaxRow startRow rounds rowAt best opposite halves
 list-4-no = refl
 
 valid-4 : validityOf 3 list-4 ≡ validity.Valid
-unfolding validityOf linesValidity coefficientsOk variableOk variablesOk constantOk lineAt
+unfolding validityOf linesValidity coefficientsOk variableOk variablesOk constantOk identifierOk lineAt
 valid-4 = refl
 
 kind-of-4 : dueKind 3 (linesOf list-4) ≡ 2
@@ -385,7 +410,7 @@ kind-of-4 = refl
 
 -- case 4: what was written is no refutation, since the first step does not lead to the opposite of its start
 stock-not-accepted : refutationAnswer 3 list-4 (stock 2) ≡ check.No 3
-unfolding refutationAnswer refutationValidity validityOf linesValidity coefficientsOk variableOk variablesOk constantOk lineAt isFalse countsOk headOn joins turns along advance run closes accepted brokenAt verdict
+unfolding refutationAnswer refutationValidity validityOf linesValidity coefficientsOk variableOk variablesOk constantOk identifierOk lineAt isFalse countsOk headOn joins turns along advance run closes accepted brokenAt verdict
     opposite entry digit stepOf stepNumbered wrongAfter
 stock-not-accepted = refl
 
@@ -393,6 +418,67 @@ pub stock-refutation-breaks : Keeps stockRefutation → ⊥
 unfolding stockRefutation
 stock-refutation-breaks k =
     let o = on-no rightYes stockNo k 3 list-4 (room 3) list-4-no in
-    let written : refutationIn (stockNo 3 list-4 (room 3)) ≡ stock 2 = ap (λ (j : ℕ). refutationIn (refuted 3 (stock j) (room 3))) kind-of-4 in
+    let written : refutationIn (stockNo 3 list-4 (room 3)) ≡ stock 2 = ap (λ (j : ℕ). refutationIn (refuted 3 list-4 (stock j) (room 3))) kind-of-4 in
     let d : Due 3 list-4 (stock 2) = subst (Due 3 list-4) (sym (refutation-in o) ∙ written) (o .due) in
     let e : check.No 3 ≡ check.Yes = sym stock-not-accepted ∙ due-accepted 3 list-4 valid-4 (stock 2) d in never (cc)
+
+-- ---- versions that lose identifiers
+-- on a no it writes a due refutation, and this of it for the identifiers
+abbrev identifying : (List ℤ → List ℕ → List ℕ) → Left
+identifying f n L = refutedWith n (dueNumbers n L) (f L (dueNumbers n L))
+
+-- the line 0 ≤ -1 of a message whose identifier has twelve bits, and its refutation
+abbrev identifiedList : List ℤ
+identifiedList = pos 0 ∷ pos 0 ∷ pos 0 ∷ pos 0 ∷ negℤ (pos 1) ∷ pos 2048 ∷ []
+
+abbrev identifiedRefutation : List ℕ
+identifiedRefutation = 3 ∷ 1 ∷ 0 ∷ 0 ∷ []
+
+identified-no : answerFor 0 identifiedList (room 0) ≡ No
+unfolding decideAnswer decideValidity roomsValidity validityOf linesValidity coefficientsOk variableOk variablesOk constantOk identifierOk lineAt isFalse verdictOf hasFalse
+identified-no = refl
+
+kind-identified : dueKind 0 (linesOf identifiedList) ≡ 3
+unfolding dueKind hasFalse lineAt isFalse
+kind-identified = refl
+
+one-due : (R : List ℕ) → Due 0 identifiedList R → R ≡ identifiedRefutation
+unfolding firstFalse lineAt isFalse
+one-due R d = d .lowest kind-identified
+
+-- the first number of the buffer, with these in front
+abbrev firstWith : List ℕ → ℕ
+firstWith I = getD (I ++ drop (length I) (room 0 .identifiers)) 0 0
+
+-- where it keeps the promise, the first is 2048
+first-identifier : (f : List ℤ → List ℕ → List ℕ) → Keeps (leaving rightYes (identifying f)) → firstWith (f identifiedList identifiedRefutation) ≡ 2048
+unfolding identifiersOf lineAt
+first-identifier f k =
+    let o = on-no rightYes (identifying f) k 0 identifiedList (room 0) identified-no in
+    let R = one-due (dueNumbers 0 identifiedList) (due-numbers 0 identifiedList (no-verdict 0 identifiedList (room 0) identified-no)) in
+    let N = one-due (o .numbers) (o .due) in
+    ap (λ (S : List ℕ). firstWith (f identifiedList S)) (sym R)
+    ∙ ap (λ (I : List ℕ). getD I 0 0) (o .identifiers)
+    ∙ ap (λ (S : List ℕ). getD (identifiersOf identifiedList S ++ drop (stepsIn S) (room 0 .identifiers)) 0 0) N
+
+-- it keeps the low eleven bits of each identifier
+abbrev elevenBits : List ℤ → List ℕ → List ℕ
+elevenBits L R = map (λ i. i % 2048) (identifiersOf L R)
+
+pub keepsElevenBits : Version
+keepsElevenBits = leaving rightYes (identifying elevenBits)
+
+pub keeps-eleven-bits-breaks : Keeps keepsElevenBits → ⊥
+unfolding keepsElevenBits identifiersOf lineAt
+keeps-eleven-bits-breaks k = let e : _≡_ {A = ℕ} 0 2048 = first-identifier elevenBits k in absurd (omega arith)
+
+-- it writes the number of each step's line for its identifier
+abbrev lineNumbersOf : List ℤ → List ℕ → List ℕ
+lineNumbersOf L R = tabulate (stepsIn R) (λ i. stepAt R i / 2)
+
+pub writesLineNumbers : Version
+writesLineNumbers = leaving rightYes (identifying lineNumbersOf)
+
+pub writes-line-numbers-breaks : Keeps writesLineNumbers → ⊥
+unfolding writesLineNumbers
+writes-line-numbers-breaks k = let e : _≡_ {A = ℕ} 0 2048 = first-identifier lineNumbersOf k in absurd (omega arith)

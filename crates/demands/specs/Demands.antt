@@ -11,18 +11,19 @@
 -- is left as it was.
 use mathlib.Core.Path.{_≡_, refl, sym, ap, subst, _∙_}
 use mathlib.Core.Logic.{_↔_, Iff·rfl, Iff·trans, Iff·and}
-use mathlib.Core.Bool.{Bool, true, false}
+use mathlib.Core.Bool.{Bool, true, false, cond}
 use mathlib.Core.List.{List, [], _∷_, _++_}
-use Prim.Native.Nat.{ℕ, _+_, _*_, _%_, _<_, _≤_}
+use Prim.Native.Nat.{ℕ, _+_, _*_, _/_, _%_, _<_, _≤_}
 use native.Mathlib.Omega.{arith}
 use lib.IntN.{ℤ, pos, negℤ, natAbs}
 use lib.ListN.{length, drop, getD, take}
 use Rattle.integers.specs.Integer.{_⩽_, _⋖_}
 use Rattle.lines.specs.declared.Refusal.{Refusal}
 use Rattle.lines.specs.declared.Validity.the-variants.{Valid}
-use Rattle.lines.specs.Limits.{lineSize, maxRefutation, maxVariables}
+use Rattle.lines.specs.Limits.{lineSize, maxRefutation, maxVariables, maxIdentifier}
 use Rattle.lines.specs.Line.{Assignment, Solves, Solvable, SameSolutions, lineNumbers, lineAt, lineCount, linesOf, assignmentOf, isFalse, number}
 use Rattle.lines.specs.Refusal.{validityOf, numberOf, placeOf}
+use Rattle.lines.specs.Bare.{OnlyIdentifiers, lines-same}
 use Rattle.lines.specs.Valid.{LineOk, valid-list, shorter-valid}
 use Rattle.little_endian.specs.Bytes.{int32s, nat32s, AreBytes}
 use mir.Syntax.{w32, w64}
@@ -44,8 +45,10 @@ use Rattle.theory_answers.specs.Semantics.{Agrees, IsModel, NoLeast, NoGreatest
 use Rattle.lines.specs.Limits.{absentLeast, absentGreatest}
 use Rattle.check_soundness.specs.BreaksAt.{BreaksAt}
 use Rattle.check_soundness.specs.Breaks.{breaks-once, breaks-unless-refutes, no-exactly-where}
+use Rattle.check_soundness.specs.Bare.{same-checked}
 use Rattle.theory_bounds.specs.Verdict.{verdictOf, dueKind}
 use Rattle.theory_bounds.specs.Answers.{modelOf, boundsOf, groupsOf}
+use Rattle.theory_bounds.specs.Bare.{same-verdict as same-verdict-bare, same-model, same-bounds, same-groups, same-kind}
 use Rattle.theory_answers.specs.Small.{AllAbove, model-small}
 use Rattle.theory_answers.specs.Refuted.{Due, due-refutation}
 use Rattle.theory_answers.specs.Meaning.{computed-written, no-tie}
@@ -58,11 +61,12 @@ use Rattle.decide_buffers.specs.Room.{Lent, modelRoom, boundsRoom, groupsRoom}
 use Rattle.decide.specs.declared.Answer.{Answer}
 use Rattle.decide.specs.declared.Answer.the-variants as decide
 use Rattle.decide.specs.Decided.{cleared, answerFor, Decided, DecideOk}
-use Rattle.decide.specs.Parts.{modelIn, boundsIn, groupsIn, refutationIn, model-in, bounds-in, groups-in, refutation-in}
+use Rattle.decide_identifiers.specs.Identifiers.{stepAt, identifiersOf, length-identifiers, identifier-whole}
+use Rattle.decide.specs.Parts.{modelIn, boundsIn, groupsIn, refutationIn, identifiersIn, model-in, bounds-in, groups-in, refutation-in, identifiers-in}
 use Rattle.demands.specs.Cases.{AllHold, cases, all-cases}
 use Rattle.demands.specs.Exists.{a-call}
 use Rattle.demands.specs.Shown.{model-accepted}
-use Rattle.demands.specs.Calls.{Call, call-valid, call-yes, call-no, verdict-yes, verdict-no, on-yes, on-no, call-written, call-work, beyond-model, beyond-bounds, beyond-groups, Returned, returned-call, returned-unchanged, call-due, call-accepted}
+use Rattle.demands.specs.Calls.{Call, call-valid, call-yes, call-no, verdict-yes, verdict-no, on-yes, on-no, call-written, call-work, beyond-model, beyond-bounds, beyond-groups, Returned, returned-call, returned-unchanged, call-due, call-accepted, call-identifiers, call-answer}
 use Rattle.demands.specs.Refusals.{Asked, deciding, checking-model, listTable, refusalTable, NoneApplies, FirstApplies, IsRefused, returned}
 use Rattle.demands.specs.Refused.{table-refuses, table-valid, table-passes, list-valid, code-refused}
 use Rattle.file_list.specs.declared.Listed.{Listed}
@@ -70,6 +74,7 @@ use Rattle.file_list.specs.declared.ReadAnswer.{ReadAnswer}
 use Rattle.file_list.specs.declared.ReadAnswer.the-variants.{Read}
 use Rattle.file_list.specs.declared.WriteAnswer.{WriteAnswer}
 use Rattle.file_list.specs.declared.WriteAnswer.the-variants as write
+use Rattle.file_records.specs.Table.{bodySize}
 use Rattle.file_list.specs.File.{fileOf, fileList, lineRecords, lineBody}
 use Rattle.file_list.specs.Read.{readAnswer, ReadDone}
 use Rattle.file_list.specs.Write.{WriteDone}
@@ -131,6 +136,11 @@ refusal-changes-nothing n L r before after d = d .leaves
 pub names-its-variables : (n : ℕ) (L : List ℤ) → ValidFor n L → (k : ℕ) → k < lineCount L → LineOk n (lineAt L k)
 names-its-variables n L v = valid-list n L v .lines
 
+-- No identifier is masked or folded either: where a line is not refused, its identifier is from 0 to the greatest of 29 bits, as the signed number that it
+-- is, and on a no and in files it comes back as that number (`identifiers-come-back`, `identifiers-read-back`).
+pub identifiers-as-they-are : (n : ℕ) (L : List ℤ) → ValidFor n L → (k : ℕ) → k < lineCount L → (pos 0 ⩽ lineAt L k .identifier) × (lineAt L k .identifier ⩽ pos maxIdentifier)
+identifiers-as-they-are n L v k h = let i = valid-list n L v .lines k h .identifier in (i .low, i .high)
+
 -- Every valid list, with buffers that have room, has a call that is not refused, whatever stood in them: the demands below are of something.
 pub calls-exist : (n : ℕ) (L : List ℤ) (before : Lent) → DecideOk n L before → (c : Call n L) × (c .before ≡ before)
 calls-exist n L before ok = a-call n L before ok
@@ -150,10 +160,11 @@ pub record RightAnswer (n : ℕ) (L : List ℤ) (c : Call n L) : Type 0 where
   pub beyond-model : drop (modelRoom n) (c .after .model) ≡ drop (modelRoom n) (c .before .model)
   pub beyond-bounds : drop (boundsRoom n) (c .after .bounds) ≡ drop (boundsRoom n) (c .before .bounds)
   pub beyond-groups : drop (groupsRoom n) (c .after .groups) ≡ drop (groupsRoom n) (c .before .groups)
-  pub no-refutation : c .answer ≡ decide.Yes → c .after .refutation ≡ c .before .refutation
-  -- On a no the refutation is written and nothing else, and only as many numbers as it has.
+  pub no-refutation : c .answer ≡ decide.Yes → (c .after .refutation ≡ c .before .refutation) × (c .after .identifiers ≡ c .before .identifiers)
+  -- On a no the refutation and the identifiers of its steps are written and nothing else, and only as many numbers as they have.
   pub no-model : c .answer ≡ decide.No → (c .after .model ≡ c .before .model) × (c .after .bounds ≡ c .before .bounds) × (c .after .groups ≡ c .before .groups)
   pub refutation-only : c .answer ≡ decide.No → c .after .refutation ≡ refutationIn (c .after) ++ drop (length (refutationIn (c .after))) (c .before .refutation)
+  pub identifiers-only : c .answer ≡ decide.No → c .after .identifiers ≡ identifiersIn (c .after) ++ drop (length (identifiersIn (c .after))) (c .before .identifiers)
   -- The named part of the work area is all zeros, and the rest is untouched.
   pub work : c .after .work ≡ cleared n (c .before .work)
 
@@ -170,9 +181,14 @@ right-answer n L c =
       beyond-model = beyond-model c;
       beyond-bounds = beyond-bounds c;
       beyond-groups = beyond-groups c;
-      no-refutation = λ e. on-yes c e .refutation;
+      no-refutation = λ e. let w = on-yes c e in (w .refutation, w .identifiers);
       no-model = λ e. let w = on-no c e in (w .model, w .bounds, w .groups);
       refutation-only = λ e. let w = on-no c e in w .refutation ∙ ap (λ (R : List ℕ). R ++ drop (length R) (c .before .refutation)) (sym (refutation-in w));
+      identifiers-only = λ e.
+          let w = on-no c e in
+          w .identifiers
+          ∙ ap (λ (k : ℕ). identifiersOf L (w .numbers) ++ drop k (c .before .identifiers)) (sym (length-identifiers L (w .numbers)))
+          ∙ ap (λ (I : List ℕ). I ++ drop (length I) (c .before .identifiers)) (sym (identifiers-in w));
       work = call-work c;
     }
 
@@ -322,7 +338,7 @@ starred-cases = all-cases
 
 -- ---- the refutation checker
 
--- Refusals 1 to 6, then 11; the checker says yes exactly for the three kinds.
+-- The list's refusals, then 11; the checker says yes exactly for the three kinds.
 pub yes-exactly-for-the-three-kinds : (n : ℕ) (L : List ℤ) (R : List ℕ) → Accepted n L R ↔ (ValidFor n L × (length R ≤ maxRefutation) × Refutes L R)
 yes-exactly-for-the-three-kinds n L R = accepted-when n L R
 
@@ -356,6 +372,43 @@ stopped-and-resumed n L A B = resumed n L A B
 -- So it does when stopped and resumed any number of times.
 pub resumed-after-each-piece : (n : ℕ) (L : List ℤ) (pieces : List (List ℕ)) → Words (joined pieces) → endAnswer n L (takePieces L start pieces) ≡ refutationAnswer n L (joined pieces)
 resumed-after-each-piece n L pieces = in-pieces n L pieces
+
+-- ---- identifiers
+
+-- I has an identifier for each step of the refutation R, in walk order: that of the step's line, whole.
+pub record EachIdentifier (L : List ℤ) (R I : List ℕ) : Type 0 where
+  pub count : length I ≡ stepsIn R
+  pub each : (i : ℕ) → i < stepsIn R → pos (getD I i 0) ≡ lineAt L (stepAt R i / 2) .identifier
+
+-- Nothing falls out: so it is of every no.
+pub identifiers-come-back : (n : ℕ) (L : List ℤ) (c : Call n L) → c .answer ≡ decide.No → EachIdentifier L (refutationIn (c .after)) (identifiersIn (c .after))
+identifiers-come-back n L c e =
+    let R = refutationIn (c .after) in
+    rw (call-identifiers c e)
+    (record { count = length-identifiers L R; each = identifier-whole n L R (valid-list n L (call-valid c) .lines) (call-due c e .refutes) })
+
+-- Two calls, on lists that differ only in identifiers: the same answer, on a yes the same model, bounds and groups, on a no the same kind; and the checker
+-- gives every refutation the same answer against both.
+pub record NothingElseChanges (n : ℕ) (L M : List ℤ) (c : Call n L) (d : Call n M) : Type 0 where
+  pub same-answer : c .answer ≡ d .answer
+  pub same-model : c .answer ≡ decide.Yes → modelIn n (c .after) ≡ modelIn n (d .after)
+  pub same-bounds : c .answer ≡ decide.Yes → boundsIn n (c .after) ≡ boundsIn n (d .after)
+  pub same-groups : c .answer ≡ decide.Yes → groupsIn n (c .after) ≡ groupsIn n (d .after)
+  pub same-kind : c .answer ≡ decide.No → kindOf (refutationIn (c .after)) ≡ kindOf (refutationIn (d .after))
+  pub checked-alike : (R : List ℕ) → refutationAnswer n L R ≡ refutationAnswer n M R
+
+pub identifiers-change-nothing : (n : ℕ) (L M : List ℤ) → OnlyIdentifiers L M → (c : Call n L) (d : Call n M) → NothingElseChanges n L M c d
+identifiers-change-nothing n L M o c d =
+    let s = lines-same L M o in
+    let same = call-answer c ∙ ap (λ (t : Bool). cond t decide.Yes decide.No) (same-verdict-bare n (linesOf L) (linesOf M) s) ∙ sym (call-answer d) in
+    record {
+      same-answer = same;
+      same-model = λ e. model-in (on-yes c e) ∙ same-model n (linesOf L) (linesOf M) s ∙ sym (model-in (on-yes d (sym same ∙ e)));
+      same-bounds = λ e. bounds-in (on-yes c e) ∙ same-bounds n (linesOf L) (linesOf M) s ∙ sym (bounds-in (on-yes d (sym same ∙ e)));
+      same-groups = λ e. groups-in (on-yes c e) ∙ same-groups n (linesOf L) (linesOf M) s ∙ sym (groups-in (on-yes d (sym same ∙ e)));
+      same-kind = λ e. call-due c e .kind ∙ same-kind n (linesOf L) (linesOf M) s ∙ sym (call-due d (sym same ∙ e) .kind);
+      checked-alike = same-checked L M o n (call-valid c) (call-valid d);
+    }
 
 -- ---- the model checker
 
@@ -483,6 +536,13 @@ refused-or-one-file most b room h = one-file most b room h
 pub one-list-of-a-file : (n m : ℕ) (L M : List ℤ) → ValidFor n L → ValidFor m M → fileOf n L ≡ fileOf m M → (n ≡ m) × (L ≡ M)
 one-list-of-a-file n m L M v w e = one-list n m L M v w e
 
+-- So every identifier is read back, all its bits, and lists that differ in one have different files.
+pub identifiers-read-back : (n : ℕ) (L : List ℤ) → ValidFor n L → (k : ℕ) → lineAt (fileList (fileOf n L) (lineCount L)) k .identifier ≡ lineAt L k .identifier
+identifiers-read-back n L v k = ap (λ (M : List ℤ). lineAt M k .identifier) (list-in-file n L v)
+
+pub other-identifier-other-file : (n : ℕ) (L M : List ℤ) → ValidFor n L → ValidFor n M → (k : ℕ) → (lineAt L k .identifier ≡ lineAt M k .identifier → ⊥) → fileOf n L ≡ fileOf n M → ⊥
+other-identifier-other-file n L M v w k h e = h (ap (λ (N : List ℤ). lineAt N k .identifier) (one-list n n L M v w e .1))
+
 -- What a call of the writer wrote, a call of the reader reads back into any buffer with room: n and the list, and what lies beyond it is untouched.
 pub written-then-read : (n : ℕ) (L : List ℤ) (k : ℕ) (b a : List ℕ) (answer : ReadAnswer) (before after : List ℤ)
     → WriteDone n L (write.Written k) b a → ReadDone maxVariables (take k a) answer before after → length L ≤ length before
@@ -511,12 +571,20 @@ pub a-file-is-bytes : (n : ℕ) (L : List ℤ) → AreBytes (fileOf n L)
 a-file-is-bytes n L = file-bytes n L
 
 -- One variable with x ≤ 5 is, whole, these 36 bytes.
-pub the-file-of-x-at-most-5 : fileOf 1 (pos 1 ∷ pos 0 ∷ pos 0 ∷ pos 0 ∷ pos 5 ∷ [])
+pub the-file-of-x-at-most-5 : fileOf 1 (pos 1 ∷ pos 0 ∷ pos 0 ∷ pos 0 ∷ pos 5 ∷ pos 0 ∷ [])
     ≡ 4 ∷ 0 ∷ 1 ∷ 0 ∷ 1 ∷ 0 ∷ 0 ∷ 0
     ∷ 20 ∷ 0 ∷ 2 ∷ 0 ∷ 1 ∷ 0 ∷ 0 ∷ 0 ∷ 0 ∷ 0 ∷ 0 ∷ 0 ∷ 0 ∷ 0 ∷ 0 ∷ 0 ∷ 0 ∷ 0 ∷ 0 ∷ 0 ∷ 5 ∷ 0 ∷ 0 ∷ 0
     ∷ 0 ∷ 0 ∷ 3 ∷ 0 ∷ []
-unfolding fileOf lineRecords lineBody lineNumbers bytesOf lineAt
+unfolding fileOf lineRecords lineBody lineNumbers bytesOf lineAt bodySize
 the-file-of-x-at-most-5 = refl
+
+-- And of a message with identifier 0x18DA10F1 these 40.
+pub the-file-with-an-identifier : fileOf 1 (pos 1 ∷ pos 0 ∷ pos 0 ∷ pos 0 ∷ pos 5 ∷ pos 416_944_369 ∷ [])
+    ≡ 4 ∷ 0 ∷ 1 ∷ 0 ∷ 1 ∷ 0 ∷ 0 ∷ 0
+    ∷ 24 ∷ 0 ∷ 4 ∷ 0 ∷ 1 ∷ 0 ∷ 0 ∷ 0 ∷ 0 ∷ 0 ∷ 0 ∷ 0 ∷ 0 ∷ 0 ∷ 0 ∷ 0 ∷ 0 ∷ 0 ∷ 0 ∷ 0 ∷ 5 ∷ 0 ∷ 0 ∷ 0 ∷ 241 ∷ 16 ∷ 218 ∷ 24
+    ∷ 0 ∷ 0 ∷ 3 ∷ 0 ∷ []
+unfolding fileOf lineRecords lineBody lineNumbers bytesOf lineAt bodySize
+the-file-with-an-identifier = refl
 
 -- ---- the program
 

@@ -10,8 +10,8 @@ use lib.ListN.{length}
 use Rattle.integers.specs.Integer.{_⩽_, _⋖_}
 use Rattle.lines.specs.declared.Line.{Line}
 use Rattle.lines.specs.declared.Refusal.{Refusal}
-use Rattle.lines.specs.declared.Refusal.the-variants.{TooManyVariables, BrokenLength, TooManyLines, BadCoefficient, BadVariable, BadConstant, WrongModelLength, BadValue, LongRefutation}
-use Rattle.lines.specs.Limits.{lineSize, maxVariables, maxLines, maxConstant, maxValue, maxRefutation}
+use Rattle.lines.specs.declared.Refusal.the-variants.{TooManyVariables, BrokenLength, TooManyLines, BadCoefficient, BadVariable, BadConstant, BadIdentifier, WrongModelLength, BadValue, LongRefutation}
+use Rattle.lines.specs.Limits.{lineSize, maxVariables, maxLines, maxConstant, maxIdentifier, maxValue, maxRefutation}
 use Rattle.lines.specs.Line.{number, lineAt, lineCount}
 use Rattle.little_endian.specs.Bytes.{int32s, int64s}
 use Rattle.check_answers.specs.declared.CheckAnswer.the-variants as check
@@ -45,6 +45,10 @@ WrongVariable n a x = ((a ≡ pos 0 → ⊥) × ((x ⋖ pos 0) ⊎ (pos n ⩽ x)
 abbrev pub Outside : ℕ → ℤ → Type 0
 Outside m z = (z ⋖ negℤ (pos m)) ⊎ (pos m ⋖ z)
 
+-- below 0 or above the greatest identifier
+abbrev pub WrongIdentifier : ℤ → Type 0
+WrongIdentifier i = (i ⋖ pos 0) ⊎ (pos maxIdentifier ⋖ i)
+
 -- ---- the table
 pub record Row : Type 1 where
   pub refusal : Refusal
@@ -59,12 +63,13 @@ abbrev pub rowsFrom : ℕ → ℕ → (ℕ → List Row) → List Row
 rowsFrom k zero rows = []
 rowsFrom k (suc count) rows = rows k ++ rowsFrom (k + 1) count rows
 
--- within a line 4, 5, 6
+-- within a line 4, 5, 6, 13
 abbrev pub lineTable : ℕ → ℕ → Line → List Row
 lineTable n k l =
     BadCoefficient k when ((IsCoefficient (l .a) → ⊥) ⊎ (IsCoefficient (l .b) → ⊥))
     ∷ BadVariable k when (WrongVariable n (l .a) (l .x) ⊎ WrongVariable n (l .b) (l .y))
     ∷ BadConstant k when Outside maxConstant (l .d)
+    ∷ BadIdentifier k when WrongIdentifier (l .identifier)
     ∷ []
 
 -- 3; then lines from the first

@@ -21,9 +21,9 @@ use Rattle.lines.specs.declared.Refusal.{Refusal}
 use Rattle.lines.specs.declared.Refusal.the-variants.{TooManyVariables, BrokenLength, WrongModelLength, BadValue, LongRefutation}
 use Rattle.lines.specs.declared.Validity.{Validity}
 use Rattle.lines.specs.declared.Validity.the-variants.{Valid, Refused}
-use Rattle.lines.specs.Limits.{lineSize, maxVariables, maxLines, maxConstant, maxValue, maxRefutation}
+use Rattle.lines.specs.Limits.{lineSize, maxVariables, maxLines, maxConstant, maxIdentifier, maxValue, maxRefutation}
 use Rattle.lines.specs.Line.{number, lineAt, lineCount, linesOf}
-use Rattle.lines.specs.Refusal.{placeOf, _orElse_, refuseIf, coefficientsOk, variableOk, variablesOk, constantOk, Rule, lineRules, firstBroken, lineValidity, linesValidity, validityOf}
+use Rattle.lines.specs.Refusal.{placeOf, _orElse_, refuseIf, coefficientsOk, variableOk, variablesOk, constantOk, identifierOk, Rule, lineRules, firstBroken, lineValidity, linesValidity, validityOf}
 use Rattle.lines.specs.Laws.{validity-from, validity-past}
 use Rattle.check_answers.specs.declared.CheckAnswer.{CheckAnswer}
 use Rattle.check_answers.specs.declared.CheckAnswer.the-variants as check
@@ -49,7 +49,7 @@ use Rattle.c_checking.specs.Calls.{valueBytes, modelOfValues, refutationOfNumbe
 use Rattle.c_checking.specs.Laws.{model-bytes-below, refutation-bytes-below}
 use Rattle.c_deciding.specs.Calls.{decideCode}
 use Rattle.c_deciding.specs.Laws.{decision-below, decisions-apart}
-use Rattle.demands.specs.Refusals.{Asked, deciding, checking-model, checking-refutation, checking-model-bytes, checking-refutation-bytes, IsCoefficient, WrongVariable, Outside, Row, _when_, rowsFrom, lineTable, linesTable, listTable, bytesTable, valuesTable, roomsTable, refusalTable, NoneApplies, FirstApplies, IsRefused, returned}
+use Rattle.demands.specs.Refusals.{Asked, deciding, checking-model, checking-refutation, checking-model-bytes, checking-refutation-bytes, IsCoefficient, WrongVariable, WrongIdentifier, Outside, Row, _when_, rowsFrom, lineTable, linesTable, listTable, bytesTable, valuesTable, roomsTable, refusalTable, NoneApplies, FirstApplies, IsRefused, returned}
 
 -- ---- a validity, read along the rows
 data Gives : List Row → Validity → Type 1 where
@@ -193,6 +193,10 @@ constant-test : (l : Line) → Tells (not (constantOk l)) (Outside maxConstant (
 unfolding constantOk
 constant-test l = outside-test maxConstant (l .d)
 
+identifier-test : (l : Line) → Tells (not (identifierOk l)) (WrongIdentifier (l .identifier))
+unfolding identifierOk
+identifier-test l = either-test (leZ (pos 0) (l .identifier)) (leZ (l .identifier) (pos maxIdentifier)) (above-test (pos 0) (l .identifier)) (above-test (l .identifier) (pos maxIdentifier))
+
 -- each rule in turn has its row: the rule's refusal of line number k, and a condition that its test tells
 Rows : ℕ → ℕ → Line → List Rule → List Row → Type 0
 Rows n k l [] [] = Unit {0}
@@ -210,7 +214,7 @@ rows-give n k l (r ∷ rs) (row ∷ rows) h = rw (h .0) (gives-row (h .1) (rows-
 -- ---- the rows of a line, of a list, and of what is asked
 line-gives : (n k : ℕ) (l : Line) → Gives (lineTable n k l) (lineValidity n k l)
 unfolding Rows
-line-gives n k l = rows-give n k l lineRules (lineTable n k l) (search (coefficients-test l, variables-test n l, constant-test l))
+line-gives n k l = rows-give n k l lineRules (lineTable n k l) (search (coefficients-test l, variables-test n l, constant-test l, identifier-test l))
 
 list-gives : (n : ℕ) (L : List ℤ) → Gives (listTable n L) (validityOf n L)
 unfolding validityOf

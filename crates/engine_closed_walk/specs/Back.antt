@@ -15,7 +15,7 @@ use Rattle.lines.specs.Valid.{LinesOk}
 use Rattle.steps.specs.declared.Step.{Step}
 use Rattle.steps.specs.declared.NamedStep.the-variants.{Found}
 use Rattle.steps.specs.Step.{stepNumbered}
-use Rattle.decide_walkback.specs.Makes.{number-below}
+use Rattle.steps.specs.Laws.{number-below}
 
 -- a mark that is a step
 pub not-below : (z : ℤ) → ltZ z (pos 0) ≡ false → pos 0 ⩽ z

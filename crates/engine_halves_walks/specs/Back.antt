@@ -18,7 +18,8 @@ use Rattle.steps.specs.Step.{maxWeight, stepNumbered}
 use Rattle.steps.specs.Walk.{total}
 use Rattle.theory_walks.specs.Size.{within-more, within-sum}
 use Rattle.decide_rows.specs.Numbers.{StepOk, numbered-ok}
-use Rattle.decide_walkback.specs.Makes.{maxEntry, number-below}
+use Rattle.decide_walkback.specs.Makes.{maxEntry}
+use Rattle.steps.specs.Laws.{number-below}
 use Rattle.engine_packed_steps.specs.Scratch.{Scratch, scratch-none, scratch-set, scratch-trans}
 use Rattle.engine_packed_steps.specs.Layout.{rowAt, placesAt}
 use Rattle.engine_halves_walks.specs.declared.Followed.{Followed}

@@ -1,28 +1,36 @@
 -- Numbers as bytes and back, and what stands at each place of a list's file.
+--
+-- The place of a line goes by the kinds before it. From its place on a file holds the line's record, so that the kind read there is the line's,
+-- and behind that record, as long as the table says, lies the next line's place.
 use mathlib.Core.Path.{_≡_, refl, sym, ap, subst, _∙_}
+use mathlib.Core.Bool.{false}
 use mathlib.Core.List.{List, [], _∷_, _++_, append-assoc}
 use Prim.Native.Nat.{ℕ, zero, suc, _+_, _*_, _/_, _%_, _^_, _<_, _≤_}
 use native.Mathlib.Nat.{add-zero, add-assoc, div-div-eq-div-mul, mod-eq-of-lt}
-use native.Mathlib.Numerals.{towards-suc}
+use native.Mathlib.Numerals.{add-one, towards-suc}
 use native.Mathlib.Omega.{arith}
-use lib.IntN.{ℤ}
-use lib.ListN.{length, getD, drop, replicate, length-append}
-use lib.Seq.{getD-drop, drop-cons, drop-drop, drop-append-add}
+use lib.IntN.{ℤ, pos}
+use lib.ListN.{length, getD, drop, length-append, length-drop}
+use lib.Seq.{getD-take, getD-drop, drop-cons, drop-drop, drop-at}
 use mir.Syntax.{w32}
 use mir.Val.{SFits, toZ}
 use mir.Facts.{ofZ-toZ}
-use Rattle.integers.specs.Sequence.{length-tabulate}
+use Rattle.integers.specs.Integer.{eqZ}
+use Rattle.integers.specs.Sequence.{tabulate, tabulate-cong, tabulate-getD}
 use Rattle.lines.specs.declared.Line.{Line}
-use Rattle.lines.specs.Limits.{lineSize}
-use Rattle.lines.specs.Line.{number, lineNumbers, lineAt, lineCount, linesOf}
+use Rattle.lines.specs.Limits.{lineSize, bareSize}
+use Rattle.lines.specs.Line.{number, lineNumbers, lineOf, lineAt, lineCount, linesOf}
 use Rattle.lines.specs.LineNumbers.{length-numbers, number-at}
 use Rattle.lines.specs.Laws.{lines-from, lines-past}
 use Rattle.little_endian.specs.Bytes.{AreBytes, le32, int32}
 use Rattle.little_endian.specs.Writing.{bytes16, bytes32, signedBytes, int32Bytes}
-use Rattle.little_endian.specs.Back.{le32-bytes, le32-at, length-bytesOf, int32-back, Small, small-none, small-append, small16, small32, int32Bytes-small}
-use Rattle.file_records.specs.Table.{headerSize, variablesKind, lineKind, endKind, recordSize, totalSize, recordPlace, le16}
-use Rattle.file_records.specs.Places.{variables-record, line-record}
-use Rattle.file_list.specs.File.{recordOf, lineBody, lineRecords, fileOf, variablesRecord, fileSize, numberPlace}
+use Rattle.little_endian.specs.Back.{le32-bytes, le32-at, int32-back, Small, small-none, small-append, small16, small32, int32Bytes-small}
+use Rattle.file_records.specs.Table.{headerSize, variablesKind, endKind, bodySize, sizeOf, recordSize, le16, kindAt, recordPlace}
+use Rattle.file_records.specs.Places.{longest, variables-record, end-record, place-first, place-suc}
+use Rattle.file_records.specs.Scan.{noIdentifier}
+use Rattle.file_records.specs.Record.{Whole, LineAt}
+use Rattle.file_list.specs.File.{numbersIn, recordOf, kindOf, lineBody, lineRecord, lineRecords, fileOf, fileSize, lineIn}
+use Rattle.file_list.specs.LineRecord.{Kind, unwritten, written, kind-of, line-kind-of, kind-small, numbers-few, numbers-identified, written-numbers, length-written, length-body, length-record, length-records, line-back}
 
 -- ---- at a place, by what stands there
 module _ (b c : List ℕ) (p : ℕ) (e : drop p b ≡ c) where
@@ -75,127 +83,135 @@ small-record kind {body} h = small-append (small16 (length body)) (small-append 
 
 small-body : (l : Line) → Small (lineBody l)
 unfolding lineBody
-small-body l = record { small = int32Bytes-small (lineNumbers l) }
+small-body l = record { small = int32Bytes-small (written-numbers l) }
 
 small-lines : (ls : List Line) → Small (lineRecords ls)
 unfolding lineRecords
 small-lines [] = small-none
-small-lines (l ∷ ls) = small-append (small-record lineKind (small-body l)) (small-lines ls)
+small-lines (l ∷ ls) = small-append (small-record (kindOf l) (small-body l)) (small-lines ls)
 
 pub file-bytes : (n : ℕ) (L : List ℤ) → AreBytes (fileOf n L)
 unfolding fileOf
 file-bytes n L = small-append (small-record variablesKind (small32 n)) (small-append (small-lines (linesOf L)) (small-record endKind small-none)) .small
 
+-- ---- a record that stands at p
+-- two bytes say what was written
+two-bytes : (v : ℕ) → v < 65536 → v % 256 + v / 256 % 256 * 256 ≡ v
+two-bytes v h = omega arith
+
+module _ (b : List ℕ) (p : ℕ) (l : Line) (r : List ℕ) (e : drop p b ≡ lineRecord l ++ r) where
+  kind-there : kindAt b p ≡ kindOf l
+  kind-there = le16-at b _ p e 2 ∙ two-bytes (kindOf l) (kind-small l)
+
+  whole-there : Whole b p (kindOf l)
+  whole-there =
+      record {
+        named = kind-there;
+        sized = le16-first b _ p e ∙ ap (λ (m : ℕ). m % 256 + m / 256 % 256 * 256) (length-body l) ∙ two-bytes (sizeOf (bodySize (kindOf l))) (omega (arith, longest (kindOf l)));
+        whole = omega (arith, length-drop p b, ap length e, length-append (lineRecord l) r, length-record l, longest (kindOf l));
+      }
+
+  behind-there : drop (p + recordSize (kindAt b p)) b ≡ r
+  behind-there =
+      ap (λ (k : ℕ). drop (p + recordSize k) b) kind-there
+      ∙ sym (drop-drop (recordSize (kindOf l)) p b)
+      ∙ ap (drop (recordSize (kindOf l))) e
+      ∙ drop-at (lineRecord l) r (recordSize (kindOf l)) (length-record l)
+
+  -- where its numbers fit
+  module _ (f : (j : ℕ) → j < lineSize → SFits w32 (number (lineNumbers l) j)) where
+    number-there : (j : ℕ) → j < numbersIn (kindOf l) → int32 b (p + headerSize + 4 * j) ≡ number (lineNumbers l) j
+    unfolding lineBody
+    number-there j h =
+        let same : number (written-numbers l) j ≡ number (lineNumbers l) j = getD-take (numbersIn (kindOf l)) (lineNumbers l) j (pos 0) h in
+        let body : drop (p + headerSize) b ≡ int32Bytes (written-numbers l) ++ r = sym (drop-drop headerSize p b) ∙ ap (drop headerSize) e in
+        ap (toZ w32) (le32-at b _ (p + headerSize) body (4 * j))
+        ∙ int32-back (written-numbers l) r j (omega (arith, length-written l)) (subst (SFits w32) (sym same) (f j (omega (arith, numbers-few (kindOf l)))))
+        ∙ same
+
+    line-there : lineIn b p ≡ l
+    unfolding lineIn
+    line-there =
+        let m = numbersIn (kindOf l) in
+        ap (λ (k : ℕ). lineOf (tabulate (numbersIn k) (λ j. int32 b (p + headerSize + 4 * j)))) kind-there
+        ∙ ap lineOf (tabulate-cong m _ _ number-there ∙ tabulate-getD m (lineNumbers l) (pos 0) (omega (arith, numbers-few (kindOf l), length-numbers l)))
+        ∙ line-back l
+
+    identified-there : noIdentifier b p (kindOf l) ≡ false
+    unfolding lineNumbers
+    identified-there = go (kindOf l) (kind-of l) refl
+      where
+        go : (k : ℕ) → Kind l k → kindOf l ≡ k → noIdentifier b p k ≡ false
+        go _ (unwritten z) q = refl
+        go _ (written z) q = ap (λ (y : ℤ). eqZ y (pos 0)) (number-there bareSize (omega (arith, ap numbersIn q, numbers-identified))) ∙ z
+
+    line-at : LineAt b p
+    line-at = record { kind = kindOf l; is-line = line-kind-of l; whole = whole-there; identified = identified-there }
+
 -- ---- the places in a file
-pub number-place : (k j : ℕ) → j < lineSize → numberPlace (lineSize * k + j) ≡ recordPlace k + headerSize + 4 * j
-number-place k j h =
-    let e : (lineSize * k + j) / lineSize ≡ k = omega arith in
-    let f : (lineSize * k + j) % lineSize ≡ j = omega arith in
-    rw (e, f)
-
--- a line's record is as long as the table says
-pub length-body : (l : Line) → length (lineBody l) ≡ 4 * lineSize
-unfolding lineBody
-length-body l = length-bytesOf 4 signedBytes (λ z. refl) (lineNumbers l) ∙ ap (λ (m : ℕ). 4 * m) (length-numbers l)
-
-length-record : (l : Line) → length (recordOf lineKind (lineBody l)) ≡ recordSize lineKind
-length-record l = omega (arith, length-body l, line-record)
-
--- so the records of lines are as long as those of their kinds, and the next one begins behind them
-length-records : (ls : List Line) → length (lineRecords ls) ≡ totalSize (replicate (length ls) lineKind)
-unfolding lineRecords
-length-records [] = refl
-length-records (l ∷ ls) = length-append (recordOf lineKind (lineBody l)) (lineRecords ls) ∙ omega (arith, length-record l, length-records ls)
-
-pub records-end : (ls : List Line) (k : ℕ) → length ls ≡ k → variablesRecord + length (lineRecords ls) ≡ recordPlace k
-unfolding recordPlace
-records-end ls k e =
-    let place : variablesRecord + length (lineRecords ls) ≡ recordPlace (length ls) = omega (arith, variables-record, length-records ls) in
-    place ∙ ap recordPlace e
-
-pub lines-end : (L : List ℤ) → variablesRecord + length (lineRecords (linesOf L)) ≡ recordPlace (lineCount L)
-lines-end L = records-end (linesOf L) (lineCount L) (length-tabulate (lineCount L) (lineAt L))
-
-pub length-file : (n : ℕ) (L : List ℤ) → length (fileOf n L) ≡ fileSize (lineCount L)
-unfolding fileOf
-length-file n L =
-    length-append (recordOf variablesKind (bytes32 n)) (lineRecords (linesOf L) ++ recordOf endKind [])
-    ∙ omega (arith, length-append (lineRecords (linesOf L)) (recordOf endKind []), lines-end L)
-
-drop-records : (ls : List Line) (k : ℕ) (r : List ℕ) → k ≤ length ls → drop (totalSize (replicate k lineKind)) (lineRecords ls ++ r) ≡ lineRecords (drop k ls) ++ r
-unfolding lineRecords
-drop-records ls zero r h = refl
-drop-records [] (suc k) r h = absurd (omega arith)
-drop-records (l ∷ ls) (suc k) r h =
-    let first = recordOf lineKind (lineBody l) in
-    let rest = totalSize (replicate k lineKind) in
-    ap (drop (recordSize lineKind + rest)) (append-assoc first (lineRecords ls) r)
-    ∙ ap (λ (i : ℕ). drop (i + rest) (first ++ (lineRecords ls ++ r))) (sym (length-record l))
-    ∙ drop-append-add first (lineRecords ls ++ r) rest
-    ∙ drop-records ls k r (omega arith)
-
 module _ (n : ℕ) (L : List ℤ) where
-  -- what a file holds from the record of line k on, and from the end's
-  pub drop-file : (k : ℕ) → k ≤ lineCount L → drop (recordPlace k) (fileOf n L) ≡ lineRecords (drop k (linesOf L)) ++ recordOf endKind []
-  unfolding fileOf recordPlace
-  drop-file k h =
-      let rest = totalSize (replicate k lineKind) in
-      ap (λ (i : ℕ). drop (i + rest) (fileOf n L)) variables-record
-      ∙ drop-append-add (recordOf variablesKind (bytes32 n)) (lineRecords (linesOf L) ++ recordOf endKind []) rest
-      ∙ drop-records (linesOf L) k (recordOf endKind []) (omega (arith, length-tabulate (lineCount L) (lineAt L)))
+  -- the records from line k on
+  abbrev from : ℕ → List ℕ
+  from k = lineRecords (drop k (linesOf L)) ++ recordOf endKind []
 
-  pub line-of-file : (k : ℕ) → k < lineCount L
-      → drop (recordPlace k) (fileOf n L) ≡ recordOf lineKind (lineBody (lineAt L k)) ++ (lineRecords (drop (k + 1) (linesOf L)) ++ recordOf endKind [])
+  from-line : (k : ℕ) → k < lineCount L → from k ≡ lineRecord (lineAt L k) ++ from (k + 1)
   unfolding lineRecords
-  line-of-file k h =
-      drop-file k (omega arith)
-      ∙ ap (λ (ls : List Line). lineRecords ls ++ recordOf endKind []) (lines-from L k h)
-      ∙ append-assoc (recordOf lineKind (lineBody (lineAt L k))) (lineRecords (drop (k + 1) (linesOf L))) (recordOf endKind [])
+  from-line k h =
+      ap (λ (ls : List Line). lineRecords ls ++ recordOf endKind []) (lines-from L k h)
+      ∙ append-assoc (lineRecord (lineAt L k)) (lineRecords (drop (k + 1) (linesOf L))) (recordOf endKind [])
 
-  pub end-of-file : drop (recordPlace (lineCount L)) (fileOf n L) ≡ recordOf endKind []
+  from-first : drop (headerSize + 4) (fileOf n L) ≡ from 0
+  unfolding fileOf
+  from-first = refl
+
+  drop-file : (k : ℕ) → k ≤ lineCount L → drop (recordPlace (fileOf n L) k) (fileOf n L) ≡ from k
+  drop-file zero h = ap (λ (i : ℕ). drop i (fileOf n L)) (place-first (fileOf n L)) ∙ from-first
+  drop-file (suc k) h =
+      ap (λ (i : ℕ). drop i (fileOf n L)) (place-suc (fileOf n L) k)
+      ∙ behind-there (fileOf n L) (recordPlace (fileOf n L) k) (lineAt L k) (from (k + 1)) (drop-file k (omega arith) ∙ from-line k (omega arith))
+      ∙ ap from (add-one k)
+
+  line-of-file : (k : ℕ) → k < lineCount L → drop (recordPlace (fileOf n L) k) (fileOf n L) ≡ lineRecord (lineAt L k) ++ from (k + 1)
+  line-of-file k h = drop-file k (omega arith) ∙ from-line k h
+
+  end-of-file : drop (recordPlace (fileOf n L) (lineCount L)) (fileOf n L) ≡ recordOf endKind []
   unfolding lineRecords
   end-of-file = drop-file (lineCount L) (omega arith) ∙ ap (λ (ls : List Line). lineRecords ls ++ recordOf endKind []) (lines-past L (lineCount L) (omega arith))
 
-  -- the headers: each the length of the body and the kind
-  pub variables-size : le16 (fileOf n L) 0 ≡ 4
+  pub length-file : length (fileOf n L) ≡ fileSize L
   unfolding fileOf
-  variables-size = refl
+  length-file =
+      length-append (recordOf variablesKind (bytes32 n)) (from 0)
+      ∙ omega (arith, length-append (lineRecords (linesOf L)) (recordOf endKind []), length-records (linesOf L), variables-record, end-record)
 
-  pub variables-kind : le16 (fileOf n L) 2 ≡ variablesKind
-  unfolding fileOf
-  variables-kind = refl
+  pub end-place : recordPlace (fileOf n L) (lineCount L) + recordSize endKind ≡ length (fileOf n L)
+  end-place = omega (arith, length-drop (recordPlace (fileOf n L) (lineCount L)) (fileOf n L), ap length end-of-file, end-record)
 
-  pub line-size : (k : ℕ) → k < lineCount L → le16 (fileOf n L) (recordPlace k) ≡ 4 * lineSize
-  line-size k h = le16-first (fileOf n L) _ (recordPlace k) (line-of-file k h) ∙ ap (λ (m : ℕ). m % 256 + m / 256 % 256 * 256) (length-body (lineAt L k))
+  -- the record of n, and that of the end
+  pub first-whole : Whole (fileOf n L) 0 variablesKind
+  unfolding fileOf bodySize
+  first-whole = record { named = refl; sized = refl; whole = omega (arith, length-file, variables-record) }
 
-  pub line-kind : (k : ℕ) → k < lineCount L → le16 (fileOf n L) (recordPlace k + 2) ≡ lineKind
-  line-kind k h = le16-at (fileOf n L) _ (recordPlace k) (line-of-file k h) 2
+  pub end-whole : Whole (fileOf n L) (recordPlace (fileOf n L) (lineCount L)) endKind
+  unfolding bodySize
+  end-whole =
+      record {
+        named = le16-at (fileOf n L) _ (recordPlace (fileOf n L) (lineCount L)) end-of-file 2;
+        sized = le16-first (fileOf n L) _ (recordPlace (fileOf n L) (lineCount L)) end-of-file;
+        whole = omega (arith, end-place);
+      }
 
-  pub end-size : le16 (fileOf n L) (recordPlace (lineCount L)) ≡ 0
-  end-size = le16-first (fileOf n L) _ (recordPlace (lineCount L)) end-of-file
-
-  pub end-kind : le16 (fileOf n L) (recordPlace (lineCount L) + 2) ≡ endKind
-  end-kind = le16-at (fileOf n L) _ (recordPlace (lineCount L)) end-of-file 2
-
-  -- the bodies: n, and the numbers of the lines
   pub n-in-file : n < 2 ^ 32 → le32 (fileOf n L) headerSize ≡ n
   unfolding fileOf
   n-in-file h = le32-bytes n [] h
 
-  pub number-in-line : (k j : ℕ) → k < lineCount L → j < lineSize → SFits w32 (number L (lineSize * k + j))
-      → int32 (fileOf n L) (recordPlace k + headerSize + 4 * j) ≡ number L (lineSize * k + j)
-  unfolding lineBody
-  number-in-line k j h l f =
-      let body = lineNumbers (lineAt L k) in
-      let rest = lineRecords (drop (k + 1) (linesOf L)) ++ recordOf endKind [] in
-      let there : drop (recordPlace k + headerSize) (fileOf n L) ≡ int32Bytes body ++ rest =
-      sym (drop-drop headerSize (recordPlace k) (fileOf n L)) ∙ ap (drop headerSize) (line-of-file k h) in
-      let e = number-at L k h j l in
-      ap (toZ w32) (le32-at (fileOf n L) _ (recordPlace k + headerSize) there (4 * j))
-      ∙ int32-back body rest j (omega (arith, length-numbers (lineAt L k))) (subst (SFits w32) (sym e) f)
-      ∙ e
+  -- the lines, where their numbers fit
+  module _ (f : (i : ℕ) → SFits w32 (number L i)) (k : ℕ) (h : k < lineCount L) where
+    line-fits : (j : ℕ) → j < lineSize → SFits w32 (number (lineNumbers (lineAt L k)) j)
+    line-fits j l = subst (SFits w32) (sym (number-at L k h j l)) (f (lineSize * k + j))
 
-  pub number-in-file : (i : ℕ) → i < lineSize * lineCount L → SFits w32 (number L i) → int32 (fileOf n L) (numberPlace i) ≡ number L i
-  number-in-file i h f =
-      let e : lineSize * (i / lineSize) + i % lineSize ≡ i = omega arith in
-      rw e at (number-in-line (i / lineSize) (i % lineSize) (omega arith) (omega arith) (rw e f))
+    pub line-at-place : LineAt (fileOf n L) (recordPlace (fileOf n L) k)
+    line-at-place = line-at (fileOf n L) (recordPlace (fileOf n L) k) (lineAt L k) _ (line-of-file k h) line-fits
+
+    pub line-in-file : lineIn (fileOf n L) (recordPlace (fileOf n L) k) ≡ lineAt L k
+    line-in-file = line-there (fileOf n L) (recordPlace (fileOf n L) k) (lineAt L k) _ (line-of-file k h) line-fits

@@ -34,18 +34,18 @@ use Rattle.file_list.specs.Back.{read-written, list-in-file, written-rea
 
 -- ---- what the writer's answer says of the list
 module _ (n : ℕ) (L : List ℤ) (room : ℕ) where
-  written-valid : (k : ℕ) → writeAnswer n L room ≡ Written k → (validityOf n L ≡ validity.Valid) × (k ≡ fileSize (lineCount L))
+  written-valid : (k : ℕ) → writeAnswer n L room ≡ Written k → (validityOf n L ≡ validity.Valid) × (k ≡ fileSize L)
   unfolding writeAnswer
-  written-valid k = go (validityOf n L) (ltb room (fileSize (lineCount L)))
+  written-valid k = go (validityOf n L) (ltb room (fileSize L))
     where
-      go : (v : Validity) (t : Bool) → writing.unlessRefused v (cond t (Refused (NoRoom 0)) (Written (fileSize (lineCount L)))) ≡ Written k → (v ≡ validity.Valid) × (k ≡ fileSize (lineCount L))
+      go : (v : Validity) (t : Bool) → writing.unlessRefused v (cond t (Refused (NoRoom 0)) (Written (fileSize L))) ≡ Written k → (v ≡ validity.Valid) × (k ≡ fileSize L)
       go validity.Valid true e = never (cc)
       go validity.Valid false e = (refl, cc)
       go (validity.Refused r) t e = never (cc)
 
-  valid-written : validityOf n L ≡ validity.Valid → fileSize (lineCount L) ≤ room → writeAnswer n L room ≡ Written (fileSize (lineCount L))
+  valid-written : validityOf n L ≡ validity.Valid → fileSize L ≤ room → writeAnswer n L room ≡ Written (fileSize L)
   unfolding writeAnswer
-  valid-written v h = rw (v, le-ltb room (fileSize (lineCount L)) h)
+  valid-written v h = rw (v, le-ltb room (fileSize L) h)
 
 -- ---- written, then read: into any buffer with room
 pub write-then-read : (n : ℕ) (L : List ℤ) (k : ℕ) (b a : List ℕ) (answer : ReadAnswer) (before after : List ℤ)
@@ -70,7 +70,7 @@ read-then-write most bytes z before after answer b a h r w l =
     let p = read-written most bytes (length before) z h (sym (r .is)) in
     let list : take (lineSize * z .lines) after ≡ L = ap (take (lineSize * z .lines)) (r .leaves) ∙ take-at L _ _ (length-fileList bytes (z .lines)) in
     let d : WriteDone (z .n) L answer b a = rw list at w in
-    let size : fileSize (lineCount L) ≡ length bytes = sym (length-file (z .n) L) ∙ ap length (p .1) in
+    let size : fileSize L ≡ length bytes = sym (length-file (z .n) L) ∙ ap length (p .1) in
     let found : answer ≡ Written (length bytes) = d .is ∙ valid-written (z .n) L (length b) (p .0) (omega arith) ∙ ap Written size in
     let left = subst (λ (x : WriteAnswer). writing.Leaves (z .n) L x b a) found (d .leaves) in
     (found, left ∙ rw (p .1))

@@ -8,42 +8,35 @@ use mathlib.Core.List.{List}
 use Prim.Native.Nat.{ℕ, zero, suc, _+_, _*_, _/_, _<_, _≤_, min}
 use native.Mathlib.Omega.{arith}
 use borrow.Author.Tests.{ltb-true, ltb-false, lt-ltb, le-ltb}
-use lib.Dec.{eqb, ltb}
+use lib.Dec.{ltb}
 use lib.ListN.{length, getD, take, length-take}
 use lib.Seq.{getD-take}
 use mir.Syntax.{w32}
 use mir.Val.{toZ}
-use Rattle.integers.specs.Laws.{never}
-use Rattle.integers.specs.Sequence.{tabulate-cong}
+use Rattle.integers.specs.Sequence.{tabulate, tabulate-cong}
 use Rattle.lines.specs.Limits.{lineSize}
-use Rattle.little_endian.specs.Bytes.{le32}
+use Rattle.lines.specs.Line.{lineOf, numbersOf}
+use Rattle.little_endian.specs.Bytes.{le32, int32}
 use Rattle.file_records.specs.declared.BodySize.{BodySize}
 use Rattle.file_records.specs.declared.BodySize.the-variants.{Known, Unknown}
 use Rattle.file_records.specs.declared.Cursor.{Cursor}
 use Rattle.file_records.specs.declared.FileRefusal.the-variants.{Cut}
 use Rattle.file_records.specs.declared.Next.{Next}
 use Rattle.file_records.specs.declared.Next.the-variants.{More, End, Refused}
-use Rattle.file_records.specs.Table.{headerSize, variablesKind, lineKind, endKind, bodySize, recordPlace, le16}
+use Rattle.file_records.specs.Table.{headerSize, variablesKind, identifiedKind, bodySize, sizeOf, recordSize, le16, kindAt, recordPlace, identifierPlace}
+use Rattle.file_records.specs.Places.{longest, variables-record, identified-record, end-record, place-first, place-suc, place-most}
 use Rattle.file_records.specs.Scan.{start, taken, sized, nextRecord, onward, scanFrom, wholeFile, scan}
-use Rattle.file_records.specs.Laws.{Placed, Reached, Left, Scanned, next-left, start-reached, scanned, scan-found}
-use Rattle.file_records.specs.Places.{place-is}
-use Rattle.file_list.specs.File.{lineRecord, numberPlace, fileList}
+use Rattle.file_records.specs.Laid.{Placed, Reached, Left, Scanned, next-left, start-reached, scanned, scan-laid}
+use Rattle.file_list.specs.File.{numbersIn, lineIn, fileList}
+use Rattle.file_list.specs.LineRecord.{numbers-few}
 use Rattle.file_list.specs.Read.{afterScan, readAnswer}
 
--- so many bytes of a file are looked at, where the list's buffer has this room
+-- so many bytes of a file are looked at, where the list's buffer has this room: as if each line's record were the longest
 abbrev pub frontSize : ℕ → ℕ
-frontSize room = recordPlace (room / lineSize + 1)
+frontSize room = recordSize variablesKind + recordSize identifiedKind * (room / lineSize + 1)
 
--- no body is longer than a line's
-longest : (kind size : ℕ) → bodySize kind ≡ Known size → size ≤ 4 * lineSize
-unfolding bodySize
-longest kind size = go (eqb kind variablesKind) (eqb kind lineKind) (eqb kind endKind)
-  where
-    go : (t u v : Bool) → cond t (Known 4) (cond u (Known (4 * lineSize)) (cond v (Known 0) Unknown)) ≡ Known size → size ≤ 4 * lineSize
-    go true u v e = let z : 4 ≡ size = cc in omega arith
-    go false true v e = let z : 4 * lineSize ≡ size = cc in omega arith
-    go false false true e = let z : 0 ≡ size = cc in omega arith
-    go false false false e = never (cc)
+pub front-is : (room : ℕ) → frontSize room ≡ headerSize + 4 + (headerSize + 4 * lineSize) * (room / lineSize + 1)
+front-is room = rw (variables-record, identified-record)
 
 module _ (k : ℕ) (b d : List ℕ) (same : take k b ≡ take k d) where
   -- ---- what stands in the front
@@ -74,29 +67,34 @@ module _ (k : ℕ) (b d : List ℕ) (same : take k b ≡ take k d) where
   word i h = rw (byte i (omega arith), byte (i + 1) (omega arith), byte (i + 2) (omega arith), byte (i + 3) (omega arith))
 
   -- ---- one record
-  same-sized : (room : ℕ) (c : Cursor) → c .at + lineRecord ≤ k → (kind : ℕ) (s : BodySize) → ((size : ℕ) → s ≡ Known size → size ≤ 4 * lineSize)
+  same-sized : (room : ℕ) (c : Cursor) → c .at + (headerSize + 4 * lineSize) ≤ k → (kind : ℕ) (s : BodySize) → ((size : ℕ) → s ≡ Known size → size ≤ 4 * lineSize)
       → sized b room c kind s ≡ sized d room c kind s
   unfolding taken
   same-sized room c h kind Unknown l = refl
   same-sized room c h kind (Known size) l =
       let z = l size refl in
-      rw (half (c .at) (omega arith), ends-before (c .at + headerSize + size) (omega arith), word (c .at + headerSize) (omega arith))
+      rw (half (c .at) (omega arith), ends-before (c .at + headerSize + size) (omega arith), word (c .at + headerSize) (omega arith), word (identifierPlace (c .at)) (omega arith))
 
-  same-next : (room : ℕ) (c : Cursor) → c .at + lineRecord ≤ k → nextRecord b room c ≡ nextRecord d room c
+  same-kind : (p : ℕ) → p + headerSize ≤ k → kindAt b p ≡ kindAt d p
+  same-kind p h = half (p + 2) (omega arith)
+
+  same-next : (room : ℕ) (c : Cursor) → c .at + (headerSize + 4 * lineSize) ≤ k → nextRecord b room c ≡ nextRecord d room c
   unfolding nextRecord
   same-next room c h =
-      rw (ends-before (c .at + headerSize) (omega arith), half (c .at + 2) (omega arith))
-      (ap (cond (ltb (length d) (c .at + headerSize)) (Refused (Cut (c .at)))) (same-sized room c h (le16 d (c .at + 2)) (bodySize (le16 d (c .at + 2))) (longest _)))
+      let kind = kindAt d (c .at) in
+      rw (ends-before (c .at + headerSize) (omega arith), same-kind (c .at) (omega arith))
+      (ap (cond (ltb (length d) (c .at + headerSize)) (Refused (Cut (c .at))))
+      (same-sized room c h kind (bodySize kind) (λ size e. omega (arith, ap sizeOf e, longest kind))))
 
   -- ---- all records
   module _ (room : ℕ) (fits : frontSize room ≤ k) where
     -- wherever reading has come to, the front has a whole line more
-    in-front : (c : Cursor) → Reached b room c → c .at + lineRecord ≤ k
+    in-front : (c : Cursor) → Reached b room c → c .at + (headerSize + 4 * lineSize) ≤ k
     in-front c h = go (c .begun) (h .placed)
       where
-        go : (t : Bool) → Placed t (c .at) (c .lines) → c .at + lineRecord ≤ k
-        go false p = omega (arith, place-is (room / lineSize + 1))
-        go true p = omega (arith, h .fits, place-is (c .lines), place-is (room / lineSize + 1))
+        go : (t : Bool) → Placed b t c → c .at + (headerSize + 4 * lineSize) ≤ k
+        go false p = omega (arith, front-is room)
+        go true p = omega (arith, h .fits, place-most b (c .lines), front-is room)
 
     -- in as many turns as each has bytes
     same-from : (i j : ℕ) (c : Cursor) → Reached b room c → Reached d room c → length b < c .at + i → length d < c .at + j → scanFrom i b room c ≡ scanFrom j d room c
@@ -122,13 +120,32 @@ module _ (k : ℕ) (b d : List ℕ) (same : take k b ≡ take k d) where
       where
         go : (m : Next) → Scanned d room m → wholeFile b m ≡ wholeFile d m
         go (More c) s = refl
-        go (End c) s = rw (goes-past (c .at) (omega (arith, s .size, s .fits, place-is (c .lines), place-is (room / lineSize + 1))))
+        go (End c) s = rw (goes-past (c .at) (omega (arith, s .size, s .fits, end-record, place-most d (c .lines), front-is room)))
         go (Refused r) s = refl
 
     -- ---- the list
+    place-in-front : (j : ℕ) → lineSize * j ≤ room → recordPlace b j + (headerSize + 4 * lineSize) ≤ k
+    place-in-front j h = omega (arith, place-most b j, front-is room)
+
+    same-place : (j : ℕ) → lineSize * j ≤ room → recordPlace b j ≡ recordPlace d j
+    same-place zero h = place-first b ∙ sym (place-first d)
+    same-place (suc j) h =
+        let p = place-in-front j (omega arith) in
+        place-suc b j
+        ∙ ap (λ (i : ℕ). recordPlace b j + recordSize i) (same-kind (recordPlace b j) (omega arith))
+        ∙ ap (λ (i : ℕ). i + recordSize (kindAt d i)) (same-place j (omega arith))
+        ∙ sym (place-suc d j)
+
+    same-line : (p : ℕ) → p + (headerSize + 4 * lineSize) ≤ k → lineIn b p ≡ lineIn d p
+    unfolding lineIn
+    same-line p h =
+        ap (λ (i : ℕ). lineOf (tabulate (numbersIn i) (λ j. int32 b (p + headerSize + 4 * j)))) (same-kind p (omega arith))
+        ∙ ap lineOf (tabulate-cong (numbersIn (kindAt d p)) _ _ (λ j l. ap (toZ w32) (word (p + headerSize + 4 * j) (omega (arith, numbers-few (kindAt d p))))))
+
     pub same-list : (lines : ℕ) → lineSize * lines ≤ room → fileList b lines ≡ fileList d lines
     unfolding fileList
-    same-list lines h = tabulate-cong (lineSize * lines) _ _ (λ i l. ap (toZ w32) (word (numberPlace i) (omega (arith, place-is (i / lineSize), place-is (room / lineSize + 1)))))
+    same-list lines h =
+        ap numbersOf (tabulate-cong lines _ _ (λ j l. same-line (recordPlace b j) (place-in-front j (omega arith)) ∙ ap (lineIn d) (same-place j (omega arith))))
 
     pub same-read : (most : ℕ) → readAnswer most b room ≡ readAnswer most d room
     unfolding readAnswer
@@ -136,5 +153,5 @@ module _ (k : ℕ) (b d : List ℕ) (same : take k b ≡ take k d) where
       where
         go : (m : Next) → scan d room ≡ m → afterScan most b m ≡ afterScan most d m
         go (More c) e = refl
-        go (End c) e = rw (same-list (c .lines) (omega (arith, scan-found d room c e .fits)))
+        go (End c) e = rw (same-list (c .lines) (scan-laid d room c e .fits))
         go (Refused r) e = refl

@@ -1,79 +1,72 @@
--- Bytes laid out as a file: the file of a list is, and such bytes are the file of the list in them.
-use mathlib.Core.Path.{_≡_, sym, ap, _∙_}
+-- The file of a list is laid out as files are, and bytes that are laid out so are the file of the list in them.
+use mathlib.Core.Path.{_≡_, refl, sym, ap, ap₂, subst, _∙_}
 use mathlib.Core.List.{List, [], _∷_, _++_, append-assoc}
 use Prim.Native.Nat.{ℕ, zero, suc, _+_, _*_, _^_, _<_, _≤_, suc-le-suc}
 use native.Mathlib.Nat.{zero-add, add-zero, add-suc, suc-add, add-assoc}
 use native.Mathlib.Omega.{arith}
 use lib.IntN.{ℤ, pos}
-use lib.ListN.{length, drop, drop-of-length-le}
-use lib.Seq.{ext-getD}
+use lib.ListN.{length, drop, take-append-drop, drop-of-length-le}
+use lib.Seq.{drop-drop}
 use mir.Syntax.{w32}
 use mir.Val.{SFits}
-use Rattle.integers.specs.Sequence.{tabulate, length-tabulate, getD-tabulate}
+use Rattle.integers.specs.Sequence.{tabulate, length-tabulate, tabulate-cong, getD-tabulate}
 use Rattle.lines.specs.declared.Line.{Line}
 use Rattle.lines.specs.Limits.{lineSize}
-use Rattle.lines.specs.Line.{number, lineNumbers, lineAt, lineCount, linesOf}
-use Rattle.lines.specs.LineNumbers.{length-numbers, number-at}
-use Rattle.little_endian.specs.Bytes.{AreBytes, le32, int32}
-use Rattle.file_records.specs.Table.{headerSize, variablesKind, lineKind, endKind, recordPlace, le16}
-use Rattle.file_records.specs.Places.{line-record, place-first, place-suc, place-is}
+use Rattle.lines.specs.Line.{number, lineCount, linesOf, numbersOf}
+use Rattle.lines.specs.LineNumbers.{numbers-at, length-numbersOf, lines-of-numbers}
+use Rattle.lines.specs.Laws.{lines-from, lines-past}
+use Rattle.little_endian.specs.Bytes.{AreBytes, int32}
 use Rattle.little_endian.specs.Writing.{bytes16, bytes32, signedBytes, bytesOf, int32Bytes}
-use Rattle.file_list.specs.File.{recordOf, lineBody, lineRecords, fileOf, fileSize, fileList, numberPlace}
-use Rattle.file_list.specs.Bytes as written
-use Rattle.file_list.specs.Bytes.{drop-bytes16, drop-bytes32, drop-signed}
-
--- n, then k lines, then the end, each with its header, then nothing
-pub record Laid (b : List ℕ) (n k : ℕ) : Type 0 where
-  pub size : length b ≡ fileSize k
-  pub variables-size : le16 b 0 ≡ 4
-  pub variables-kind : le16 b 2 ≡ variablesKind
-  pub variables : le32 b headerSize ≡ n
-  pub line-size : (j : ℕ) → j < k → le16 b (recordPlace j) ≡ 4 * lineSize
-  pub line-kind : (j : ℕ) → j < k → le16 b (recordPlace j + 2) ≡ lineKind
-  pub end-size : le16 b (recordPlace k) ≡ 0
-  pub end-kind : le16 b (recordPlace k + 2) ≡ endKind
+use Rattle.little_endian.specs.Back.{length-bytesOf}
+use Rattle.file_records.specs.Table.{headerSize, variablesKind, endKind, bodySize, sizeOf, recordSize, kindAt, recordPlace}
+use Rattle.file_records.specs.Places.{variables-record, end-record, place-first, place-suc}
+use Rattle.file_records.specs.Record.{Whole, LineAt}
+use Rattle.file_records.specs.Laid.{Laid}
+use Rattle.file_list.specs.File.{numbersIn, recordOf, lineRecord, lineRecords, fileOf, numbersAt, lineIn, fileLines, fileList}
+use Rattle.file_list.specs.LineRecord.{record-back, length-numbersAt}
+use Rattle.file_list.specs.Bytes.{drop-bytes16, drop-bytes32, drop-signed, end-place, first-whole, end-whole, n-in-file, line-at-place, line-in-file}
 
 -- ---- written
-pub file-laid : (n : ℕ) (L : List ℤ) → n < 2 ^ 32 → Laid (fileOf n L) n (lineCount L)
-file-laid n L h =
-    record {
-      size = written.length-file n L;
-      variables-size = written.variables-size n L;
-      variables-kind = written.variables-kind n L;
-      variables = written.n-in-file n L h;
-      line-size = written.line-size n L;
-      line-kind = written.line-kind n L;
-      end-size = written.end-size n L;
-      end-kind = written.end-kind n L;
-    }
+-- the numbers of all lines of a list
+numbers-of-lines : (L : List ℤ) → lineSize * lineCount L ≡ length L → numbersOf (linesOf L) ≡ L
+unfolding numbersOf
+numbers-of-lines L e = go (lineCount L) 0 (zero-add (lineCount L))
+  where
+    go : (m k : ℕ) → k + m ≡ lineCount L → numbersOf (drop k (linesOf L)) ≡ drop (lineSize * k) L
+    go zero k q = ap numbersOf (lines-past L k (omega arith)) ∙ sym (drop-of-length-le L {i = lineSize * k} (omega arith))
+    go (suc m) k q =
+        let rest = drop (lineSize * k) L in
+        let next : lineSize * (k + 1) ≡ lineSize * k + lineSize = omega arith in
+        ap numbersOf (lines-from L k (omega arith))
+        ∙ ap₂ (λ (x y : List ℤ). x ++ y) (numbers-at L k (omega arith)) (go m (k + 1) (omega arith) ∙ ap (λ (i : ℕ). drop i L) next ∙ sym (drop-drop lineSize (lineSize * k) L))
+        ∙ take-append-drop lineSize rest
 
-pub list-of-file : (n : ℕ) (L : List ℤ) → lineSize * lineCount L ≡ length L → ((i : ℕ) → SFits w32 (number L i)) → fileList (fileOf n L) (lineCount L) ≡ L
-unfolding fileList
-list-of-file n L e f =
-    let l = length-tabulate (lineSize * lineCount L) (λ i. int32 (fileOf n L) (numberPlace i)) in
-    ext-getD (pos 0) _ L (l ∙ e) (λ i h. getD-tabulate (lineSize * lineCount L) i _ (pos 0) (omega arith) ∙ written.number-in-file n L i (omega arith) (f i))
+module _ (n : ℕ) (L : List ℤ) (f : (i : ℕ) → SFits w32 (number L i)) where
+  pub file-laid : n < 2 ^ 32 → Laid (fileOf n L) n (lineCount L)
+  file-laid h =
+      record {
+        begun = record { first = first-whole n L; variables = n-in-file n L h; lines = line-at-place n L f };
+        end = end-whole n L;
+        size = end-place n L;
+      }
+
+  pub list-of-file : lineSize * lineCount L ≡ length L → fileList (fileOf n L) (lineCount L) ≡ L
+  unfolding fileList
+  list-of-file e = ap numbersOf (tabulate-cong (lineCount L) _ _ (line-in-file n L f)) ∙ numbers-of-lines L e
 
 -- ---- read
 pub length-fileList : (b : List ℕ) (k : ℕ) → length (fileList b k) ≡ lineSize * k
 unfolding fileList
-length-fileList b k = length-tabulate (lineSize * k) _
+length-fileList b k = length-numbersOf (fileLines b k) ∙ ap (λ (m : ℕ). lineSize * m) (length-tabulate k (λ j. lineIn b (recordPlace b j)))
 
 pub lineCount-fileList : (b : List ℕ) (k : ℕ) → lineCount (fileList b k) ≡ k
 lineCount-fileList b k = omega (arith, length-fileList b k)
 
--- number i of line j
-number-read : (b : List ℕ) (k j i : ℕ) → j < k → i < lineSize → number (fileList b k) (lineSize * j + i) ≡ int32 b (recordPlace j + headerSize + 4 * i)
-unfolding fileList
-number-read b k j i h l = getD-tabulate (lineSize * k) (lineSize * j + i) _ (pos 0) (omega arith) ∙ ap (int32 b) (written.number-place j i l)
-
--- number i of those that a line has
-number-of-line : (b : List ℕ) (k j i : ℕ) → j < k → i < lineSize → number (lineNumbers (lineAt (fileList b k) j)) i ≡ int32 b (recordPlace j + headerSize + 4 * i)
-number-of-line b k j i h l = number-at (fileList b k) j (omega (arith, lineCount-fileList b k)) i l ∙ number-read b k j i h l
-
 module _ (b : List ℕ) (bytes : AreBytes b) where
   -- what stands at p is what is written of what is read there
-  from-header : (p s kind : ℕ) → p + headerSize ≤ length b → le16 b p ≡ s → le16 b (p + 2) ≡ kind → drop p b ≡ bytes16 s ++ (bytes16 kind ++ drop (p + headerSize) b)
-  from-header p s kind h e f = rw (drop-bytes16 b bytes p (omega arith), drop-bytes16 b bytes (p + 2) (omega arith), e, f, add-assoc p 2 2)
+  from-header : (p kind : ℕ) → Whole b p kind → drop p b ≡ bytes16 (sizeOf (bodySize kind)) ++ (bytes16 kind ++ drop (p + headerSize) b)
+  from-header p kind h =
+      rw (drop-bytes16 b bytes p (omega (arith, h .whole)), drop-bytes16 b bytes (p + 2) (omega (arith, h .whole)), h .sized, h .named, add-assoc p 2 2)
 
   from-numbers : (zs : List ℤ) (p : ℕ) → p + 4 * length zs ≤ length b → ((i : ℕ) → i < length zs → number zs i ≡ int32 b (p + 4 * i))
       → drop p b ≡ int32Bytes zs ++ drop (p + 4 * length zs) b
@@ -88,40 +81,47 @@ module _ (b : List ℕ) (bytes : AreBytes b) where
       ∙ ap (λ (y : ℤ). signedBytes y ++ drop (p + 4) b) (sym first)
       ∙ ap (λ (r : List ℕ). signedBytes z ++ r) (from-numbers zs (p + 4) (omega arith) later ∙ ap (λ (q : ℕ). int32Bytes zs ++ drop q b) next)
 
-  module _ (n k : ℕ) (h : Laid b n k) where
-    from-line : (j : ℕ) → j < k → drop (recordPlace j) b ≡ recordOf lineKind (lineBody (lineAt (fileList b k) j)) ++ drop (recordPlace (suc j)) b
-    unfolding lineBody
-    from-line j l =
-        let x = lineAt (fileList b k) j in
-        let m = length-numbers x in
-        let e : recordPlace j + headerSize + 4 * length (lineNumbers x) ≡ recordPlace (suc j) = omega (arith, m, place-suc j, line-record) in
-        from-header (recordPlace j) (4 * lineSize) lineKind (omega (arith, h .size, place-is j, place-is k)) (h .line-size j l) (h .line-kind j l)
-        ∙ ap (λ (s : ℕ). bytes16 s ++ (bytes16 lineKind ++ drop (recordPlace j + headerSize) b)) (sym (written.length-body x))
-        ∙ ap (λ (r : List ℕ). bytes16 (length (lineBody x)) ++ (bytes16 lineKind ++ r))
-        (from-numbers (lineNumbers x) (recordPlace j + headerSize) (omega (arith, m, h .size, place-is j, place-is k)) (λ i q. number-of-line b k j i l (omega (arith, m)))
-        ∙ ap (λ (p : ℕ). lineBody x ++ drop p b) e)
+  from-line : (p : ℕ) → LineAt b p → drop p b ≡ lineRecord (lineIn b p) ++ drop (p + recordSize (kindAt b p)) b
+  from-line p h =
+      let kind = kindAt b p in
+      let zs = numbersAt b p in
+      let w : Whole b p kind = subst (Whole b p) (sym (h .whole .named)) (h .whole) in
+      let size = length-numbersAt b p h in
+      let body : length (int32Bytes zs) ≡ sizeOf (bodySize kind) = length-bytesOf 4 signedBytes (λ z. refl) zs ∙ size in
+      let end : p + headerSize + 4 * length zs ≡ p + recordSize kind = omega arith in
+      from-header p kind w
+      ∙ ap (λ (r : List ℕ). bytes16 (sizeOf (bodySize kind)) ++ (bytes16 kind ++ r))
+      (from-numbers zs (p + headerSize) (omega (arith, w .whole)) (λ i l. getD-tabulate (numbersIn kind) i _ (pos 0) (omega (arith, length-tabulate (numbersIn kind) (λ j. int32 b (p + headerSize + 4 * j)))))
+      ∙ ap (λ (q : ℕ). int32Bytes zs ++ drop q b) end)
+      ∙ ap (λ (m : ℕ). bytes16 m ++ (bytes16 kind ++ (int32Bytes zs ++ drop (p + recordSize kind) b))) (sym body)
+      ∙ ap (λ (r : List ℕ). r ++ drop (p + recordSize kind) b) (sym (record-back b p h))
 
-    from-lines : (m j : ℕ) (f : ℕ → Line) → j + m ≡ k → ((i : ℕ) → i < m → f i ≡ lineAt (fileList b k) (j + i)) → drop (recordPlace j) b ≡ lineRecords (tabulate m f) ++ drop (recordPlace k) b
+  module _ (n k : ℕ) (h : Laid b n k) where
+    from-lines : (m j : ℕ) (f : ℕ → Line) → j + m ≡ k → ((i : ℕ) → i < m → f i ≡ lineIn b (recordPlace b (j + i))) → drop (recordPlace b j) b ≡ lineRecords (tabulate m f) ++ drop (recordPlace b k) b
     unfolding lineRecords
-    from-lines zero j f e g = ap (λ (i : ℕ). drop (recordPlace i) b) (sym (add-zero j) ∙ e)
+    from-lines zero j f e g = ap (λ (i : ℕ). drop (recordPlace b i) b) (sym (add-zero j) ∙ e)
     from-lines (suc m) j f e g =
-        from-line j (omega arith)
-        ∙ ap (λ (x : Line). recordOf lineKind (lineBody x) ++ drop (recordPlace (suc j)) b) (ap (lineAt (fileList b k)) (sym (add-zero j)) ∙ sym (g 0 (omega arith)))
-        ∙ ap (λ (r : List ℕ). recordOf lineKind (lineBody (f 0)) ++ r)
-        (from-lines m (suc j) (λ i. f (suc i)) (omega arith) (λ i l. g (suc i) (omega arith) ∙ ap (lineAt (fileList b k)) (add-suc j i ∙ sym (suc-add j i))))
-        ∙ sym (append-assoc (recordOf lineKind (lineBody (f 0))) (lineRecords (tabulate m (λ i. f (suc i)))) (drop (recordPlace k) b))
+        let first : lineIn b (recordPlace b j) ≡ f 0 = ap (λ (i : ℕ). lineIn b (recordPlace b i)) (sym (add-zero j)) ∙ sym (g 0 (omega arith)) in
+        from-line (recordPlace b j) (h .begun .lines j (omega arith))
+        ∙ ap₂ (λ (x : Line) (p : ℕ). lineRecord x ++ drop p b) first (sym (place-suc b j))
+        ∙ ap (λ (r : List ℕ). lineRecord (f 0) ++ r)
+        (from-lines m (suc j) (λ i. f (suc i)) (omega arith) (λ i l. g (suc i) (omega arith) ∙ ap (λ (p : ℕ). lineIn b (recordPlace b p)) (add-suc j i ∙ sym (suc-add j i))))
+        ∙ sym (append-assoc (lineRecord (f 0)) (lineRecords (tabulate m (λ i. f (suc i)))) (drop (recordPlace b k) b))
+
+    from-end : drop (recordPlace b k) b ≡ recordOf endKind []
+    unfolding bodySize
+    from-end =
+        from-header (recordPlace b k) endKind (h .end)
+        ∙ ap (λ (r : List ℕ). bytes16 0 ++ (bytes16 endKind ++ r)) (drop-of-length-le b {i = recordPlace b k + headerSize} (omega (arith, h .size, end-record)))
 
     pub laid-file : fileOf n (fileList b k) ≡ b
-    unfolding fileOf
+    unfolding fileOf fileList bodySize
     laid-file = sym (
-        from-header 0 4 variablesKind (omega (arith, h .size, place-is k)) (h .variables-size) (h .variables-kind)
+        from-header 0 variablesKind (h .begun .first)
         ∙ ap (λ (r : List ℕ). bytes16 4 ++ (bytes16 variablesKind ++ r))
-        (drop-bytes32 b bytes headerSize (omega (arith, h .size, place-is k))
-        ∙ ap (λ (v : ℕ). bytes32 v ++ drop (headerSize + 4) b) (h .variables)
+        (drop-bytes32 b bytes headerSize (omega (arith, h .begun .first .whole, variables-record))
+        ∙ ap (λ (v : ℕ). bytes32 v ++ drop (headerSize + 4) b) (h .begun .variables)
         ∙ ap (λ (r : List ℕ). bytes32 n ++ r)
-        (ap (λ (p : ℕ). drop p b) (sym place-first)
-        ∙ from-lines k 0 (lineAt (fileList b k)) (zero-add k) (λ i l. ap (lineAt (fileList b k)) (sym (zero-add i)))
-        ∙ ap (λ (m : ℕ). lineRecords (tabulate m (lineAt (fileList b k))) ++ drop (recordPlace k) b) (sym (lineCount-fileList b k))
-        ∙ ap (λ (r : List ℕ). lineRecords (linesOf (fileList b k)) ++ r)
-        (from-header (recordPlace k) 0 endKind (omega (arith, h .size)) (h .end-size) (h .end-kind)
-        ∙ ap (λ (r : List ℕ). bytes16 0 ++ (bytes16 endKind ++ r)) (drop-of-length-le b {i = recordPlace k + headerSize} (omega (arith, h .size)))))))
+        (ap (λ (p : ℕ). drop p b) (sym (place-first b))
+        ∙ from-lines k 0 (λ j. lineIn b (recordPlace b j)) (zero-add k) (λ i l. ap (λ (p : ℕ). lineIn b (recordPlace b p)) (sym (zero-add i)))
+        ∙ ap₂ (λ (ls : List Line) (r : List ℕ). lineRecords ls ++ r) (sym (lines-of-numbers (fileLines b k))) from-end)))

@@ -1,11 +1,12 @@
 pub mod File
+pub mod LineRecord
 pub mod Read
 pub mod Write
 pub mod Putting
+pub mod Decoding
 pub mod Written
 pub mod Bytes
 pub mod Layout
-pub mod Scanned
 pub mod Back
 pub mod Calls
 pub mod Front

@@ -1,143 +1,144 @@
--- The records of a file put into a buffer one behind the other, and the numbers of its lines read back one by one.
+-- The records of a file put into a buffer one behind the other.
+--
+-- A loop keeps that what it has put, with all that is left put behind it, is what is to be put. So it ends where nothing is left.
 use mathlib.Core.Path.{_≡_, refl, sym, ap, _∙_}
-use mathlib.Core.List.{List, [], _∷_, _++_, append-assoc, append-nil}
-use Prim.Native.Nat.{ℕ, zero, suc, _+_, _*_, _/_, _%_, _^_, _<_, _≤_}
+use mathlib.Core.List.{List, [], _∷_, _++_, append-assoc}
+use Prim.Native.Nat.{ℕ, _+_, _*_, _/_, _<_, _≤_}
 use native.Mathlib.Nat.{add-zero}
+use native.Mathlib.Numerals.{add-one}
 use native.Mathlib.Omega.{arith}
-use lib.IntN.{ℤ}
-use lib.ListN.{length, set, drop, length-append}
-use lib.Signed.{mag}
-use mir.Syntax.{w32}
-use mir.Val.{toZ, ofZ}
-use Rattle.integers.specs.Bits.{kept}
-use Rattle.integers.specs.Sequence.{tabulate, tabulate-add, length-tabulate, grow}
+use lib.IntN.{ℤ, pos}
+use lib.ListN.{length, take, drop, length-append, drop-of-length-le}
+use lib.Seq.{take-take, drop-cons}
+use Rattle.integers.specs.Sequence.{length-tabulate}
 use Rattle.lines.specs.declared.Line.{Line}
 use Rattle.lines.specs.Limits.{lineSize}
-use Rattle.lines.specs.Line.{lineNumbers, lineAt, lineCount, linesOf}
-use Rattle.little_endian.specs.Bytes.{int32}
-use Rattle.little_endian.specs.Writing.{bytes16, bytes32, signedBytes, bytesOf, int32Bytes, put, put-is, put-then}
-use Rattle.file_records.specs.Table.{headerSize, variablesKind, lineKind, endKind}
-use Rattle.file_records.specs.Places.{place-is}
-use Rattle.file_list.specs.File.{recordOf, lineBody, lineRecords, fileOf, variablesRecord, lineRecord, fileSize, numberPlace, fileList}
-use Rattle.file_list.specs.Bytes.{length-body, records-end, lines-end, length-file}
+use Rattle.lines.specs.Line.{number, lineNumbers, lineAt, lineCount, linesOf}
+use Rattle.lines.specs.LineNumbers.{numbers-at}
+use Rattle.lines.specs.Laws.{lines-from, lines-past}
+use Rattle.little_endian.specs.Writing.{bytes16, bytes32, signedBytes, bytesOf, int32Bytes, put, put-is, put-append, put-then}
+use Rattle.file_records.specs.Table.{headerSize, variablesKind, endKind, bodySize, sizeOf, recordSize}
+use Rattle.file_records.specs.Places.{longest, variables-record}
+use Rattle.file_list.specs.File.{numbersIn, recordOf, kindOf, lineBody, lineRecord, lineRecords, fileOf, linesSize, linesEnd, fileSize}
+use Rattle.file_list.specs.LineRecord.{numbers-few, length-body, length-record, length-records}
+use Rattle.file_list.specs.Bytes.{length-file}
 
-tabulate-more : {A : Type 0} (f : ℕ → A) (i : ℕ) → tabulate (i + 1) f ≡ tabulate i f ++ f i ∷ []
-tabulate-more {A} f i = let z : i + 0 ≡ i = omega arith in tabulate-add i 1 f ∙ ap (λ (k : ℕ). tabulate i f ++ f k ∷ []) z
+-- ---- numbers
+module _ (out : List ℕ) (at : ℕ) (ns : List ℤ) where
+  -- the first i numbers were put
+  pub record NumbersPut (i : ℕ) (m : List ℕ) : Type 0 where
+    pub left : put m (at + 4 * i) (int32Bytes (drop i ns)) ≡ put out at (int32Bytes ns)
+
+  pub numbers-none : NumbersPut 0 out
+  numbers-none = record { left = ap (λ (j : ℕ). put out j (int32Bytes ns)) (add-zero at) }
+
+  pub numbers-more : (i : ℕ) {m o : List ℕ} → i < length ns → NumbersPut i m → o ≡ put m (at + 4 * i) (signedBytes (number ns i)) → NumbersPut (i + 1) o
+  unfolding bytesOf
+  numbers-more i {m} {o} h p e =
+      let next : at + 4 * i + 4 ≡ at + 4 * (i + 1) = omega arith in
+      let rest = int32Bytes (drop (i + 1) ns) in
+      let first : int32Bytes (drop i ns) ≡ signedBytes (number ns i) ++ rest =
+      ap int32Bytes (drop-cons ns i (pos 0) h) ∙ ap (λ (j : ℕ). signedBytes (number ns i) ++ int32Bytes (drop j ns)) (sym (add-one i)) in
+      record { left = ap (λ (l : List ℕ). put l (at + 4 * (i + 1)) rest) e ∙ put-append m (at + 4 * i) (signedBytes (number ns i)) (at + 4 * (i + 1)) rest next ∙ ap (put m (at + 4 * i)) (sym first) ∙ p .left }
+
+  pub numbers-all : (i : ℕ) {m : List ℕ} → length ns ≤ i → NumbersPut i m → m ≡ put out at (int32Bytes ns)
+  unfolding put bytesOf
+  numbers-all i {m} h p = ap (λ (l : List ℤ). put m (at + 4 * i) (int32Bytes l)) (sym (drop-of-length-le ns {i = i} h)) ∙ p .left
 
 -- ---- one line
--- a number that comes from its bits
-pub put-read : (m : List ℕ) (j : ℕ) (z : ℤ) {o : List ℕ} → mag z < 2 ^ 31 → o ≡ put m j (signedBytes (toZ w32 (ofZ w32 z))) → o ≡ put m j (signedBytes z)
-put-read m j z h e = e ∙ ap (λ (y : ℤ). put m j (signedBytes y)) (kept w32 z h)
-
--- k bytes behind `at`, as the code writes it
-abbrev pub behind : ℕ → ℕ → ℕ
-behind at zero = at
-behind at (suc k) = at + suc k
-
-behind-is : (at k : ℕ) → behind at k ≡ at + k
-behind-is at zero = sym (add-zero at)
-behind-is at (suc k) = refl
-
--- the numbers zs, put one behind the other, the first k bytes behind `at`
-abbrev pub Puts : ℕ → ℕ → List ℤ → List ℕ → List ℕ → Type 0
-Puts at k [] out o = o ≡ out
-Puts at k (z ∷ zs) out o = (m : List ℕ) × (m ≡ put out (behind at k) (signedBytes z)) × Puts at (k + 4) zs m o
-
-put-numbers : (at : ℕ) (zs : List ℤ) (k : ℕ) (out o : List ℕ) → Puts at k zs out o → o ≡ put out (behind at k) (int32Bytes zs)
-unfolding bytesOf put
-put-numbers at [] k out o e = e
-put-numbers at (z ∷ zs) k out o e =
-    let next : behind at k + 4 ≡ behind at (k + 4) = omega (arith, behind-is at k, behind-is at (k + 4)) in
-    put-then out (behind at k) (signedBytes z) (behind at (k + 4)) (int32Bytes zs) next (e .1) (put-numbers at zs (k + 4) (e .0) o (e .2))
-
-pub put-body : (out : List ℕ) (at : ℕ) (l : Line) {o : List ℕ} → Puts at 0 (lineNumbers l) out o → o ≡ put out at (lineBody l)
+-- the header, then the numbers
+pub put-record : (out : List ℕ) (at : ℕ) (L : List ℤ) (k size m : ℕ) {o₁ o₂ : List ℕ} → k < lineCount L → size ≡ sizeOf (bodySize (kindOf (lineAt L k))) → m ≡ size / 4
+    → o₁ ≡ put out at (bytes16 size ++ bytes16 (kindOf (lineAt L k)))
+    → o₂ ≡ put o₁ (at + headerSize) (int32Bytes (take m (drop (lineSize * k) L)))
+    → o₂ ≡ put out at (lineRecord (lineAt L k))
 unfolding lineBody
-put-body out at l {o} e = put-numbers at (lineNumbers l) 0 out o e
-
-pub put-record : (out : List ℕ) (at : ℕ) (l : Line) {o₁ o₂ : List ℕ}
-    → o₁ ≡ put out at (bytes16 (4 * lineSize) ++ bytes16 lineKind)
-    → o₂ ≡ put o₁ (at + headerSize) (lineBody l)
-    → o₂ ≡ put out at (recordOf lineKind (lineBody l))
-put-record out at l e₁ e₂ =
-    put-then out at (bytes16 (4 * lineSize) ++ bytes16 lineKind) (at + headerSize) (lineBody l) refl e₁ e₂
-    ∙ ap (λ (s : ℕ). put out at (bytes16 s ++ (bytes16 lineKind ++ lineBody l))) (sym (length-body l))
+put-record out at L k size m {o₁} {o₂} h e f e₁ e₂ =
+    let l = lineAt L k in
+    let n = numbersIn (kindOf l) in
+    let same : m ≡ n = f ∙ ap (λ (i : ℕ). i / 4) e in
+    let numbers : take m (drop (lineSize * k) L) ≡ take n (lineNumbers l) =
+    ap (λ (i : ℕ). take i (drop (lineSize * k) L)) same ∙ sym (ap (take n) (numbers-at L k h) ∙ take-take n lineSize (drop (lineSize * k) L) (numbers-few (kindOf l))) in
+    put-then out at (bytes16 size ++ bytes16 (kindOf l)) (at + headerSize) (lineBody l) refl e₁ (e₂ ∙ ap (λ (ns : List ℤ). put o₁ (at + headerSize) (int32Bytes ns)) numbers)
+    ∙ ap (λ (s : ℕ). put out at (bytes16 s ++ (bytes16 (kindOf l) ++ lineBody l))) (e ∙ sym (length-body l))
 
 -- ---- the lines
-lines-append : (ls ms : List Line) → lineRecords (ls ++ ms) ≡ lineRecords ls ++ lineRecords ms
-unfolding lineRecords
-lines-append [] ms = refl
-lines-append (l ∷ ls) ms =
-    ap (λ (r : List ℕ). recordOf lineKind (lineBody l) ++ r) (lines-append ls ms)
-    ∙ sym (append-assoc (recordOf lineKind (lineBody l)) (lineRecords ls) (lineRecords ms))
+lines-size : (L : List ℤ) (k : ℕ) → k < lineCount L → linesSize (drop k (linesOf L)) ≡ recordSize (kindOf (lineAt L k)) + linesSize (drop (k + 1) (linesOf L))
+unfolding linesSize
+lines-size L k h = ap linesSize (lines-from L k h)
 
-module _ (L : List ℤ) (out : List ℕ) where
-  -- the records of the first k lines are put
-  unfoldable pub putLines : ℕ → List ℕ
-  putLines k = put out variablesRecord (lineRecords (tabulate k (lineAt L)))
+none-size : (L : List ℤ) (k : ℕ) → lineCount L ≤ k → linesSize (drop k (linesOf L)) ≡ 0
+unfolding linesSize
+none-size L k h = ap linesSize (lines-past L k h)
 
-  pub lines-none : out ≡ putLines 0
-  unfolding putLines put lineRecords
-  lines-none = refl
+-- as if each record were the longest
+lines-most : (ls : List Line) → linesSize ls ≤ (headerSize + 4 * lineSize) * length ls
+unfolding linesSize
+lines-most [] = omega arith
+lines-most (l ∷ ls) = omega (arith, longest (kindOf l), lines-most ls)
 
-  pub lines-more : (k : ℕ) {m o : List ℕ} → m ≡ putLines k → o ≡ put m (variablesRecord + lineRecord * k) (recordOf lineKind (lineBody (lineAt L k))) → o ≡ putLines (k + 1)
-  unfolding putLines lineRecords
-  lines-more k f g =
-      let ls = tabulate k (lineAt L) in
-      let e : variablesRecord + length (lineRecords ls) ≡ variablesRecord + lineRecord * k = records-end ls k (length-tabulate k (lineAt L)) ∙ place-is k in
-      put-then out variablesRecord (lineRecords ls) (variablesRecord + lineRecord * k) (recordOf lineKind (lineBody (lineAt L k))) e f g
-      ∙ ap (put out variablesRecord)
-      (sym (ap lineRecords (tabulate-more (lineAt L) k) ∙ lines-append ls (lineAt L k ∷ []) ∙ ap (λ (r : List ℕ). lineRecords ls ++ r) (append-nil (recordOf lineKind (lineBody (lineAt L k))))))
+pub ends-before : (L : List ℤ) → linesEnd L ≤ headerSize + 4 + (headerSize + 4 * lineSize) * lineCount L
+ends-before L = omega (arith, lines-most (linesOf L), length-tabulate (lineCount L) (lineAt L), variables-record)
 
-  pub lines-all : putLines (lineCount L) ≡ put out variablesRecord (lineRecords (linesOf L))
-  unfolding putLines
-  lines-all = refl
+-- the records of the first k lines end at `at`
+pub record LinesEnded (L : List ℤ) (k at : ℕ) : Type 0 where
+  pub left : at + linesSize (drop k (linesOf L)) ≡ linesEnd L
+
+module _ (L : List ℤ) where
+  pub ended-none : (at : ℕ) → at ≡ recordSize variablesKind → LinesEnded L 0 at
+  ended-none at e = record { left = ap (λ (i : ℕ). i + linesSize (linesOf L)) e }
+
+  pub ended-more : (k at : ℕ) → k < lineCount L → LinesEnded L k at → LinesEnded L (k + 1) (at + recordSize (kindOf (lineAt L k)))
+  ended-more k at h p = record { left = omega (arith, lines-size L k h, p .left) }
+
+  pub ended-all : (k at : ℕ) → lineCount L ≤ k → LinesEnded L k at → at ≡ linesEnd L
+  ended-all k at h p = omega (arith, none-size L k h, p .left)
+
+  -- line k ends before all lines end
+  pub ended-within : (k at : ℕ) → k < lineCount L → LinesEnded L k at → at + recordSize (kindOf (lineAt L k)) ≤ linesEnd L
+  ended-within k at h p = omega (arith, lines-size L k h, p .left)
+
+  module _ (out : List ℕ) where
+    -- and were put
+    pub record LinesPut (k at : ℕ) (m : List ℕ) : Type 0 where
+      pub left : put m at (lineRecords (drop k (linesOf L))) ≡ put out (recordSize variablesKind) (lineRecords (linesOf L))
+
+    pub lines-none : (at : ℕ) → at ≡ recordSize variablesKind → LinesPut 0 at out
+    lines-none at e = record { left = ap (λ (i : ℕ). put out i (lineRecords (linesOf L))) e }
+
+    pub lines-more : (k at : ℕ) {m o : List ℕ} {next : ℕ} → k < lineCount L → LinesPut k at m → o ≡ put m at (lineRecord (lineAt L k)) → next ≡ at + recordSize (kindOf (lineAt L k)) → LinesPut (k + 1) next o
+    unfolding lineRecords
+    lines-more k at {m} {o} {next} h p e f =
+        let l = lineAt L k in
+        let rest = lineRecords (drop (k + 1) (linesOf L)) in
+        let end : at + length (lineRecord l) ≡ next = omega (arith, length-record l) in
+        record { left = ap (λ (b : List ℕ). put b next rest) e ∙ put-append m at (lineRecord l) next rest end ∙ ap (λ (ls : List Line). put m at (lineRecords ls)) (sym (lines-from L k h)) ∙ p .left }
+
+    pub lines-all : (k at : ℕ) {m : List ℕ} → lineCount L ≤ k → LinesPut k at m → m ≡ put out (recordSize variablesKind) (lineRecords (linesOf L))
+    unfolding put lineRecords
+    lines-all k at {m} h p = ap (λ (ls : List Line). put m at (lineRecords ls)) (sym (lines-past L k h)) ∙ p .left
 
 -- ---- the file
 module _ (n : ℕ) (L : List ℤ) (out : List ℕ) where
   abbrev lines : List ℕ
   lines = lineRecords (linesOf L)
 
-  pub put-all : {o₁ o₂ o₃ o₄ : List ℕ}
+  pub put-all : {o₁ o₂ o₃ o₄ : List ℕ} {end : ℕ}
       → o₁ ≡ put out 0 (bytes16 4 ++ bytes16 variablesKind)
       → o₂ ≡ put o₁ headerSize (bytes32 n)
-      → o₃ ≡ put o₂ variablesRecord lines
-      → o₄ ≡ put o₃ (variablesRecord + lineRecord * lineCount L) (bytes16 0 ++ bytes16 endKind)
+      → o₃ ≡ put o₂ (recordSize variablesKind) lines
+      → end ≡ linesEnd L
+      → o₄ ≡ put o₃ end (bytes16 0 ++ bytes16 endKind)
       → o₄ ≡ put out 0 (fileOf n L)
   unfolding fileOf
-  put-all e₁ e₂ e₃ e₄ =
+  put-all {o₂ = o₂} {end = end} e₁ e₂ e₃ e e₄ =
       let first = recordOf variablesKind (bytes32 n) in
-      let e : 0 + length (first ++ lines) ≡ variablesRecord + lineRecord * lineCount L = omega (arith, length-append first lines, lines-end L, place-is (lineCount L)) in
-      let three = put-then out 0 first variablesRecord lines refl (put-then out 0 (bytes16 4 ++ bytes16 variablesKind) headerSize (bytes32 n) refl e₁ e₂) e₃ in
-      put-then out 0 (first ++ lines) (variablesRecord + lineRecord * lineCount L) (recordOf endKind []) e three e₄ ∙ ap (put out 0) (append-assoc first lines (recordOf endKind []))
+      let behind : 0 + length (first ++ lines) ≡ end = omega (arith, length-append first lines, length-records (linesOf L), variables-record) in
+      let at : 0 + length first ≡ recordSize variablesKind = omega (arith, variables-record) in
+      let three = put-then out 0 first (recordSize variablesKind) lines at (put-then out 0 (bytes16 4 ++ bytes16 variablesKind) headerSize (bytes32 n) refl e₁ e₂) e₃ in
+      put-then out 0 (first ++ lines) end (recordOf endKind []) behind three e₄ ∙ ap (put out 0) (append-assoc first lines (recordOf endKind []))
 
   -- it stands before what was there
-  pub file-before : fileSize (lineCount L) ≤ length out → put out 0 (fileOf n L) ≡ fileOf n L ++ drop (fileSize (lineCount L)) out
+  pub file-before : fileSize L ≤ length out → put out 0 (fileOf n L) ≡ fileOf n L ++ drop (fileSize L) out
   file-before h =
-      let e : 0 + length (fileOf n L) ≡ fileSize (lineCount L) = omega (arith, length-file n L) in
+      let e : 0 + length (fileOf n L) ≡ fileSize L = omega (arith, length-file n L) in
       put-is out 0 (fileOf n L) (omega (arith, e, h)) ∙ ap (λ (k : ℕ). fileOf n L ++ drop k out) e
-
--- ---- the numbers of b's lines
--- where the code reads number i
-pub number-place : (i : ℕ) → variablesRecord + lineRecord * (i / lineSize) + headerSize + 4 * (i % lineSize) ≡ numberPlace i
-number-place i = omega (arith, place-is (i / lineSize))
-
-module _ (b : List ℕ) (d : List ℤ) where
-  -- the first i are read, into the front of d
-  unfoldable pub readNumbers : ℕ → List ℤ
-  readNumbers i = tabulate i (λ k. int32 b (numberPlace k)) ++ drop i d
-
-  pub read-none : d ≡ readNumbers 0
-  unfolding readNumbers
-  read-none = refl
-
-  pub read-more : (i : ℕ) (v : ℤ) → i < length d → v ≡ int32 b (numberPlace i) → set (readNumbers i) i v ≡ readNumbers (i + 1)
-  unfolding readNumbers
-  read-more i v h e =
-      let f : ℕ → ℤ = λ k. int32 b (numberPlace k) in
-      ap (set (tabulate i f ++ drop i d) i) e
-      ∙ grow (tabulate i f) i (f i) v d (length-tabulate i f) h
-      ∙ ap (λ (l : List ℤ). l ++ drop (i + 1) d) (sym (tabulate-more f i))
-
-  pub read-all : (k : ℕ) → readNumbers (lineSize * k) ≡ fileList b k ++ drop (lineSize * k) d
-  unfolding readNumbers fileList
-  read-all k = refl

@@ -8,7 +8,6 @@ use lib.IntN.{ℤ}
 use lib.ListN.{length, drop}
 use Rattle.lines.specs.declared.Validity.{Validity}
 use Rattle.lines.specs.declared.Validity.the-variants as validity
-use Rattle.lines.specs.Line.{lineCount}
 use Rattle.lines.specs.Refusal.{validityOf}
 use Rattle.file_records.specs.declared.FileRefusal.the-variants.{NoRoom, List as OfList}
 use Rattle.file_list.specs.declared.WriteAnswer.{WriteAnswer}
@@ -19,9 +18,9 @@ abbrev pub unlessRefused : Validity → WriteAnswer → WriteAnswer
 unlessRefused validity.Valid a = a
 unlessRefused (validity.Refused r) a = Refused (OfList r)
 
--- 1 to 6; then 25 with place 0; then how many bytes are written
+-- 1 to 6, 13; then 25 with place 0; then how many bytes are written
 unfoldable pub writeAnswer : ℕ → List ℤ → ℕ → WriteAnswer
-writeAnswer n L room = unlessRefused (validityOf n L) (cond (ltb room (fileSize (lineCount L))) (Refused (NoRoom 0)) (Written (fileSize (lineCount L))))
+writeAnswer n L room = unlessRefused (validityOf n L) (cond (ltb room (fileSize L)) (Refused (NoRoom 0)) (Written (fileSize L)))
 
 -- b is what the buffer held before, a what it holds after
 abbrev pub Leaves : ℕ → List ℤ → WriteAnswer → List ℕ → List ℕ → Type 0

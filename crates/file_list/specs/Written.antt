@@ -10,7 +10,6 @@ use lib.ListN.{length, drop}
 use Rattle.lines.specs.declared.Refusal.{Refusal as ListRefusal}
 use Rattle.lines.specs.declared.Validity.{Validity}
 use Rattle.lines.specs.declared.Validity.the-variants as validity
-use Rattle.lines.specs.Line.{lineCount}
 use Rattle.lines.specs.Refusal.{validityOf}
 use Rattle.little_endian.specs.Writing.{put}
 use Rattle.file_records.specs.declared.FileRefusal.the-variants.{NoRoom, List as OfList}
@@ -22,12 +21,12 @@ use Rattle.file_list.specs.Putting.{file-before}
 
 module _ (n : ℕ) (L : List ℤ) (b a : List ℕ) where
   abbrev size : ℕ
-  size = fileSize (lineCount L)
+  size = fileSize L
 
   abbrev bySize : Bool → WriteAnswer
   bySize t = cond t (Refused (NoRoom 0)) (Written size)
 
-  -- 1 to 6
+  -- 1 to 6, 13
   pub list-refused : (r : ListRefusal) → validityOf n L ≡ validity.Refused r → a ≡ b → WriteDone n L (Refused (OfList r)) b a
   unfolding writeAnswer
   list-refused r e h = record { is = sym (ap (λ (v : Validity). unlessRefused v (bySize (ltb (length b) size))) e); leaves = h }

@@ -3,16 +3,18 @@ use mathlib.Core.Bool.{Bool, true, false, not, cond, _&&_}
 use mathlib.Core.List.{List}
 use Prim.Native.Nat.{ℕ, zero, suc, _+_, _*_}
 use lib.Dec.{eqb, ltb}
+use lib.IntN.{pos}
 use lib.ListN.{length}
+use Rattle.integers.specs.Integer.{eqZ}
 use Rattle.lines.specs.Limits.{lineSize}
-use Rattle.little_endian.specs.Bytes.{le32}
+use Rattle.little_endian.specs.Bytes.{le32, int32}
 use Rattle.file_records.specs.declared.BodySize.{BodySize}
 use Rattle.file_records.specs.declared.BodySize.the-variants.{Known, Unknown}
-use Rattle.file_records.specs.declared.FileRefusal.the-variants.{Cut, UnknownKind, WrongLength, OutOfPlace, Trailing, NoRoom}
+use Rattle.file_records.specs.declared.FileRefusal.the-variants.{Cut, UnknownKind, WrongLength, OutOfPlace, Trailing, NoRoom, NoIdentifier}
 use Rattle.file_records.specs.declared.Cursor.{Cursor}
 use Rattle.file_records.specs.declared.Next.{Next}
 use Rattle.file_records.specs.declared.Next.the-variants.{More, End, Refused}
-use Rattle.file_records.specs.Table.{headerSize, variablesKind, lineKind, bodySize, le16}
+use Rattle.file_records.specs.Table.{headerSize, variablesKind, identifiedKind, bodySize, isLine, le16, kindAt, identifierPlace}
 
 -- nothing was read
 abbrev pub start : Cursor
@@ -22,31 +24,35 @@ start = record { at = 0; n = 0; begun = false; lines = 0 }
 abbrev pub outOfPlace : Cursor → ℕ → Bool
 outOfPlace c kind = cond (c .begun) (eqb kind variablesKind) (not (eqb kind variablesKind))
 
+-- 26: a line with its identifier, which is 0
+abbrev pub noIdentifier : List ℕ → ℕ → ℕ → Bool
+noIdentifier b at kind = eqb kind identifiedKind && eqZ (int32 b (identifierPlace at)) (pos 0)
+
 -- 25: a line for which the list's buffer has no room
 abbrev pub noRoom : ℕ → Cursor → ℕ → Bool
-noRoom room c kind = eqb kind lineKind && ltb room (lineSize * (c .lines + 1))
+noRoom room c kind = isLine kind && ltb room (lineSize * (c .lines + 1))
 
 -- a whole record in its place
 unfoldable pub taken : List ℕ → Cursor → ℕ → ℕ → Next
 taken b c kind size =
     cond (eqb kind variablesKind) (More (record { at = c .at + headerSize + size; n = le32 b (c .at + headerSize); begun = true; lines = c .lines }))
-    (cond (eqb kind lineKind) (More (record { at = c .at + headerSize + size; n = c .n; begun = c .begun; lines = c .lines + 1 }))
+    (cond (isLine kind) (More (record { at = c .at + headerSize + size; n = c .n; begun = c .begun; lines = c .lines + 1 }))
     (End (record { at = c .at + headerSize + size; n = c .n; begun = c .begun; lines = c .lines })))
 
--- 22, 20 for a cut body, 23, 25; or the record is taken
+-- 22, 20 for a cut body, 23, 26, 25; or the record is taken
 abbrev pub sized : List ℕ → ℕ → Cursor → ℕ → BodySize → Next
 sized b room c kind Unknown = Refused (UnknownKind (c .at))
 sized b room c kind (Known size) =
     cond (not (eqb (le16 b (c .at)) size)) (Refused (WrongLength (c .at)))
     (cond (ltb (length b) (c .at + headerSize + size)) (Refused (Cut (c .at)))
     (cond (outOfPlace c kind) (Refused (OutOfPlace (c .at)))
-    (cond (noRoom room c kind) (Refused (NoRoom (c .at))) (taken b c kind size))))
+    (cond (noIdentifier b (c .at) kind) (Refused (NoIdentifier (c .at)))
+    (cond (noRoom room c kind) (Refused (NoRoom (c .at))) (taken b c kind size)))))
 
 -- the record at the cursor: 20 for a cut header and 21 go first
 unfoldable pub nextRecord : List ℕ → ℕ → Cursor → Next
 nextRecord b room c =
-    cond (ltb (length b) (c .at + headerSize)) (Refused (Cut (c .at)))
-    (sized b room c (le16 b (c .at + 2)) (bodySize (le16 b (c .at + 2))))
+    cond (ltb (length b) (c .at + headerSize)) (Refused (Cut (c .at))) (sized b room c (kindAt b (c .at)) (bodySize (kindAt b (c .at))))
 
 -- records until the end or a refusal; each takes bytes, so that there are no more of them than bytes
 abbrev pub onward : (Cursor → Next) → Next → Next

@@ -8,14 +8,14 @@ use lib.IntN.{ℤ}
 use lib.ListN.{length, take}
 use lib.Seq.{take-take}
 use Rattle.lines.specs.Limits.{lineSize}
-use Rattle.file_records.specs.Table.{recordPlace}
+use Rattle.file_records.specs.Table.{variablesKind, identifiedKind, recordSize}
 use Rattle.file_list.specs.Back.{is-read}
 use Rattle.file_list.specs.Front.{same-read, same-list}
 use Rattle.file_report.specs.Report.{mostVariables, mostLines, Decided, Reported, refused, decided}
 
--- the bytes of the most lines and of one line more: then the first refusal, or the end and a byte after it, has been seen
+-- the bytes of the most lines and of one line more, each the longest: then the first refusal, or the end and a byte after it, has been seen
 abbrev pub inputSize : ℕ
-inputSize = recordPlace (mostLines + 1)
+inputSize = recordSize variablesKind + recordSize identifiedKind * (mostLines + 1)
 
 -- inputs with the same front of that many bytes, or more, are reported alike
 pub same-front : (k : ℕ) → inputSize ≤ k → (b d : List ℕ) → take k b ≡ take k d → {T : List ℕ} → Reported b T → Reported d T

@@ -23,7 +23,8 @@ use Rattle.decide.specs.declared.Answer.{Answer}
 use Rattle.decide.specs.declared.Answer.the-variants as answer
 use Rattle.decide.specs.Decided.{unlessRefused, decideAnswer, answerFor, OnYes, OnNo, validityFor, ok-decide}
 use Rattle.decide.specs.Decided as decide
-use Rattle.decide.specs.Parts.{stated, yes-verdict, no-verdict, stated-length, model-in, bounds-in, groups-in, refutation-in}
+use Rattle.check_soundness.specs.Refutes.{stated-length}
+use Rattle.decide.specs.Parts.{stated, yes-verdict, no-verdict, model-in, bounds-in, groups-in, refutation-in}
 use Rattle.file_records.specs.declared.FileRefusal.{FileRefusal}
 use Rattle.file_records.specs.Refusal.{fileNumber, filePlace}
 use Rattle.file_list.specs.declared.Listed.{Listed}

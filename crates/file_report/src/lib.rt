@@ -4,6 +4,7 @@ use decide::Answer;
 use decide::decide;
 use decide_buffers::FEW_BOUNDS;
 use decide_buffers::FEW_GROUPS;
+use decide_buffers::FEW_IDENTIFIERS;
 use decide_buffers::FEW_MODEL;
 use decide_buffers::FEW_REFUTATION;
 use decide_buffers::FEW_VARIABLES;
@@ -11,7 +12,7 @@ use decide_buffers::FEW_WORK;
 use decide_buffers::bounds_room;
 use decide_buffers::groups_room;
 use decide_buffers::model_room;
-use file_list::LINE_RECORD;
+use file_list::LONGEST_LINE_RECORD;
 use file_list::ReadAnswer;
 use file_list::VARIABLES_RECORD;
 use file_list::read_within;
@@ -34,8 +35,8 @@ const MOST_VARIABLES: usize = FEW_VARIABLES;
 const MOST_LINES: usize = 256;
 // The numbers of so many lines.
 const MOST_NUMBERS: usize = LINE_SIZE * MOST_LINES;
-// Nothing beyond the bytes of so many lines, and of one line more, is looked at.
-pub const INPUT_SIZE: usize = VARIABLES_RECORD + LINE_RECORD * (MOST_LINES + 1);
+// Nothing beyond the bytes of so many lines, and of one line more, is looked at, each as long as a line can be.
+pub const INPUT_SIZE: usize = VARIABLES_RECORD + LONGEST_LINE_RECORD * (MOST_LINES + 1);
 // The text of so many variables takes less.
 pub const TEXT_SIZE: usize = 2_048;
 
@@ -57,6 +58,7 @@ fn report_list(n: usize, list: &[i32], text: &mut [u8]) -> usize
     let mut bounds = [0i64; FEW_BOUNDS];
     let mut groups = [0u32; FEW_GROUPS];
     let mut refutation = [0u32; FEW_REFUTATION];
+    let mut identifiers = [0u32; FEW_IDENTIFIERS];
     let mut work = [0i64; FEW_WORK];
     let answer = decide(
         n,
@@ -65,6 +67,7 @@ fn report_list(n: usize, list: &[i32], text: &mut [u8]) -> usize
         &mut bounds,
         &mut groups,
         &mut refutation,
+        &mut identifiers,
         &mut work,
     );
     match answer {

@@ -6,3 +6,4 @@ pub mod Bits
 pub mod Table
 pub mod Sequence
 pub mod Lowest
+pub mod Fill

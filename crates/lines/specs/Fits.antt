@@ -21,7 +21,7 @@ use Rattle.lines.specs.Limits.{lineSize, maxVariables, maxConstant}
 use Rattle.lines.specs.Line.{number, lineNumbers, lineAt, lineCount}
 use Rattle.lines.specs.LineNumbers.{length-numbers, number-at}
 use Rattle.lines.specs.Refusal.{variableOk, lineValidity, validityOf}
-use Rattle.lines.specs.Valid.{ListOk, line-variables, line-ok, valid-list}
+use Rattle.lines.specs.Valid.{IdentifierOk, ListOk, line-variables, line-ok, valid-list}
 
 within-fits : (m : ℕ) (z : ℤ) → m ≤ maxConstant → Within m z → SFits w32 z
 within-fits m z l h = given₂ (h .low) (h .high) (simp ints (omega arith))
@@ -35,6 +35,9 @@ variable-fits n a x h = go (eqZ a (pos 0))
     go false e =
         let t = and-true (leZ (pos 0) x) (ltZ x (pos n)) e in
         given₂ (t .0) (t .1) (simp ints (omega arith))
+
+identifier-fits : (i : ℤ) → IdentifierOk i → SFits w32 i
+identifier-fits i h = given₂ (h .low) (h .high) (simp ints (omega arith))
 
 -- each number of a list
 abbrev Each : (ℤ → Type 0) → List ℤ → Type 0
@@ -53,7 +56,7 @@ line-fits n k l few e =
     let ok = line-ok n k l e in
     let v = line-variables n k l e in (
       within-fits 1 _ (omega arith) (ok .coefficient-a),
-      (variable-fits n _ _ few (v .0), (within-fits 1 _ (omega arith) (ok .coefficient-b), (variable-fits n _ _ few (v .1), (within-fits maxConstant _ (omega arith) (ok .constant), tt)))),
+      (variable-fits n _ _ few (v .0), (within-fits 1 _ (omega arith) (ok .coefficient-b), (variable-fits n _ _ few (v .1), (within-fits maxConstant _ (omega arith) (ok .constant), (identifier-fits _ (ok .identifier), tt))))),
     )
 
 module _ (n : ℕ) (L : List ℤ) (v : validityOf n L ≡ Valid) where

@@ -8,3 +8,4 @@ pub mod Valid
 pub mod Fits
 pub mod Solutions
 pub mod Places
+pub mod Bare

@@ -4,7 +4,11 @@ use lib.IntN.{ℤ, pos, negsuc}
 
 -- how many numbers a line has: `lineNumbers` gives them
 abbrev pub lineSize : ℕ
-lineSize = 5
+lineSize = 6
+
+-- how many of them come before the identifier, which is the last
+abbrev pub bareSize : ℕ
+bareSize = lineSize - 1
 
 -- the most variables
 abbrev pub maxVariables : ℕ
@@ -17,6 +21,10 @@ maxLines = 4_096
 -- a line's d lies within plus and minus this
 abbrev pub maxConstant : ℕ
 maxConstant = 1_000_000
+
+-- the greatest identifier of a message: 29 bits
+abbrev pub maxIdentifier : ℕ
+maxIdentifier = 536_870_911
 
 -- a proposed model's values lie within plus and minus this
 abbrev pub maxValue : ℕ

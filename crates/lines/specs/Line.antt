@@ -16,11 +16,11 @@ number L i = getD L i (pos 0)
 
 -- the numbers of a line, in their order: the one place that lists them
 unfoldable pub lineNumbers : Line → List ℤ
-lineNumbers l = l .a ∷ l .x ∷ l .b ∷ l .y ∷ l .d ∷ []
+lineNumbers l = l .a ∷ l .x ∷ l .b ∷ l .y ∷ l .d ∷ l .identifier ∷ []
 
 -- the line with whose numbers a list begins: its inverse (specs/LineNumbers.antt)
 abbrev pub lineOf : List ℤ → Line
-lineOf ns = record { a = number ns 0; x = number ns 1; b = number ns 2; y = number ns 3; d = number ns 4 }
+lineOf ns = record { a = number ns 0; x = number ns 1; b = number ns 2; y = number ns 3; d = number ns 4; identifier = number ns 5 }
 
 -- line number k: its numbers as they stand in the list
 unfoldable pub lineAt : List ℤ → ℕ → Line

@@ -7,7 +7,7 @@ use borrow.Author.Tests.{ltb-true}
 use lib.Dec.{eqb, ltb}
 use Rattle.integers.specs.Laws.{and-true}
 use Rattle.lines.specs.declared.Refusal.{Refusal}
-use Rattle.lines.specs.declared.Refusal.the-variants.{TooManyVariables, BrokenLength, TooManyLines, BadCoefficient, BadVariable, BadConstant, ShortOutput, ShortWorkArea, WrongModelLength, BadValue, LongRefutation}
+use Rattle.lines.specs.declared.Refusal.the-variants.{TooManyVariables, BrokenLength, TooManyLines, BadCoefficient, BadVariable, BadConstant, ShortOutput, ShortWorkArea, WrongModelLength, BadValue, LongRefutation, BadIdentifier}
 use Rattle.lines.specs.Refusal.{numberOf, placeOf}
 
 -- every refusal, at place k
@@ -24,6 +24,7 @@ allAt k =
     ∷ WrongModelLength
     ∷ BadValue k
     ∷ LongRefutation
+    ∷ BadIdentifier k
     ∷ []
 
 -- the first of some that has this number
@@ -50,6 +51,7 @@ known ShortWorkArea = (refl, refl)
 known WrongModelLength = (refl, refl)
 known (BadValue k) = (refl, refl)
 known LongRefutation = (refl, refl)
+known (BadIdentifier k) = (refl, refl)
 
 pub number-some : (r : Refusal) → 0 < numberOf r
 number-some r = ltb-true _ _ (and-true (ltb 0 (numberOf r)) (ltb (numberOf r) 100) (known r .1) .0)

@@ -1,4 +1,4 @@
--- The specification's refusals of a list, 1 to 6: the first that applies.
+-- The specification's refusals of a list: the first that applies.
 use mathlib.Core.Bool.{Bool, true, false, not, cond, _&&_}
 use mathlib.Core.List.{List, [], _∷_}
 use Prim.Native.Nat.{ℕ, _+_, _%_}
@@ -6,14 +6,14 @@ use lib.Dec.{ltb, eqb}
 use lib.IntN.{ℤ, pos}
 use lib.ListN.{length}
 use lib.Signed.{leZ, ltZ}
-use Rattle.integers.specs.Integer.{eqZ, isWithin}
+use Rattle.integers.specs.Integer.{eqZ, isBetween, isWithin}
 use Rattle.lines.specs.declared.Line.{Line}
 use Rattle.lines.specs.declared.Numbered.{Numbered}
 use Rattle.lines.specs.declared.Refusal.{Refusal}
-use Rattle.lines.specs.declared.Refusal.the-variants.{TooManyVariables, BrokenLength, TooManyLines, BadCoefficient, BadVariable, BadConstant, ShortOutput, ShortWorkArea, WrongModelLength, BadValue, LongRefutation}
+use Rattle.lines.specs.declared.Refusal.the-variants.{TooManyVariables, BrokenLength, TooManyLines, BadCoefficient, BadVariable, BadConstant, ShortOutput, ShortWorkArea, WrongModelLength, BadValue, LongRefutation, BadIdentifier}
 use Rattle.lines.specs.declared.Validity.{Validity}
 use Rattle.lines.specs.declared.Validity.the-variants.{Valid, Refused}
-use Rattle.lines.specs.Limits.{lineSize, maxVariables, maxLines, maxConstant}
+use Rattle.lines.specs.Limits.{lineSize, maxVariables, maxLines, maxConstant, maxIdentifier}
 use Rattle.lines.specs.Line.{lineCount, linesOf}
 
 abbrev pub numberedAt : ℕ → ℕ → Numbered
@@ -32,6 +32,7 @@ numberAndPlace ShortWorkArea = numberedAt 8 0
 numberAndPlace WrongModelLength = numberedAt 9 0
 numberAndPlace (BadValue k) = numberedAt 10 k
 numberAndPlace LongRefutation = numberedAt 11 0
+numberAndPlace (BadIdentifier k) = numberedAt 13 k
 
 abbrev pub numberOf : Refusal → ℕ
 numberOf r = numberAndPlace r .number
@@ -66,17 +67,22 @@ variablesOk n l = variableOk n (l .a) (l .x) && variableOk n (l .b) (l .y)
 unfoldable pub constantOk : Line → Bool
 constantOk l = isWithin maxConstant (l .d)
 
+-- 13: the identifier is from 0 to its limit
+unfoldable pub identifierOk : Line → Bool
+identifierOk l = isBetween (pos 0) (pos maxIdentifier) (l .identifier)
+
 -- a rule of a line among n variables, and the refusal of line number k that breaks it
 pub record Rule : Type 0 where
   pub ok : ℕ → Line → Bool
   pub refusal : ℕ → Refusal
 
--- within a line 4, 5, 6
+-- within a line 4, 5, 6, 13
 abbrev pub lineRules : List Rule
 lineRules =
     record { ok = λ n l. coefficientsOk l; refusal = BadCoefficient }
     ∷ record { ok = variablesOk; refusal = BadVariable }
     ∷ record { ok = λ n l. constantOk l; refusal = BadConstant }
+    ∷ record { ok = λ n l. identifierOk l; refusal = BadIdentifier }
     ∷ []
 
 -- the first rule that line number k breaks

@@ -10,18 +10,18 @@ use lib.Dec.{ltb, eqb}
 use lib.IntN.{ℤ, pos, natAbs}
 use lib.ListN.{length, drop}
 use lib.Signed.{leZ, ltZ}
-use Rattle.integers.specs.Integer.{_⩽_, _⋖_, eqZ, isWithin, Within}
+use Rattle.integers.specs.Integer.{_⩽_, _⋖_, eqZ, isBetween, isWithin, Within}
 use Rattle.integers.specs.Linear.{ints, given, given₂}
 use Rattle.integers.specs.Laws.{never, and-true, is-within, ne-eqZ}
 use Rattle.integers.specs.Sequence.{tabulate}
 use Rattle.lines.specs.declared.Line.{Line}
 use Rattle.lines.specs.declared.Refusal.{Refusal}
-use Rattle.lines.specs.declared.Refusal.the-variants.{TooManyVariables, BrokenLength, TooManyLines, BadCoefficient, BadVariable, BadConstant}
+use Rattle.lines.specs.declared.Refusal.the-variants.{TooManyVariables, BrokenLength, TooManyLines, BadCoefficient, BadVariable, BadConstant, BadIdentifier}
 use Rattle.lines.specs.declared.Validity.{Validity}
 use Rattle.lines.specs.declared.Validity.the-variants.{Valid, Refused}
-use Rattle.lines.specs.Limits.{lineSize, maxVariables, maxLines, maxConstant}
+use Rattle.lines.specs.Limits.{lineSize, maxVariables, maxLines, maxConstant, maxIdentifier}
 use Rattle.lines.specs.Line.{lineAt, lineCount, linesOf}
-use Rattle.lines.specs.Refusal.{numberOf, _orElse_, refuseIf, coefficientsOk, variableOk, variablesOk, constantOk, Rule, lineRules, firstBroken, ruleOf, lineValidity, linesValidity, validityOf}
+use Rattle.lines.specs.Refusal.{numberOf, _orElse_, refuseIf, coefficientsOk, variableOk, variablesOk, constantOk, identifierOk, Rule, lineRules, firstBroken, ruleOf, lineValidity, linesValidity, validityOf}
 use Rattle.lines.specs.Laws.{validity-from}
 use Rattle.lines.specs.LineNumbers.{count-append, lines-append}
 
@@ -32,12 +32,17 @@ pub record VariableOk (n : ℕ) (x : ℤ) : Type 0 where
 pub variable-lt : (n : ℕ) (x : ℤ) → VariableOk n x → natAbs x < n
 variable-lt n x h = given₂ (h .low) (h .high) (simp ints (omega arith))
 
+pub record IdentifierOk (i : ℤ) : Type 0 where
+  pub low : pos 0 ⩽ i
+  pub high : i ⩽ pos maxIdentifier
+
 pub record LineOk (n : ℕ) (l : Line) : Type 0 where
   pub coefficient-a : Within 1 (l .a)
   pub coefficient-b : Within 1 (l .b)
   pub variable-x : (l .a ≡ pos 0 → ⊥) → VariableOk n (l .x)
   pub variable-y : (l .b ≡ pos 0 → ⊥) → VariableOk n (l .y)
   pub constant : Within maxConstant (l .d)
+  pub identifier : IdentifierOk (l .identifier)
 
 -- every line obeys the rules
 abbrev pub LinesOk : ℕ → List ℤ → Type 0
@@ -62,6 +67,11 @@ variable-ok : (n : ℕ) (a x : ℤ) → variableOk n a x ≡ true → (a ≡ pos
 unfolding variableOk
 variable-ok n a x e h =
     let t = and-true (leZ (pos 0) x) (ltZ x (pos n)) (ap (λ (b : Bool). cond b (eqZ x (pos 0)) (leZ (pos 0) x && ltZ x (pos n))) (sym (ne-eqZ a (pos 0) h)) ∙ e) in
+    record { low = given (t .0) (simp ints (omega arith)); high = given (t .1) (simp ints (omega arith)) }
+
+identifier-ok : (i : ℤ) → isBetween (pos 0) (pos maxIdentifier) i ≡ true → IdentifierOk i
+identifier-ok i e =
+    let t = and-true (leZ (pos 0) i) (leZ i (pos maxIdentifier)) e in
     record { low = given (t .0) (simp ints (omega arith)); high = given (t .1) (simp ints (omega arith)) }
 
 -- the rules of a line that none breaks
@@ -96,7 +106,7 @@ unfolding variablesOk
 line-variables n k l e = and-true (variableOk n (l .a) (l .x)) (variableOk n (l .b) (l .y)) (rule-holds n k l BadVariable e)
 
 pub line-ok : (n k : ℕ) (l : Line) → lineValidity n k l ≡ Valid → LineOk n l
-unfolding coefficientsOk constantOk
+unfolding coefficientsOk constantOk identifierOk
 line-ok n k l e =
     let c = and-true (isWithin 1 (l .a)) (isWithin 1 (l .b)) (rule-holds n k l BadCoefficient e) in
     let v = line-variables n k l e in
@@ -106,6 +116,7 @@ line-ok n k l e =
       variable-x = variable-ok n (l .a) (l .x) (v .0);
       variable-y = variable-ok n (l .b) (l .y) (v .1);
       constant = is-within maxConstant (l .d) (rule-holds n k l BadConstant e);
+      identifier = identifier-ok (l .identifier) (rule-holds n k l BadIdentifier e);
     }
 
 module _ (n : ℕ) (L : List ℤ) (e : linesValidity n 0 (linesOf L) ≡ Valid) where
@@ -165,6 +176,7 @@ lines-more n m L h ok k l =
       variable-x = λ z. variable-more n m _ h (o .variable-x z);
       variable-y = λ z. variable-more n m _ h (o .variable-y z);
       constant = o .constant;
+      identifier = o .identifier;
     }
 
 variable-ok-more : (n m : ℕ) (a x : ℤ) → n ≤ m → variableOk n a x ≡ true → variableOk m a x ≡ true

@@ -4,6 +4,7 @@ pub mod limits;
 use integers::between;
 use limits::LINE_SIZE;
 use limits::MAX_CONSTANT;
+use limits::MAX_IDENTIFIER;
 use limits::MAX_LINES;
 use limits::MAX_VARIABLES;
 ghost use mathlib.Core.Path.{_≡_};
@@ -11,16 +12,18 @@ ghost use mathlib.Core.Bool.{not};
 ghost use Prim.Native.Nat.{_<_, _≤_};
 ghost use Rattle.lines.specs.Limits.{maxVariables};
 ghost use Rattle.lines.specs.Line.{lineAt, lineCount, linesOf, isFalse};
-ghost use Rattle.lines.specs.Refusal.{numberOf, placeOf, _orElse_, refuseIf, coefficientsOk, variableOk, variablesOk, constantOk, lineValidity, linesValidity, validityOf};
+ghost use Rattle.lines.specs.Refusal.{numberOf, placeOf, _orElse_, refuseIf, coefficientsOk, variableOk, variablesOk, constantOk, identifierOk, lineValidity, linesValidity, validityOf};
 ghost use Rattle.integers.specs.Integer.{isBetween};
 
-// One line: a·x + b·y <= d. x and y are the numbers of variables (the field's term: a UTVPI constraint).
+// One line: a·x + b·y <= d. x and y are the numbers of variables (the field's term: a UTVPI constraint). The identifier is that of the message
+// which the line came from.
 pub struct Line {
     pub a: i32,
     pub x: i32,
     pub b: i32,
     pub y: i32,
     pub d: i32,
+    pub identifier: i32,
 }
 
 // The specification's refusals, in the order of their numbers, each with its place where it has one.
@@ -36,6 +39,7 @@ pub enum Refusal {
     WrongModelLength,
     BadValue(usize),
     LongRefutation,
+    BadIdentifier(usize),
 }
 
 // Whether something is refused, and by what.
@@ -73,6 +77,7 @@ pub fn number_and_place(r: Refusal) -> Numbered
         Refusal::WrongModelLength => numbered_at(9, 0),
         Refusal::BadValue(k) => numbered_at(10, k),
         Refusal::LongRefutation => numbered_at(11, 0),
+        Refusal::BadIdentifier(k) => numbered_at(13, k),
     }
 }
 
@@ -88,6 +93,7 @@ pub fn line_at(list: &[i32], k: usize) -> Line
         b: list[at + 2],
         y: list[at + 3],
         d: list[at + 4],
+        identifier: list[at + 5],
     }
 }
 
@@ -131,6 +137,13 @@ fn constant_ok(line: Line) -> bool
     in_range(-MAX_CONSTANT, MAX_CONSTANT, line.d)
 }
 
+// Rule 13: the identifier is compared as the signed number that it is.
+fn identifier_ok(line: Line) -> bool
+    ensures { λ r. ⌜ r ≡ identifierOk line ⌝ }
+{
+    in_range(0, MAX_IDENTIFIER, line.identifier)
+}
+
 // What was found before, or else the refusal of a rule that is broken.
 fn or_unless(found: Validity, ok: bool, r: Refusal) -> Validity
     ensures { λ v. ⌜ v ≡ (found orElse refuseIf (not ok) r) ⌝ }
@@ -153,6 +166,7 @@ pub fn line_validity(n: usize, k: usize, line: Line) -> Validity
     let found = or_unless(found, coefficients_ok(line), Refusal::BadCoefficient(k));
     let found = or_unless(found, variables_ok(n, line), Refusal::BadVariable(k));
     let found = or_unless(found, constant_ok(line), Refusal::BadConstant(k));
+    let found = or_unless(found, identifier_ok(line), Refusal::BadIdentifier(k));
     found
 }
 
@@ -173,7 +187,7 @@ fn lines_validity(n: usize, list: &[i32]) -> Validity
     Validity::Valid
 }
 
-// The first of refusals 1 to 6 that applies to a list for n variables.
+// The first refusal that applies to a list for n variables.
 pub fn list_validity(n: usize, list: &[i32]) -> Validity
     ensures { λ r. ⌜ r ≡ validityOf n (now (list .entry)) ⌝ }
 {

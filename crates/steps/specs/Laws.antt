@@ -1,25 +1,27 @@
 -- What the code and its callers use of a line's step: when there is one, that its ends are right, and that its weight is small.
 use mathlib.Core.Path.{_≡_, refl, sym, subst}
 use mathlib.Core.Bool.{Bool, true, false, not, cond}
-use mathlib.Core.List.{List, _++_}
-use Prim.Native.Nat.{ℕ, zero, suc, _+_, _/_, _%_, _<_}
+use mathlib.Core.List.{List, [], _∷_, _++_}
+use Prim.Native.Nat.{ℕ, zero, suc, _+_, _*_, _/_, _%_, _<_}
 use native.Mathlib.Omega.{arith}
 use borrow.Author.Tests.{lt-ltb, ltb-true, eq-eqb, ne-eqb}
 use lib.Dec.{T, eqb, ltb}
 use lib.IntN.{ℤ, pos, _*ℤ_}
-use lib.ListN.{length}
+use lib.ListN.{length, getD}
 use Rattle.integers.specs.Integer.{Within}
 use Rattle.integers.specs.Linear.{ints, zs}
 use Rattle.integers.specs.Laws.{never, and-true}
 use Rattle.lines.specs.declared.Line.{Line}
 use Rattle.lines.specs.Limits.{lineSize, maxConstant}
-use Rattle.lines.specs.Line.{lineAt, lineCount}
+use Rattle.lines.specs.Line.{lineNumbers, lineAt, lineCount}
+use Rattle.lines.specs.Bare.{bare}
 use Rattle.lines.specs.Valid.{VariableOk, LineOk}
 use Rattle.lines.specs.LineNumbers.{count-append, line-left}
 use Rattle.steps.specs.declared.Step.{Step}
 use Rattle.steps.specs.declared.NamedStep.the-variants.{Found, Nothing}
 use Rattle.steps.specs.Table.{entry, cell, digit, isEnd, CellRule, rule-at, digit-lt}
 use Rattle.steps.specs.Step.{maxWeight, variableAt, stepWith, stepOf, stepNumbered, NamedOk}
+use Rattle.steps.specs.Walk.{Names}
 
 module _ (l : Line) (side : ℕ) where
   abbrev c : ℕ
@@ -59,6 +61,11 @@ weight-within (suc (suc (suc k))) d h w = absurd (omega arith)
 found-is : {t u : Step} → Found t ≡ Found u → t ≡ u
 found-is e = cc
 
+-- no step looks at the identifier of its line
+pub step-blind : (side : ℕ) (l : Line) → stepOf (bare l) side ≡ stepOf l side
+unfolding stepOf bare lineNumbers
+step-blind side l = refl
+
 pub line-weight : (n : ℕ) (l : Line) (side : ℕ) (t : Step) → LineOk n l → side < 2 → stepOf l side ≡ Found t → Within maxWeight (t .weight)
 unfolding stepOf
 line-weight n l side t ok h e = go (eqb (entry (c l side + 2)) 0) e
@@ -87,3 +94,23 @@ numbered-longer L M k t whole e = go (ltb (k / 2) (lineCount L)) refl e
         let h′ : k / 2 < lineCount (L ++ M) = omega (arith, count-append L M whole) in
         rw (lt-ltb _ _ h′, line-left L M whole (k / 2) h) q
     go false i q = never (cc)
+
+-- ---- the step with a number
+-- it is the step of a side of one of the list's lines
+pub from-line : (L : List ℤ) (k : ℕ) (t : Step) → stepNumbered L k ≡ Found t → (k / 2 < lineCount L) × (stepOf (lineAt L (k / 2)) (k % 2) ≡ Found t)
+unfolding stepNumbered
+from-line L k t e = go (ltb (k / 2) (lineCount L)) refl e
+  where
+    go : (b : Bool) → ltb (k / 2) (lineCount L) ≡ b → cond b (stepOf (lineAt L (k / 2)) (k % 2)) Nothing ≡ Found t → (k / 2 < lineCount L) × (stepOf (lineAt L (k / 2)) (k % 2) ≡ Found t)
+    go true i q = (ltb-true _ _ i, q)
+    go false i q = never (cc)
+
+pub number-below : (L : List ℤ) (k : ℕ) (t : Step) → stepNumbered L k ≡ Found t → k < 2 * lineCount L
+number-below L k t e = omega (arith, from-line L k t e .0)
+
+-- every number that names a step is below twice the number of lines
+pub names-below : (L : List ℤ) (ks : List ℕ) (ts : List Step) → Names L ks ts → (i : ℕ) → i < length ks → getD ks i 0 < 2 * lineCount L
+names-below L [] ts a i h = absurd (omega arith)
+names-below L (k ∷ ks) [] a i h = absurd a
+names-below L (k ∷ ks) (t ∷ ts) a zero h = number-below L k t (a .0)
+names-below L (k ∷ ks) (t ∷ ts) a (suc i) h = names-below L ks ts (a .1) i (omega arith)

@@ -28,6 +28,12 @@ Names L [] (t ∷ ts) = ⊥
 Names L (k ∷ ks) [] = ⊥
 Names L (k ∷ ks) (t ∷ ts) = (stepNumbered L k ≡ Found t) × Names L ks ts
 
+pub names-append : (L : List ℤ) (ks ls : List ℕ) (ss ts : List Step) → Names L ks ss → Names L ls ts → Names L (ks ++ ls) (ss ++ ts)
+names-append L [] ls [] ts a b = b
+names-append L [] ls (s ∷ ss) ts a b = absurd a
+names-append L (k ∷ ks) ls [] ts a b = absurd a
+names-append L (k ∷ ks) ls (s ∷ ss) ts a b = (a .0, names-append L ks ls ss ts (a .1) b)
+
 -- each of the steps holds
 abbrev pub AllSay : Assignment → List Step → Type 0
 AllSay s [] = Unit {0}

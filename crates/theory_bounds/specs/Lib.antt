@@ -10,3 +10,4 @@ pub mod Table
 pub mod Verdict
 pub mod Answers
 pub mod Agree
+pub mod Bare

@@ -9,7 +9,7 @@ use Rattle.c_deciding.proofs.utvpi_decide.Tie as tie
 
 -- what deciding promised, seen from the end
 abbrev decided : tie.After-work → tie.After-decide
-decided c = c .before .before .before .before .before .before .before
+decided c = c .before .before .before .before .before .before .before .before .before
 
 decide-code-requires : tie.Need-decide-code-requires
 decide-code-requires c κs = decided-below (decided c .decide .ensures)
@@ -23,6 +23,7 @@ utvpi-decide-spec =
     (tie.spec
     (λ c. omega arith)
     decide-code-requires
+    (λ c. omega arith)
     (λ c. omega arith)
     (λ c. omega arith)
     (λ c. omega arith)

@@ -5,17 +5,17 @@ use borrow.Author.Needs.{needs}
 use Rattle.lines.specs.declared.Validity.the-variants.{Valid}
 use Rattle.decide_buffers.specs.Room.{Lent}
 use Rattle.decide.specs.Searched.{part-is}
-use Rattle.decide.specs.Decided.{validityFor, refused, search-ready, room-left, few, table-fits, start-small, decided-no, answers-ready, decided-yes}
+use Rattle.decide.specs.Decided.{validityFor, refused, search-ready, room-left, few, table-fits, start-small, identifiers-ready, decided-no, answers-ready, decided-yes}
 use Rattle.decide.proofs.decide.Statement.{statement}
 use Rattle.decide.proofs.decide.Tie as tie
 
 -- the start, and what the buffers held
 module _ (v : tie.After-decide-validity) where
   abbrev s : tie.Start
-  s = v .before .before .before
+  s = v .before .before .before .before
 
   abbrev lent : Lent
-  lent = record { model = s .args .model .now; bounds = s .args .bounds .now; groups = s .args .groups .now; refutation = s .args .refutation .now; work = s .args .work .now }
+  lent = record { model = s .args .model .now; bounds = s .args .bounds .now; groups = s .args .groups .now; refutation = s .args .refutation .now; identifiers = s .args .identifiers .now; work = s .args .work .now }
 
 returns : tie.Need-returns
 returns c =
@@ -44,17 +44,30 @@ module _ (r : tie.After-refuted) where
   abbrev room : tie.After-work-room
   room = r .before .before .before
 
+-- the search found a refutation
+abbrev refuted-at : tie.Then1 → tie.After-refuted
+refuted-at i = i .before .before .before .before
+
+write-identifiers-requires : tie.Need-write-identifiers-requires
+write-identifiers-requires c κs =
+    let i = c .before .before in
+    let r = refuted-at i in
+    identifiers-ready _ _ (lent (v (told r))) (valid (told r)) _ _ (r .refuted .ensures) (i .if1 .taken)
+
 clear-requires : tie.Need-clear-requires
 clear-requires c κs =
-    let r = c .before .before .before .before .before in
+    let w = c .before .before .before in
+    let r = refuted-at (w .before .before .before) in
     rw (room r .work-room .ensures) (room-left _ _ (lent (v (told r))) (valid (told r)) (r .refuted .ensures))
 
 returns-2 : tie.Need-returns-2
 returns-2 c =
     let k = c .before in
-    let i = k .before .before in
-    let r = i .before .before .before .before in
-    decided-no _ _ (lent (v (told r))) (valid (told r)) _ _ (rw (i .if1 .taken) at (r .refuted .ensures)) _ (rw (room r .work-room .ensures) at (k .clear .ensures))
+    let w = k .before .before .before .before in
+    let i = w .before .before .before in
+    let r = refuted-at i in
+    decided-no _ _ (lent (v (told r))) (valid (told r)) _ _ (r .refuted .ensures) (i .if1 .taken) _ (w .write-identifiers .ensures)
+    _ (rw (room r .work-room .ensures) at (k .clear .ensures))
 
 same-length : tie.Need-same-length
 same-length c = search needs
@@ -100,6 +113,9 @@ same-length-6 c = search needs
 same-length-7 : tie.Need-same-length-7
 same-length-7 c = search needs
 
+same-length-8 : tie.Need-same-length-8
+same-length-8 c = search needs
+
 returns-3 : tie.Need-returns-3
 returns-3 c =
     let k = c .before in
@@ -119,9 +135,11 @@ decide-spec =
     (search needs)
     work-room-requires
     refuted-requires
+    write-identifiers-requires
     clear-requires
     same-length
     same-length-2
+    same-length-3
     returns-2
     (search needs)
     (search needs)
@@ -134,9 +152,9 @@ decide-spec =
     part-write-answers-end
     write-answers-requires
     clear-requires-2
-    same-length-3
     same-length-4
     same-length-5
     same-length-6
     same-length-7
+    same-length-8
     returns-3)

@@ -12,7 +12,7 @@ use mir.Val.{toZ, ofZ}
 use Rattle.integers.specs.Bits.{kept}
 use Rattle.theory_bounds.specs.Answers.{boundAt}
 use Rattle.decide_stored_table.specs.Table.{tableOf}
-use Rattle.decide_bounds_groups.specs.Fill.{filled, filled-none, filled-more}
+use Rattle.integers.specs.Fill.{filled, filled-none, filled-more}
 use Rattle.decide_bounds_groups.proofs.write_bounds.Statement.{statement}
 use Rattle.decide_bounds_groups.proofs.write_bounds.Tie as tie
 

@@ -8,7 +8,7 @@ use denote.Ref.{now}
 use lib.ListN.{length, set}
 use Rattle.theory_bounds.specs.Answers.{sameGroup, groupAt}
 use Rattle.decide_stored_table.specs.Table.{tableOf}
-use Rattle.decide_bounds_groups.specs.Fill.{filled, filled-none, filled-more}
+use Rattle.integers.specs.Fill.{filled, filled-none, filled-more}
 use Rattle.integers.specs.Lowest.{lowest-at-most}
 use Rattle.decide_bounds_groups.proofs.write_groups.Statement.{statement}
 use Rattle.decide_bounds_groups.proofs.write_groups.Tie as tie

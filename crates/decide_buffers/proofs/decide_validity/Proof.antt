@@ -26,6 +26,7 @@ module _ (v : tie.After-list-validity) where
         bounds = v .before .args .bounds;
         groups = v .before .args .groups;
         refutation = v .before .args .refutation;
+        identifiers = v .before .args .identifiers;
         work = v .before .args .work;
       }
 

@@ -4,7 +4,7 @@ use mathlib.Core.Bool.{false}
 use borrow.Author.Needs.{needs}
 use borrow.Author.Tests.{lt-ltb, le-ltb}
 use lib.Dec.{ltb}
-use Rattle.decide_buffers.specs.Room.{modelRoom, boundsRoom, groupsRoom, refutationRoom, roomsValidity}
+use Rattle.decide_buffers.specs.Room.{modelRoom, boundsRoom, groupsRoom, refutationRoom, identifiersRoom, roomsValidity}
 use Rattle.decide_buffers.proofs.rooms_validity.Statement.{statement}
 use Rattle.decide_buffers.proofs.rooms_validity.Tie as tie
 
@@ -20,6 +20,9 @@ has-groups e = le-ltb _ _ (rw (e .before .groups-room .ensures) at (e .if3 .left
 
 has-refutation : (e : tie.Else4) → ltb (e .before .before .before .before .before .before .before .before .args .refutation) (refutationRoom (e .before .before .before .before .before .before .before .before .args .n)) ≡ false
 has-refutation e = le-ltb _ _ (rw (e .before .refutation-room .ensures) at (e .if4 .left))
+
+has-identifiers : (e : tie.Else5) → ltb (e .before .before .before .before .before .before .before .before .before .before .args .identifiers) (identifiersRoom (e .before .before .before .before .before .before .before .before .before .before .args .n)) ≡ false
+has-identifiers e = le-ltb _ _ (rw (e .before .identifiers-room .ensures) at (e .if5 .left))
 
 -- ---- the ways out
 returns : tie.Need-returns
@@ -49,7 +52,7 @@ returns-5 c =
     let e = c .before .before in
     let d = e .before .before in
     let b = d .before .before in
-    rw (has-model (b .before .before), has-bounds b, has-groups d, has-refutation e, lt-ltb _ _ (rw (c .before .work-room .ensures) at (c .if5 .taken)))
+    rw (has-model (b .before .before), has-bounds b, has-groups d, has-refutation e, lt-ltb _ _ (rw (c .before .identifiers-room .ensures) at (c .if5 .taken)))
 
 returns-6 : tie.Need-returns-6
 unfolding roomsValidity
@@ -57,7 +60,17 @@ returns-6 c =
     let e = c .before .before in
     let d = e .before .before in
     let b = d .before .before in
-    rw (has-model (b .before .before), has-bounds b, has-groups d, has-refutation e, le-ltb _ _ (rw (c .before .work-room .ensures) at (c .if5 .left)))
+    let a = b .before .before in
+    rw (has-model (a .before .before), has-bounds a, has-groups b, has-refutation d, has-identifiers e, lt-ltb _ _ (rw (c .before .work-room .ensures) at (c .if6 .taken)))
+
+returns-7 : tie.Need-returns-7
+unfolding roomsValidity
+returns-7 c =
+    let e = c .before .before in
+    let d = e .before .before in
+    let b = d .before .before in
+    let a = b .before .before in
+    rw (has-model (a .before .before), has-bounds a, has-groups b, has-refutation d, has-identifiers e, le-ltb _ _ (rw (c .before .work-room .ensures) at (c .if6 .left)))
 
 pub rooms-validity-spec : {M : Type 1} → statement M
 rooms-validity-spec =
@@ -73,4 +86,6 @@ rooms-validity-spec =
     returns-4
     (search needs)
     returns-5
-    returns-6)
+    (search needs)
+    returns-6
+    returns-7)

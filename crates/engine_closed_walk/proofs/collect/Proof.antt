@@ -19,7 +19,7 @@ use Rattle.steps.specs.Step.{stepNumbered}
 use Rattle.decide_rows.specs.Numbers.{numbered-ok}
 use Rattle.decide_rows.specs.Read.{weight-fits}
 use Rattle.engine_packed_steps.specs.Layout.{walksAt, rowAt}
-use Rattle.decide_walkback.specs.Makes.{number-below}
+use Rattle.steps.specs.Laws.{number-below}
 use Rattle.engine_closed_walk.specs.Collected.{Collecting, collecting-start, collecting-fits, collecting-more, collected-none, collected-closed}
 use Rattle.engine_closed_walk.proofs.collect.Statement.{statement}
 use Rattle.engine_closed_walk.proofs.collect.Tie as tie

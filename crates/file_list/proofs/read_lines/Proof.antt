@@ -21,6 +21,9 @@ module _ (c : tie.After-file-validity) where
   answered : (v : Validity) → c .file-validity .result ≡ v → answerAfter v ≡ afterScan (s .args .most) (s .args .bytes .now) (End (s .args .found))
   answered v e = ap answerAfter (sym e ∙ c .file-validity .ensures)
 
+file-validity-requires : tie.Need-file-validity-requires
+file-validity-requires c κs = let p = c .before .pre in (p .0, p .1)
+
 returns : tie.Need-returns
 returns c = let f = c .before in (answered (f .before .before) _ (f .validity .given .1), refl)
 
@@ -39,4 +42,4 @@ returns-2 c =
 pub read-lines-spec : {M : Type 1} → statement M
 read-lines-spec =
     tie.close
-    (tie.spec (search needs) (search needs) returns (search needs) decode-lines-requires same-length returns-2)
+    (tie.spec file-validity-requires (search needs) returns (search needs) decode-lines-requires same-length returns-2)

@@ -1,10 +1,9 @@
 -- `file_list::read_within` meets its contract.
 use mathlib.Core.Path.{_≡_, refl, sym, ap, _∙_}
-use native.Mathlib.Omega.{arith}
 use lib.ListN.{length}
 use borrow.Author.Needs.{needs}
 use Rattle.file_records.specs.declared.Next.{Next}
-use Rattle.file_records.specs.Laws.{Found, scan-found}
+use Rattle.file_records.specs.Laid.{Found, scan-laid}
 use Rattle.file_list.specs.Read.{afterScan, readAnswer}
 use Rattle.file_list.proofs.read_within.Statement.{statement}
 use Rattle.file_list.proofs.read_within.Tie as tie
@@ -22,8 +21,8 @@ read-lines-requires : tie.Need-read-lines-requires
 read-lines-requires c κs =
     let f = c .before .before in
     let d = f .before .before in
-    let k : Found (s d .args .bytes .now) (length (s d .args .numbers .now)) (f .c2 .given .0 .0) = scan-found _ _ _ (sym (d .scan .ensures) ∙ f .c2 .given .1) in
-    (s d .pre, omega (arith, k .size), omega (arith, k .fits))
+    let k : Found (s d .args .bytes .now) (length (s d .args .numbers .now)) (f .c2 .given .0 .0) = scan-laid _ _ _ (sym (d .scan .ensures) ∙ f .c2 .given .1) in
+    (s d .pre, k .laid .begun .lines, k .fits)
 
 returns : tie.Need-returns
 returns c = let f = c .before in record { is = answered (f .before .before) _ (f .c .given .1); leaves = refl }

@@ -26,9 +26,6 @@ module _ (t : tie.After-enum-told) where
   ok : ListOk (s .args .n) (now (s .args .list))
   ok = valid-list _ _ valid
 
-file-size-requires : tie.Need-file-size-requires
-file-size-requires c κs = ok c .count
-
 returns-2 : tie.Need-returns-2
 returns-2 c =
     let f = c .before in
@@ -57,7 +54,7 @@ write-list-spec =
     (search needs)
     returns
     (search needs)
-    file-size-requires
+    (search needs)
     returns-2
     put-file-requires
     (search needs)

@@ -17,7 +17,7 @@ returns c = rw (lt-ltb _ _ (c .if1 .taken))
 -- the header is whole, and its kind is read
 module _ (c : tie.After-body-size) where
   abbrev e : tie.Else1
-  e = c .before .before .before
+  e = c .before .before
 
   abbrev s : tie.Start
   s = e .before .before .before
@@ -26,7 +26,7 @@ module _ (c : tie.After-body-size) where
   b = s .args .bytes .now
 
   abbrev kind : ℕ
-  kind = c .before .u16-at .result
+  kind = c .before .kind-at .result
 
   -- what is answered, by the size that the table has
   answered : (z : BodySize) → c .body-size .result ≡ z → sized b (s .args .room) (s .args .cursor) kind z ≡ nextRecord b (s .args .room) (s .args .cursor)
@@ -34,7 +34,7 @@ module _ (c : tie.After-body-size) where
   answered z e₁ =
       rw (le-ltb _ _ (e .if1 .left))
       (ap (sized b (s .args .room) (s .args .cursor) kind) (sym e₁ ∙ c .body-size .ensures)
-      ∙ ap (λ (k : ℕ). sized b (s .args .room) (s .args .cursor) k (bodySize k)) (c .before .u16-at .ensures .0))
+      ∙ ap (λ (k : ℕ). sized b (s .args .room) (s .args .cursor) k (bodySize k)) (c .before .kind-at .ensures))
 
 placed-requires : tie.Need-placed-requires
 placed-requires c κs =
@@ -51,4 +51,4 @@ returns-3 c = answered (c .before .before) _ (c .enum-told .given .1)
 pub next-record-spec : {M : Type 1} → statement M
 next-record-spec =
     tie.close
-    (tie.spec (search needs) returns (search needs) (search needs) (search needs) (search needs) placed-requires (search needs) returns-2 returns-3)
+    (tie.spec (search needs) returns (search needs) (search needs) (search needs) placed-requires (search needs) returns-2 returns-3)

@@ -35,11 +35,14 @@ returns-2 : tie.Need-returns-2
 unfolding taken
 returns-2 c =
     let t = c .before in
-    rw (ne-eqb _ _ (t .before .if1 .left), eq-eqb _ _ (t .if2 .taken))
+    let l = t .before in
+    rw (ne-eqb _ _ (l .before .if1 .left), sym (l .is-line .ensures) ∙ t .if2 .taken)
 
 returns-3 : tie.Need-returns-3
 unfolding taken
-returns-3 c = rw (ne-eqb _ _ (c .before .if1 .left), ne-eqb _ _ (c .if2 .left))
+returns-3 c =
+    let l = c .before in
+    rw (ne-eqb _ _ (l .before .if1 .left), sym (l .is-line .ensures) ∙ c .if2 .left)
 
 pub taken-spec : {M : Type 1} → statement M
 taken-spec =
@@ -54,6 +57,7 @@ taken-spec =
     u32-at-requires
     (search needs)
     returns
+    (search needs)
     (search needs)
     returns-2
     returns-3)

@@ -10,10 +10,10 @@ use Rattle.file_report.proofs.report_list.Tie as tie
 
 -- deciding, seen from where its answer is told apart, and the start
 abbrev decided : tie.After-work2 → tie.After-decide
-decided c = c .before .before .before .before .before
+decided c = c .before .before .before .before .before .before
 
 abbrev start : tie.After-decide → tie.Start
-start c = c .before .before .before .before .before .before .before
+start c = c .before .before .before .before .before .before .before .before
 
 report-no-requires : tie.Need-report-no-requires
 report-no-requires c κs =
@@ -43,12 +43,13 @@ returns-3 c =
     let d = decided (c .before .before) in
     let p = start d .pre in
     absurd (never-refused (d .decide .ensures) _ (c .enum-told3 .given .1) (p .valid)
-    (fewer-room (start d .args .n) mostVariables (p .few) _ (omega arith, (omega arith, (omega arith, (omega arith, (omega arith, tt)))))))
+    (fewer-room (start d .args .n) mostVariables (p .few) _ (omega arith, (omega arith, (omega arith, (omega arith, (omega arith, (omega arith, tt))))))))
 
 pub report-list-spec : {M : Type 1} → statement M
 report-list-spec =
     tie.close
     (tie.spec
+    (search needs)
     (search needs)
     (search needs)
     (search needs)

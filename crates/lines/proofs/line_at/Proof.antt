@@ -29,4 +29,7 @@ line-at-spec =
     (search needs)
     (search needs)
     (search needs)
+    (search needs)
+    (search needs)
+    (search needs)
     returns)
