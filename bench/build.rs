@@ -1,10 +1,21 @@
 //! Tells the linker where the static library is, in the folder named by
 //! UTVPI_LIB_DIR or else in the repository's target/lib, and the benchmark
-//! the limits of a list, the numbers of a line and a no, from the header.
+//! the limits of a list, the numbers of a line, a no and the rooms of the buffers,
+//! from the header.
 
 use std::env;
 use std::fs;
 use std::path::{Path, PathBuf};
+
+/// The rooms of the buffers that deciding is lent, in their order.
+const ROOMS: [&str; 6] = [
+    "UTVPI_MODEL_ROOM(n)",
+    "UTVPI_BOUNDS_ROOM(n)",
+    "UTVPI_GROUPS_ROOM(n)",
+    "UTVPI_REFUTATION_ROOM(n)",
+    "UTVPI_IDENTIFIERS_ROOM(n)",
+    "UTVPI_WORK_ROOM(n)",
+];
 
 fn main() {
     let root = Path::new(&env::var_os("CARGO_MANIFEST_DIR").unwrap()).join("..");
@@ -24,6 +35,17 @@ fn main() {
             .unwrap_or_else(|| panic!("{} defines no number {name}", header.display()));
         println!("cargo:rustc-env={name}={number}");
     }
+    let rooms = ROOMS.map(|name| {
+        room(&text, name)
+            .unwrap_or_else(|| panic!("{} defines no formula {name}", header.display()))
+    });
+    let function = format!(
+        "#[allow(unused_parens)]\nfn rooms(n: usize) -> [usize; {}] {{\n    [{}]\n}}\n",
+        rooms.len(),
+        rooms.join(", ")
+    );
+    let out = PathBuf::from(env::var_os("OUT_DIR").unwrap());
+    fs::write(out.join("rooms.rs"), function).unwrap();
 }
 
 fn link(root: &Path) {
@@ -53,4 +75,14 @@ fn defined(header: &str, name: &str) -> Option<usize> {
             _ => None,
         }
     })
+}
+
+/// The sums and products of n that a header defines, without casts to size_t.
+fn room(header: &str, name: &str) -> Option<String> {
+    let text = header.replace("\\\n", " ");
+    let start = format!("#define {name} ");
+    let formula = text.lines().find_map(|line| line.strip_prefix(&start))?;
+    let formula = formula.replace("(size_t)", "");
+    let known = |c: char| c.is_ascii_digit() || " n+*()".contains(c);
+    formula.chars().all(known).then_some(formula)
 }

@@ -118,7 +118,7 @@ extern "C" {
  * whatever there is. */
 #define UTVPI_MODEL_ROOM(n) ((size_t)(n))
 #define UTVPI_BOUNDS_ROOM(n) ((size_t)2 * (size_t)(n))
-#define UTVPI_GROUPS_ROOM(n) ((size_t)(n))
+#define UTVPI_GROUPS_ROOM(n) ((size_t)2 * (size_t)(n))
 #define UTVPI_REFUTATION_ROOM(n) ((size_t)4 + (size_t)4 * (size_t)(n))
 #define UTVPI_IDENTIFIERS_ROOM(n) ((size_t)4 + (size_t)4 * (size_t)(n))
 #define UTVPI_WORK_ROOM(n) \
@@ -141,7 +141,7 @@ extern "C" {
  *     buffer       room                        what for
  *     model        UTVPI_MODEL_ROOM(n)         n values
  *     bounds       UTVPI_BOUNDS_ROOM(n)        n times a least, then a greatest
- *     groups       UTVPI_GROUPS_ROOM(n)        n variable numbers
+ *     groups       UTVPI_GROUPS_ROOM(n)        n times a variable, then a sign
  *     refutation   UTVPI_REFUTATION_ROOM(n)    kind, p, q and the steps
  *     identifiers  UTVPI_IDENTIFIERS_ROOM(n)   an identifier for each step
  *     work         UTVPI_WORK_ROOM(n)          nothing that lasts
@@ -155,9 +155,14 @@ extern "C" {
  *     bounds   For variable v, bounds[2*v] is the least and bounds[2*v + 1] the
  *              greatest value that it has among all the ways to meet the list.
  *              Where there is none, UTVPI_NO_LEAST and UTVPI_NO_GREATEST.
- *     groups   For variable v, groups[v] is the lowest variable that has the
- *              same value as v in every way to meet the list; v itself where
- *              there is no lower one.
+ *     groups   For variable v, groups[2*v] is the lowest variable r with v = r
+ *              in every way to meet the list, or v = -r in every one; v itself
+ *              where there is no lower one. groups[2*v + 1] is the sign: 0 for
+ *              v = r, 1 for v = -r, and 0 where both hold, which is where v is
+ *              always 0. So v and w are equal in every way to meet the list
+ *              exactly if both numbers are the same for v as for w, and v = -w
+ *              exactly if the first is the same and the second differs, or both
+ *              are always 0.
  *
  * On a no, the refutation is written, and the model, the bounds and the groups
  * are left as they were. It has 3 + p + q numbers, where p is refutation[1] and

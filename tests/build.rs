@@ -1,6 +1,7 @@
 //! Tells the linker where the static library is: in the folder named by
-//! UTVPI_LIB_DIR, or else in the repository's target/lib. Reads the limits and
-//! lengths from the library's header, so that the tests have them from there alone.
+//! UTVPI_LIB_DIR, or else in the repository's target/lib. Reads the limits, the
+//! lengths and the rooms of the buffers from the library's header, so that the tests
+//! have them from there alone.
 
 use std::path::{Path, PathBuf};
 use std::{env, fs};
@@ -21,6 +22,16 @@ const LIMITS: [&str; 13] = [
     "KIND_IDENTIFIED_LINE",
     "NO",
     "REFUSAL_UNIT",
+];
+
+/// The rooms of the buffers that deciding is lent, in their order.
+const ROOMS: [&str; 6] = [
+    "MODEL_ROOM",
+    "BOUNDS_ROOM",
+    "GROUPS_ROOM",
+    "REFUTATION_ROOM",
+    "IDENTIFIERS_ROOM",
+    "WORK_ROOM",
 ];
 
 fn main() {
@@ -47,7 +58,8 @@ fn link(package: &Path) {
     println!("cargo:rustc-link-lib=static=utvpi");
 }
 
-/// Writes the limits as constants, for src/limits.rs to take in.
+/// Writes the limits as constants and the rooms as a function, for src/limits.rs to
+/// take in.
 fn write_limits(header: &Path) {
     println!("cargo:rerun-if-changed={}", header.display());
     let text = fs::read_to_string(header)
@@ -59,8 +71,30 @@ fn write_limits(header: &Path) {
         });
         format!("pub const {name}: usize = {limit};\n")
     });
+    let rooms = ROOMS.map(|name| {
+        room(&text, &format!("UTVPI_{name}(n)")).unwrap_or_else(|| {
+            let header = header.display();
+            panic!("{header} does not define UTVPI_{name}(n) by sums and products of n")
+        })
+    });
+    let rooms = format!(
+        "#[allow(unused_parens)]\npub const fn rooms(n: usize) -> [usize; {}] {{\n    [{}]\n}}\n",
+        rooms.len(),
+        rooms.join(", ")
+    );
     let out = PathBuf::from(env::var_os("OUT_DIR").unwrap());
-    fs::write(out.join("limits.rs"), constants.concat()).unwrap();
+    fs::write(out.join("limits.rs"), constants.concat() + &rooms).unwrap();
+}
+
+/// The formula that a header defines under this name, which ends in (n), without its
+/// casts to size_t.
+fn room(header: &str, name: &str) -> Option<String> {
+    let text = header.replace("\\\n", " ");
+    let start = format!("#define {name} ");
+    let formula = text.lines().find_map(|line| line.strip_prefix(&start))?;
+    let formula = formula.replace("(size_t)", "");
+    let known = |c: char| c.is_ascii_digit() || " n+*()".contains(c);
+    formula.chars().all(known).then_some(formula)
 }
 
 /// The number that a header defines under this name.

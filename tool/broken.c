@@ -4,13 +4,6 @@
 
 #include <inttypes.h>
 
-/* Prints a point: an event, or its opposite with a minus. */
-static void print_point(const struct list *list, struct point point)
-{
-    fputs(point.sign < 0 ? "-" : "", stdout);
-    print_event(stdout, list, point.variable);
-}
-
 static void print_head(const struct proposal *proposal, enum reason reason)
 {
     uint32_t kind = proposal->numbers[0], p = proposal->numbers[1], q = proposal->numbers[2];

@@ -191,6 +191,7 @@ int convert(const struct list *list, const char *to);
 
 /* yes.c, no.c, broken.c and refusal.c: the answers in words. */
 void print_event(FILE *to, const struct list *list, uint64_t variable);
+void print_point(const struct list *list, struct point point);
 int event_width(const struct list *list, uint64_t variable);
 void print_yes(const struct list *list, const int64_t *model, const int64_t *bounds,
                const uint32_t *groups);

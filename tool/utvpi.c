@@ -17,7 +17,7 @@ static uint32_t identifiers[UTVPI_IDENTIFIERS_ROOM(UTVPI_MOST_VARIABLES)];
 
 /* The list, the model and the refutation as the checkers take them. */
 static uint8_t list_bytes[UTVPI_LINE_BYTES * UTVPI_MOST_LINES];
-static uint8_t model_bytes[8 * UTVPI_MOST_VARIABLES];
+static uint8_t model_bytes[8 * UTVPI_MODEL_ROOM(UTVPI_MOST_VARIABLES)];
 static uint8_t refutation_bytes[4 * UTVPI_REFUTATION_ROOM(UTVPI_MOST_VARIABLES)];
 
 /* Writes a number's lowest `bytes` bytes, the lowest first. */
@@ -51,17 +51,63 @@ static bool within_limits(const struct list *list)
     return list->variables <= UTVPI_MOST_VARIABLES && list->count <= UTVPI_MOST_LINES;
 }
 
+/* Whether every group is called by an event that is none after its own ones, and that
+ * is called by itself, with plus. */
+static bool groups_exist(size_t n)
+{
+    for (size_t v = 0; v < n; v++) {
+        uint32_t first = groups[2 * v];
+        if (first > v || groups[2 * v + 1] > 1 || groups[2 * (size_t)first] != first ||
+            groups[2 * (size_t)first + 1] != 0) {
+            return false;
+        }
+    }
+    return true;
+}
+
+/* A number with its sign turned; of an absent bound, the one absent on the other side. */
+static int64_t turned(int64_t number)
+{
+    if (number == UTVPI_NO_LEAST || number == UTVPI_NO_GREATEST) {
+        return number == UTVPI_NO_LEAST ? UTVPI_NO_GREATEST : UTVPI_NO_LEAST;
+    }
+    return -number;
+}
+
+/* Whether all events of a group have the value, the least and the greatest of its
+ * first; with a minus the opposite ones, and they are not always 0. */
+static bool groups_agree(size_t n)
+{
+    for (size_t v = 0; v < n; v++) {
+        size_t first = groups[2 * v];
+        bool minus = groups[2 * v + 1] == 1;
+        int64_t value = model[first], least = bounds[2 * first], greatest = bounds[2 * first + 1];
+        if (minus && least == 0 && greatest == 0) {
+            return false;
+        }
+        if (model[v] != (minus ? turned(value) : value) ||
+            bounds[2 * v] != (minus ? turned(greatest) : least) ||
+            bounds[2 * v + 1] != (minus ? turned(least) : greatest)) {
+            return false;
+        }
+    }
+    return true;
+}
+
 static int answer_yes(const struct list *list)
 {
     size_t n = (size_t)list->variables, length = pack_list(list);
     for (size_t at = 0; at < n; at++) {
         pack(model_bytes + 8 * at, (uint64_t)model[at], 8);
-        if (groups[at] >= n) {
-            return disagree("the library answered yes with a group that does not exist");
-        }
     }
     if (!UTVPI_IS_YES(utvpi_check_model(n, list_bytes, length, model_bytes, 8 * n))) {
         return disagree("the library answered yes, but its values fail the library's own check");
+    }
+    if (!groups_exist(n)) {
+        return disagree("the library answered yes with a group that does not exist");
+    }
+    if (!groups_agree(n)) {
+        return disagree("the library answered yes, but its groups do not agree with its values");
     }
     print_yes(list, model, bounds, groups);
     return STATUS_YES;

@@ -16,6 +16,13 @@ void print_event(FILE *to, const struct list *list, uint64_t variable)
     }
 }
 
+/* Prints a point: an event, or its opposite with a minus. */
+void print_point(const struct list *list, struct point point)
+{
+    fputs(point.sign < 0 ? "-" : "", stdout);
+    print_event(stdout, list, point.variable);
+}
+
 /* How many characters an event's name has. */
 int event_width(const struct list *list, uint64_t variable)
 {
@@ -23,6 +30,12 @@ int event_width(const struct list *list, uint64_t variable)
         return (int)list->names[variable].length;
     }
     return snprintf(NULL, 0, "x%" PRIu64, variable);
+}
+
+/* An event's group: the first event that it always equals, or its opposite. */
+static struct point group_of(const uint32_t *groups, uint64_t variable)
+{
+    return (struct point){groups[2 * variable + 1] == 0 ? 1 : -1, groups[2 * variable]};
 }
 
 static void print_cell(int64_t value, bool absent)
@@ -33,7 +46,7 @@ static void print_cell(int64_t value, bool absent)
 }
 
 static void print_row(const struct list *list, uint64_t v, int width, int64_t value,
-                      const int64_t *bound, uint32_t group)
+                      const int64_t *bound, struct point group)
 {
     fputs("  ", stdout);
     print_event(stdout, list, v);
@@ -42,11 +55,38 @@ static void print_row(const struct list *list, uint64_t v, int width, int64_t va
     print_cell(bound[0], bound[0] == UTVPI_NO_LEAST);
     print_cell(bound[1], bound[1] == UTVPI_NO_GREATEST);
     fputs("  ", stdout);
-    print_event(stdout, list, group);
+    print_point(list, group);
     fputc('\n', stdout);
 }
 
-static void print_legend(bool some_low, bool some_high, bool some_equal)
+/* Whether the group that is called by this event has the opposite of one. */
+static bool has_opposite(const struct list *list, const uint32_t *groups, uint64_t first)
+{
+    for (uint64_t v = first; v < list->variables; v++) {
+        if (same_point(group_of(groups, v), (struct point){-1, first})) {
+            return true;
+        }
+    }
+    return false;
+}
+
+/* Prints in one line how the events of a group depend on its first. An event that is
+ * always the opposite of that has a minus here too. */
+static void print_group(const struct list *list, const uint32_t *groups, uint64_t first)
+{
+    fputs("  ", stdout);
+    print_event(stdout, list, first);
+    for (uint64_t v = first + 1; v < list->variables; v++) {
+        struct point group = group_of(groups, v);
+        if (group.variable == first) {
+            fputs(" = ", stdout);
+            print_point(list, (struct point){group.sign, v});
+        }
+    }
+    puts(", always");
+}
+
+static void print_legend(bool some_low, bool some_high)
 {
     puts("\nvalue: together, these values meet every rule; each is as near to 0 as the\n"
          "ones above it allow. least, greatest: over all the ways to meet the rules.");
@@ -56,18 +96,32 @@ static void print_legend(bool some_low, bool some_high, bool some_equal)
     if (some_high) {
         puts("none under greatest: the rules let this event be as high as you like.");
     }
-    if (some_equal) {
+}
+
+/* Says what the groups are. Those with a minus are printed once more, each as a whole. */
+static void print_groups(const struct list *list, const uint32_t *groups, bool some_shared,
+                         bool some_opposite)
+{
+    if (!some_shared) {
+        puts("group: each event is a group of its own; no two are always equal or opposite.");
+    } else if (!some_opposite) {
         puts("group: events of one group always have the same value; a group is called by\n"
              "its first event.");
     } else {
-        puts("group: each event is a group of its own; no two always have the same value.");
+        puts("group: events of one group always have the same value, or, with a minus, the\n"
+             "opposite one; a group is called by its first event. The groups with a minus:\n");
+        for (uint64_t v = 0; v < list->variables; v++) {
+            if (has_opposite(list, groups, v)) {
+                print_group(list, groups, v);
+            }
+        }
     }
 }
 
 void print_yes(const struct list *list, const int64_t *model, const int64_t *bounds,
                const uint32_t *groups)
 {
-    bool some_low = false, some_high = false, some_equal = false;
+    bool some_low = false, some_high = false, some_shared = false, some_opposite = false;
     int width = 5;
     if (list->variables == 0) {
         puts("Yes. There are no events, and no rule is false.");
@@ -79,11 +133,13 @@ void print_yes(const struct list *list, const int64_t *model, const int64_t *bou
         width = own > width ? own : width;
         some_low = some_low || bounds[2 * v] == UTVPI_NO_LEAST;
         some_high = some_high || bounds[2 * v + 1] == UTVPI_NO_GREATEST;
-        some_equal = some_equal || groups[v] != v;
+        some_shared = some_shared || groups[2 * v] != v;
+        some_opposite = some_opposite || group_of(groups, v).sign < 0;
     }
     printf("  %-*s  %10s  %10s  %10s  %s\n", width, "event", "value", "least", "greatest", "group");
     for (uint64_t v = 0; v < list->variables; v++) {
-        print_row(list, v, width, model[v], bounds + 2 * v, groups[v]);
+        print_row(list, v, width, model[v], bounds + 2 * v, group_of(groups, v));
     }
-    print_legend(some_low, some_high, some_equal);
+    print_legend(some_low, some_high);
+    print_groups(list, groups, some_shared, some_opposite);
 }

@@ -1,5 +1,8 @@
 //! The buffers that deciding is lent.
 
+// rooms(n), the room that each needs, in their order: build.rs reads it from the header.
+include!(concat!(env!("OUT_DIR"), "/rooms.rs"));
+
 pub struct Buffers {
     pub model: Vec<i64>,
     pub bounds: Vec<i64>,
@@ -12,14 +15,14 @@ pub struct Buffers {
 impl Buffers {
     /// Each as long as a list of n variables needs.
     pub fn new(n: usize) -> Buffers {
-        let steps = 4 + 4 * n;
+        let [model, bounds, groups, refutation, identifiers, work] = rooms(n);
         Buffers {
-            model: vec![0; n],
-            bounds: vec![0; 2 * n],
-            groups: vec![0; n],
-            refutation: vec![0; steps],
-            identifiers: vec![0; steps],
-            work: vec![0; 16 * n * n + 64 * n + 64],
+            model: vec![0; model],
+            bounds: vec![0; bounds],
+            groups: vec![0; groups],
+            refutation: vec![0; refutation],
+            identifiers: vec![0; identifiers],
+            work: vec![0; work],
         }
     }
 

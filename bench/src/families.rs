@@ -5,8 +5,8 @@ use crate::chance::Chance;
 use crate::library;
 use crate::lines::{List, IDENTIFIER, MOST_IDENTIFIER, MOST_LINES, MOST_VARIABLES};
 use crate::lists::{
-    all_count, chain, grid, halves_apart, hub, lone_lines, met, negative_cycle, sparse, Hidden,
-    Order,
+    all_count, chain, grid, halves_apart, hub, lone_lines, met, negative_cycle, sparse, tied,
+    Hidden, Order,
 };
 
 pub struct Family {
@@ -76,7 +76,7 @@ const CHAINS: [Shape; 4] = [
     SHUFFLED,
 ];
 
-const OTHERS: [Shape; 9] = [
+const OTHERS: [Shape; 10] = [
     DENSE,
     ("dense, all lines count", |chance, n, _| {
         all_count(chance, n, MOST_LINES)
@@ -86,6 +86,7 @@ const OTHERS: [Shape; 9] = [
     ("lone lines", |chance, n, _| {
         lone_lines(chance, n, MOST_LINES)
     }),
+    ("equal or mirrored", tied),
     ("negative cycle of 2", |chance, n, lines| {
         negative_cycle(chance, n, lines, 2)
     }),

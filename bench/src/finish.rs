@@ -41,7 +41,9 @@ fn solve(points: usize, list: &[Line], sums: Sums, out: &mut Buffers) -> Result<
     for x in 0..points / 2 {
         let up = &table[2 * x * points..][..2 * x];
         let down = &table[(2 * x + 1) * points..][..2 * x];
-        out.groups[x] = group(x, up, down, &halves) as u32;
+        let lowest = group(x, up, down, &halves);
+        out.groups[2 * x] = (lowest / 2) as u32;
+        out.groups[2 * x + 1] = (lowest % 2) as u32;
         let greatest = limit(up, halves[2 * x], &out.model);
         let least = limit(down, halves[2 * x + 1], &out.model);
         out.model[x] = greatest.min(0).max(least.saturating_neg());
@@ -87,15 +89,22 @@ fn limit(sums: &[i64], half: i64, model: &[i64]) -> i64 {
     least
 }
 
-/// The lowest variable that always has the value of x, whose two points have these
-/// sums to the points before them: by walks both ways, or since both are fixed at
-/// one value.
+/// The lowest point that always has the value of x, whose two points have these sums to
+/// the points before them: by walks both ways, or since both are fixed at one value.
 fn group(x: usize, up: &[i64], down: &[i64], halves: &[i64]) -> usize {
-    let own = &halves[2 * x..][..2];
+    let own = [halves[2 * x], halves[2 * x + 1]];
+    let turned = [own[1], own[0]];
     let fixed = own[0] != NONE && own[1] != NONE && own[0] + own[1] == 0;
     let (up, down) = (up.chunks_exact(2), down.chunks_exact(2));
-    let mut before = up.zip(down).zip(halves.chunks_exact(2));
-    let equal =
-        before.position(|((up, down), other)| up[0] <= 0 && down[1] <= 0 || fixed && own == other);
-    equal.unwrap_or(x)
+    let before = up.zip(down).zip(halves.chunks_exact(2)).enumerate();
+    let mut same = before.filter_map(|(y, ((up, down), other))| {
+        let equal = up[0] <= 0 && down[1] <= 0 || fixed && own == other;
+        let mirrored = up[1] <= 0 && down[0] <= 0 || fixed && turned == other;
+        match (equal, mirrored) {
+            (true, _) => Some(2 * y),
+            (false, true) => Some(2 * y + 1),
+            (false, false) => None,
+        }
+    });
+    same.next().unwrap_or(2 * x)
 }

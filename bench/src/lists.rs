@@ -143,6 +143,33 @@ pub fn lone_lines(chance: &mut Chance, n: usize, lines: usize) -> List {
     (0..lines).map(|_| any()).collect()
 }
 
+/// Groups of so many variables each, in which each equals or mirrors the next.
+const GROUP: usize = 4;
+
+/// Variables in groups, some of them fixed, among lines that never count.
+pub fn tied(chance: &mut Chance, n: usize, lines: usize) -> List {
+    let variables = chance.order(n);
+    let mut list = List::new();
+    for group in variables.chunks(GROUP) {
+        for pair in group.windows(2) {
+            let b = chance.sign();
+            list.extend([1, -1].map(|sign| line(sign, pair[0], sign * b, pair[1], 0)));
+        }
+        // Of one value or of three, by halves, and at times of the same as another group.
+        if chance.below(2) == 0 {
+            let (x, value) = (group[0], chance.between(-HIGH / 100, HIGH / 100));
+            let least = value - 2 * chance.between(0, 1);
+            list.push(line(1, x, 1, x, 2 * value + 1));
+            list.push(line(-1, x, -1, x, 1 - 2 * least));
+        }
+    }
+    list.resize_with(lines.max(list.len()), || {
+        any_pair(chance, n, GREATEST_BOUND)
+    });
+    chance.shuffle(&mut list);
+    list
+}
+
 /// A closed walk through so many variables, of sum -1, among lines that hidden
 /// values meet with much room.
 pub fn negative_cycle(chance: &mut Chance, n: usize, lines: usize, length: usize) -> List {

@@ -6,10 +6,10 @@ use std::thread;
 
 use utvpi_tests::bytes;
 use utvpi_tests::chance::Chance;
-use utvpi_tests::decision::{decide, Decision, Reason, Solved, Verdict};
+use utvpi_tests::decision::{decide, Decision, Group, Reason, Solved, Verdict, MINUS};
 use utvpi_tests::limits::{LARGEST_BOUND, MOST_LINES, SMALL_VARIABLES};
 use utvpi_tests::lines::{identify, line, Line};
-use utvpi_tests::make_lists::{small, Shape};
+use utvpi_tests::make_lists::{near_zero, small, tied, Shape};
 use utvpi_tests::second::{self, Answer};
 use utvpi_tests::{brute, closure};
 
@@ -20,9 +20,10 @@ struct Seen {
     false_line: usize,
     closed_walk: usize,
     halved_walks: usize,
-    /// Lists on which some group has two variables, a bound is there, one is
-    /// absent, and a value of the model is not 0.
+    /// Lists on which some group has two variables, some variable mirrors another, a
+    /// bound is there, one is absent, and a value of the model is not 0.
     grouped: usize,
+    mirrored: usize,
     bounded: usize,
     unbounded: usize,
     not_zero: usize,
@@ -41,9 +42,10 @@ impl Seen {
 
     fn count_solved(&mut self, solved: &Solved) {
         let absent = |bound: &i64| [i64::MIN, i64::MAX].contains(bound);
-        let own = |(x, &group): (usize, &u32)| x as u32 == group;
+        let own = |(x, group): (usize, &Group)| x as u32 == group[0];
         self.yes += 1;
         self.grouped += usize::from(!solved.groups.iter().enumerate().all(own));
+        self.mirrored += usize::from(solved.groups.iter().any(|group| group[1] == MINUS));
         self.bounded += usize::from(!solved.bounds.iter().all(absent));
         self.unbounded += usize::from(solved.bounds.iter().any(absent));
         self.not_zero += usize::from(solved.model.iter().any(|&value| value != 0));
@@ -61,6 +63,7 @@ impl Seen {
             self.closed_walk,
             self.halved_walks,
             self.grouped,
+            self.mirrored,
             self.bounded,
             self.unbounded,
             self.not_zero,
@@ -138,6 +141,7 @@ fn add(seen: &mut Seen, other: Seen) {
     seen.closed_walk += other.closed_walk;
     seen.halved_walks += other.halved_walks;
     seen.grouped += other.grouped;
+    seen.mirrored += other.mirrored;
     seen.bounded += other.bounded;
     seen.unbounded += other.unbounded;
     seen.not_zero += other.not_zero;
@@ -209,6 +213,21 @@ fn many_lines_by_another_method() {
     seen.must_have(20, 0);
 }
 
+/// Whether two variables that shared a group still do, equal where they were equal and
+/// mirrored where they were mirrored; always 0, they are both, and their signs plus.
+fn stays_tied(one: &Solved, two: &Solved, x: usize, y: usize) -> bool {
+    let differ = |solved: &Solved| {
+        let ([r, s], [q, t]) = (solved.groups[x], solved.groups[y]);
+        (r == q).then_some(s != t)
+    };
+    let zero = |at: usize| two.bounds[2 * at..][..2] == [0, 0];
+    match (differ(one), differ(two)) {
+        (None, _) => true,
+        (_, None) => false,
+        (Some(before), Some(after)) => before == after || before && zero(x) && zero(y),
+    }
+}
+
 /// What must hold of a list's decision and a longer list's that begins with it.
 fn compare_pair(n: u64, short: &[Line], long: &[Line], one: &Decision, two: &Decision) {
     let shown = || format!("n: {n}\nlines: {short:?}\nlonger: {long:?}\n{one:?}\n{two:?}");
@@ -230,8 +249,8 @@ fn compare_pair(n: u64, short: &[Line], long: &[Line], one: &Decision, two: &Dec
     }
     for x in 0..n as usize {
         for y in 0..x {
-            let kept = one.groups[x] != one.groups[y] || two.groups[x] == two.groups[y];
-            assert!(kept, "{x} and {y} were in one group\n{}", shown());
+            let kept = stays_tied(one, two, x, y);
+            assert!(kept, "{x} and {y} were tied otherwise\n{}", shown());
         }
     }
     let still_met = second::check_model(n, &longer, &bytes::model(&one.model)) == Answer::Yes;
@@ -265,6 +284,12 @@ fn longer_lists_unlearn_nothing() {
     for _ in 0..6_000 {
         let (n, lines) = small(&mut chance);
         pairs += compare_beginnings(&mut chance, n, &lines, 1);
+    }
+    for _ in 0..3_000 {
+        let n = chance.between(2, 8) as u64;
+        let values = near_zero(&mut chance, n);
+        let lines = tied(&mut chance, &values);
+        pairs += compare_beginnings(&mut chance, n, &lines, 2);
     }
     for _ in 0..150 {
         let n = chance.between(2, 24) as u64;

@@ -3,7 +3,9 @@
 
 use utvpi_tests::buffers::{needed, Buffers};
 use utvpi_tests::chance::Chance;
-use utvpi_tests::decision::{decide, decide_in, Decision, Reason, Solved, Verdict};
+use utvpi_tests::decision::{
+    decide, decide_in, own_groups, Decision, Reason, Solved, Verdict, PLUS,
+};
 use utvpi_tests::document::{largest, CASE_4};
 use utvpi_tests::limits::{LARGEST_BOUND, LAST_VARIABLE, MOST_LINES, MOST_N, MOST_VARIABLES};
 use utvpi_tests::limits::{NO_IDENTIFIERS, SMALL_VARIABLES};
@@ -35,11 +37,12 @@ fn decided(n: u64, lines: &[Line]) -> Decision {
     first
 }
 
+/// A yes with these variables of the groups: the sign of each is plus.
 fn yes(n: u64, lines: &[Line], model: &[i64], bounds: &[i64], groups: &[u32]) {
     let due = Verdict::Yes(Solved {
         model: model.to_vec(),
         bounds: bounds.to_vec(),
-        groups: groups.to_vec(),
+        groups: groups.iter().map(|&group| [group, PLUS]).collect(),
     });
     assert_eq!(decided(n, lines).verdict, due, "{lines:?}");
     // The other two ways to decide are held to the same cases.
@@ -69,7 +72,7 @@ fn case_2_nothing_asked() {
         let due = Solved {
             model: vec![0; n as usize],
             bounds: [NO_LEAST, NO_GREATEST].repeat(n as usize),
-            groups: (0..n).collect(),
+            groups: own_groups(n as usize),
         };
         assert_eq!(decided(u64::from(n), &[]).verdict, Verdict::Yes(due));
     }
@@ -193,7 +196,7 @@ fn case_11_the_largest_sums() {
             .flat_map(|&least| [least, NO_GREATEST])
             .collect(),
         model,
-        groups: (0..MOST_VARIABLES as u32).collect(),
+        groups: own_groups(MOST_VARIABLES),
     });
     lines.reverse();
     assert_eq!(decided(MOST_N, &identified(&lines)).verdict, due);
@@ -227,7 +230,7 @@ fn longest_walks(n: i32) {
     let due = Verdict::Yes(Solved {
         bounds: model.iter().flat_map(|&value| [value, value]).collect(),
         model,
-        groups: (0..n as u32).collect(),
+        groups: own_groups(n as usize),
     });
     for lines in orders(n, &lines) {
         assert_eq!(decided(n as u64, &lines).verdict, due);
@@ -258,7 +261,7 @@ fn longest_halved_walks(n: i32) {
     let due = Verdict::Yes(Solved {
         model: vec![3; n as usize],
         bounds: vec![3; 2 * n as usize],
-        groups: vec![0; n as usize],
+        groups: vec![[0, PLUS]; n as usize],
     });
     for lines in orders(n, &lines) {
         assert_eq!(decided(n as u64, &lines).verdict, due);

@@ -8,7 +8,8 @@ use utvpi_tests::buffers::{needed, Buffers};
 use utvpi_tests::bytes;
 use utvpi_tests::chance::Chance;
 use utvpi_tests::closure;
-use utvpi_tests::decision::{decide, Decision, Reason, Solved, Verdict};
+use utvpi_tests::decision::{decide, own_groups, Decision, Reason, Solved, Verdict};
+use utvpi_tests::decision::{MINUS, PLUS};
 use utvpi_tests::document::largest;
 use utvpi_tests::files::{read, write};
 use utvpi_tests::library;
@@ -87,7 +88,7 @@ fn a_chain_that_holds() {
     let due = Solved {
         model: values.clone().collect(),
         bounds: values.flat_map(|value| [value, value]).collect(),
-        groups: (0..MOST_VARIABLES as u32).collect(),
+        groups: own_groups(MOST_VARIABLES),
     };
     assert_eq!(decided(&mut chance, &lines).verdict, Verdict::Yes(due));
 }
@@ -115,18 +116,39 @@ fn a_clash_of_two() {
     assert_eq!(decision.refutation[1], 2);
 }
 
-/// All variables equal but for their signs, and the last one three and a half.
-#[test]
-fn only_halves_would_do() {
-    let mut chance = Chance::new(112);
+/// All variables equal by their clocks, and twice the last one at most 7 and at least
+/// this.
+fn level(chance: &mut Chance, least: i32) -> Vec<Line> {
     let last = LAST_VARIABLE;
-    let mut lines = vec![line(1, last, 1, last, 7), line(-1, last, -1, last, -7)];
+    let mut lines = vec![line(1, last, 1, last, 7), line(-1, last, -1, last, -least)];
     for x in 1..=last {
         let (a, b) = (direction(x - 1), direction(x));
         lines.push(line(a, x - 1, -b, x, 0));
         lines.push(line(-a, x - 1, b, x, 0));
     }
-    let lines = filled(&mut chance, lines);
+    filled(chance, lines)
+}
+
+/// All are three, or minus three: one group, whose signs are those of the clocks.
+#[test]
+fn all_equal_or_mirrored() {
+    let mut chance = Chance::new(116);
+    let lines = level(&mut chance, 5);
+    let values = (0..=LAST_VARIABLE).map(|x| i64::from(-3 * direction(x)));
+    let sign = |x: i32| if direction(x) == 1 { PLUS } else { MINUS };
+    let due = Solved {
+        model: values.clone().collect(),
+        bounds: values.flat_map(|value| [value, value]).collect(),
+        groups: (0..=LAST_VARIABLE).map(|x| [0, sign(x)]).collect(),
+    };
+    assert_eq!(decided(&mut chance, &lines).verdict, Verdict::Yes(due));
+}
+
+/// The last one is three and a half.
+#[test]
+fn only_halves_would_do() {
+    let mut chance = Chance::new(112);
+    let lines = level(&mut chance, 7);
     let verdict = decided(&mut chance, &lines).verdict;
     assert_eq!(verdict, Verdict::No(Reason::HalvedWalks));
 }

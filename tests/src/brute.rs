@@ -31,11 +31,34 @@
 //! To see that x and y may differ, n·D is enough: take such a solution with the
 //! lowest sum. A move toward zero does not make x and y equal, since D is not 0:
 //! high values stay at least D from zero and from the low ones. So there is no
-//! gap.
+//! gap. The same goes for x and -y, and for x and -x: the absolute values of high
+//! variables all go down by one, and those of the low ones stay below them.
 
-use crate::decision::{Reason, Solved, Verdict};
+use crate::decision::{Group, Reason, Solved, Verdict, MINUS, PLUS};
 use crate::lines::{Line, BOUND, X, Y};
 use crate::make::left_side;
+
+/// Which variables, of x and y the one at x, then the one at y, are equal in every
+/// solution, and of which each is always the negative of the other.
+#[derive(Clone, Debug, PartialEq, Eq)]
+pub struct Ties {
+    pub equal: Vec<Vec<bool>>,
+    pub mirrored: Vec<Vec<bool>>,
+}
+
+/// The ties of a valid list without false lines, where it has a solution.
+pub fn ties(n: usize, lines: &[Line]) -> Option<Ties> {
+    let reach = n as i64 * largest(lines);
+    let mut search = Search::new(n, lines, reach, false);
+    search.from(0);
+    search.model.is_some().then_some(search.ties)
+}
+
+/// At least 1, and at least the bound of each line and its negative.
+fn largest(lines: &[Line]) -> i64 {
+    let largest = lines.iter().map(|line| i64::from(line[BOUND]).abs()).max();
+    largest.unwrap_or(1).max(1)
+}
 
 /// What deciding is to answer to a valid list.
 pub fn verdict(n: usize, lines: &[Line]) -> Verdict {
@@ -43,8 +66,7 @@ pub fn verdict(n: usize, lines: &[Line]) -> Verdict {
     if let Some(first) = lines.iter().position(is_false) {
         return Verdict::No(Reason::FalseLine(first));
     }
-    let largest = lines.iter().map(|line| i64::from(line[BOUND]).abs()).max();
-    let largest = largest.unwrap_or(1).max(1);
+    let largest = largest(lines);
     let count = n as i64;
     let mut search = Search::new(n, lines, ((2 * count - 1) * largest + 1).max(0), false);
     search.from(0);
@@ -66,6 +88,17 @@ pub fn verdict(n: usize, lines: &[Line]) -> Verdict {
     })
 }
 
+impl Ties {
+    /// The lowest variable that this one equals or mirrors, which may be itself; and
+    /// that it equals it, where it does both.
+    fn group(&self, x: usize) -> Group {
+        let tied = |y: &usize| self.equal[x][*y] || self.mirrored[x][*y];
+        let lowest = (0..=x).find(tied).unwrap();
+        let sign = if self.equal[x][lowest] { PLUS } else { MINUS };
+        [lowest as u32, sign]
+    }
+}
+
 /// A search through all values, and what its solutions have shown.
 struct Search {
     /// The lines by the highest variable that they name.
@@ -76,8 +109,8 @@ struct Search {
     model: Option<Vec<i64>>,
     least: Vec<i64>,
     greatest: Vec<i64>,
-    /// Whether two variables were equal in all solutions.
-    equal: Vec<Vec<bool>>,
+    /// What was so in all solutions.
+    ties: Ties,
 }
 
 impl Search {
@@ -99,7 +132,10 @@ impl Search {
             model: None,
             least: vec![i64::MAX; n],
             greatest: vec![i64::MIN; n],
-            equal: vec![vec![true; n]; n],
+            ties: Ties {
+                equal: vec![vec![true; n]; n],
+                mirrored: vec![vec![true; n]; n],
+            },
         }
     }
 
@@ -132,8 +168,9 @@ impl Search {
         for (x, &value) in self.values.iter().enumerate() {
             self.least[x] = self.least[x].min(value);
             self.greatest[x] = self.greatest[x].max(value);
-            for y in 0..x {
-                self.equal[x][y] &= value == self.values[y];
+            for (y, &other) in self.values.iter().enumerate() {
+                self.ties.equal[x][y] &= value == other;
+                self.ties.mirrored[x][y] &= value == -other;
             }
         }
     }
@@ -151,11 +188,10 @@ impl Search {
                 },
             ]
         });
-        let lowest = |x: usize| (0..x).find(|&y| self.equal[x][y]).unwrap_or(x) as u32;
         Solved {
             model: self.model.clone().unwrap(),
             bounds: bounds.collect(),
-            groups: (0..self.values.len()).map(lowest).collect(),
+            groups: (0..self.values.len()).map(|x| self.ties.group(x)).collect(),
         }
     }
 }

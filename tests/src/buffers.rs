@@ -3,6 +3,7 @@
 
 use crate::chance::Chance;
 use crate::library::{self, Lent};
+use crate::limits::rooms;
 
 /// How many numbers lie before and behind what is lent.
 const GUARD: usize = 16;
@@ -14,11 +15,12 @@ pub const OUTPUTS: usize = BUFFERS - 1;
 /// A length for each: model, bounds, groups, refutation, identifiers, work area.
 pub type Lengths = [usize; BUFFERS];
 
+/// The place of the groups' length among them.
+pub const GROUPS: usize = 2;
+
 /// The lengths that n variables, at most MOST_VARIABLES, ask for.
 pub fn needed(n: u64) -> Lengths {
-    let n = n as usize;
-    let steps = 4 + 4 * n;
-    [n, 2 * n, n, steps, steps, 16 * n * n + 64 * n + 64]
+    rooms(n as usize)
 }
 
 /// The numbers that are lent and the guards around them.

@@ -2,7 +2,7 @@
 //! nested loops, and again after each value of the model: another way than rows
 //! of least sums by rounds, so that the two don't share a mistake.
 
-use crate::decision::{Reason, Solved, Verdict};
+use crate::decision::{Group, Reason, Solved, Verdict, MINUS, PLUS};
 use crate::lines::{Line, BOUND};
 
 /// No walk. Far below where sums of two would overflow.
@@ -134,10 +134,13 @@ impl Square {
         ]
     }
 
-    /// The lowest variable that can be neither above nor below this one.
-    fn group(&self, x: usize) -> u32 {
-        let equal = |&y: &usize| self.at(2 * x, 2 * y) <= 0 && self.at(2 * y, 2 * x) <= 0;
-        (0..x).find(equal).unwrap_or(x) as u32
+    /// The lowest variable of which this one can be neither above nor below the value,
+    /// or else neither above nor below the negative.
+    fn group(&self, x: usize) -> Group {
+        let tied = |u: usize| self.at(2 * x, u) <= 0 && self.at(u, 2 * x) <= 0;
+        let by = |y: usize, sign: u32| tied(2 * y + sign as usize).then_some([y as u32, sign]);
+        let lowest = (0..x).find_map(|y| by(y, PLUS).or(by(y, MINUS)));
+        lowest.unwrap_or([x as u32, PLUS])
     }
 
     /// Gives a variable its value nearest zero, and closes the square again with

@@ -23,7 +23,18 @@ pub struct Solved {
     pub model: Vec<i64>,
     /// For each variable the least, then the greatest value.
     pub bounds: Vec<i64>,
-    pub groups: Vec<u32>,
+    pub groups: Vec<Group>,
+}
+
+/// The group of a variable: the lowest variable that it always equals or mirrors, then
+/// `PLUS` where it equals it, `MINUS` where it does not.
+pub type Group = [u32; 2];
+pub const PLUS: u32 = 0;
+pub const MINUS: u32 = 1;
+
+/// The groups of so many variables of which none equals or mirrors another.
+pub fn own_groups(n: usize) -> Vec<Group> {
+    (0..n as u32).map(|x| [x, PLUS]).collect()
 }
 
 /// Why a list has no solution: the kind of refutation that is due.
@@ -102,11 +113,11 @@ fn yes(n: u64, list: &[i32], buffers: &Buffers, allowed: &mut Buffers) -> Decisi
     let solved = Solved {
         model: buffers.model.lent()[..model].to_vec(),
         bounds: buffers.bounds.lent()[..bounds].to_vec(),
-        groups: buffers.groups.lent()[..groups].to_vec(),
+        groups: groups_of(&buffers.groups.lent()[..groups]),
     };
     allowed.model.lent_mut()[..model].copy_from_slice(&solved.model);
     allowed.bounds.lent_mut()[..bounds].copy_from_slice(&solved.bounds);
-    allowed.groups.lent_mut()[..groups].copy_from_slice(&solved.groups);
+    allowed.groups.lent_mut()[..groups].copy_from_slice(solved.groups.as_flattened());
     allowed.work.lent_mut()[..work].fill(0);
     let answer = crate::model(n, &bytes::numbers(list), &bytes::model(&solved.model));
     assert_eq!(
@@ -116,6 +127,12 @@ fn yes(n: u64, list: &[i32], buffers: &Buffers, allowed: &mut Buffers) -> Decisi
         solved.model
     );
     Decision::only(Verdict::Yes(solved))
+}
+
+/// The groups that these numbers are.
+fn groups_of(numbers: &[u32]) -> Vec<Group> {
+    let group = |numbers: &[u32]| numbers.try_into().unwrap();
+    numbers.chunks(2).map(group).collect()
 }
 
 /// Reads a no, and lets `allowed` have what may be written with it.

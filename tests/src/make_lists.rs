@@ -1,5 +1,6 @@
-//! Makes valid lists to decide: tiny ones with small bounds, and ones of any size
-//! that are solvable, just solvable, just not, or solvable by halves only.
+//! Makes valid lists to decide: tiny ones with small bounds, ones of any size that
+//! are solvable, just solvable, just not, or solvable by halves only, and ones in
+//! which many variables are equal or mirrored.
 
 use crate::chance::Chance;
 use crate::limits::{LARGEST_BOUND, MOST_LINES, SMALL_LINES};
@@ -55,6 +56,75 @@ fn small_free(chance: &mut Chance, n: u64, count: usize) -> Vec<Line> {
         line
     });
     lines.collect()
+}
+
+/// The lines that say a·x + b·y = 0.
+pub fn tie(a: i32, x: i32, b: i32, y: i32) -> [Line; 2] {
+    [line(a, x, b, y, 0), line(-a, x, -b, y, 0)]
+}
+
+/// The lines that say x = value: with nothing to spare, or only as x is whole.
+pub fn fixed(x: i32, value: i32) -> [Line; 2] {
+    [lone(1, x, value), lone(-1, x, -value)]
+}
+pub fn fixed_by_halves(x: i32, value: i32) -> [Line; 2] {
+    let twice = 2 * value;
+    [line(1, x, 1, x, twice + 1), line(-1, x, -1, x, 1 - twice)]
+}
+
+/// Values from -1 to 1 for lists of many ties, often all 0.
+pub fn near_zero(chance: &mut Chance, n: u64) -> Vec<i32> {
+    let zero = chance.one_in(3);
+    let mut value = || if zero { 0 } else { chance.pick(&[-1, 0, 1, 1]) };
+    (0..n).map(|_| value()).collect()
+}
+
+/// A list in which many of at least one variable are equal or mirrored: by lines between
+/// them, by walks through a third, or by the values that each alone has. But for a few
+/// lists, these values meet it, which are from -1 to 1.
+pub fn tied(chance: &mut Chance, values: &[i32]) -> Vec<Line> {
+    let n = values.len();
+    let mut lines: Vec<Line> = Vec::new();
+    for _ in 0..chance.below(n + 2) {
+        let [x, y, z] = [(); 3].map(|()| chance.below(n));
+        let [a, any, c] = [(); 3].map(|()| chance.pick(&[-1, 1]));
+        // The sign with which the two sum to 0: either, where both are 0.
+        let b = match values[x] * values[y] {
+            0 => any,
+            product => -a * product,
+        };
+        if values[x].abs() != values[y].abs() && !chance.one_in(30) {
+            continue;
+        }
+        let [x, y, z, third] = [x as i32, y as i32, z as i32, c * values[z]];
+        let [first, second] = tie(a, x, b, y);
+        match chance.below(8) {
+            // a·x + b·y is at most 0 by a walk through z.
+            0 => {
+                let sum = a * values[x as usize] + third;
+                lines.extend([line(a, x, c, z, sum), line(b, y, -c, z, -sum), second]);
+            }
+            1 => {
+                lines.extend(fixed_by_halves(x, values[x as usize]));
+                lines.extend(fixed_by_halves(y, values[y as usize]));
+            }
+            2 => {
+                lines.extend(fixed(x, values[x as usize]));
+                lines.extend(fixed_by_halves(y, values[y as usize]));
+            }
+            // Half of a tie, and a line that is not tight.
+            3 => lines.extend([first, line(-a, x, -b, y, 1)]),
+            _ => lines.extend([first, second]),
+        }
+    }
+    if chance.one_in(4) {
+        let mut line = some_line(chance, n as u64);
+        line[BOUND] = chance.between(-1, 2) as i32;
+        lines.push(line);
+    }
+    identify(chance, &mut lines);
+    let order = chance.order(lines.len());
+    order.iter().map(|&at| lines[at]).collect()
 }
 
 /// What a list is made of.

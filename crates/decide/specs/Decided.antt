@@ -180,7 +180,7 @@ module _ (n : ℕ) (L : List ℤ) (b : Lent) where
         pub decided-yes : (m bs : List ℤ) (g : List ℕ)
             → (m ≡ tabulate n (tableModel n (tableOf (2 * n) (tableIn n w₁))) ++ drop (modelRoom n) (b .model))
             × (bs ≡ tabulate (boundsRoom n) (boundAt (tableOf (2 * n) (tableIn n w₁))) ++ drop (boundsRoom n) (b .bounds))
-            × (g ≡ tabulate n (groupAt (tableOf (2 * n) (tableIn n w₁))) ++ drop (groupsRoom n) (b .groups))
+            × (g ≡ tabulate (2 * n) (groupAt (tableOf (2 * n) (tableIn n w₁))) ++ drop (groupsRoom n) (b .groups))
             → (w₂ : List ℤ) → w₂ ≡ replicate (workRoom n) (pos 0) ++ drop (workRoom n) w₁
             → Decided n L Yes b (record { model = m; bounds = bs; groups = g; refutation = R₁; identifiers = b .identifiers; work = w₂ })
         decided-yes m bs g h w₂ z =
@@ -190,7 +190,7 @@ module _ (n : ℕ) (L : List ℤ) (b : Lent) where
                   record {
                     model = h .0 ∙ ap (λ (x : List ℤ). x ++ drop (modelRoom n) (b .model)) (ap (λ (q : List ℤ). tabulate n (tableModel n (tableOf (2 * n) q))) table-is ∙ model-agrees n L (ok .variables) (ok .lines));
                     bounds = h .1 ∙ ap (λ (x : List ℤ). x ++ drop (boundsRoom n) (b .bounds)) (ap (λ (q : List ℤ). tabulate (boundsRoom n) (boundAt (tableOf (2 * n) q))) table-is ∙ bounds-agree n L (ok .variables) (ok .lines));
-                    groups = h .2 ∙ ap (λ (x : List ℕ). x ++ drop (groupsRoom n) (b .groups)) (ap (λ (q : List ℤ). tabulate n (groupAt (tableOf (2 * n) q))) table-is ∙ groups-agree n L (ok .variables) (ok .lines));
+                    groups = h .2 ∙ ap (λ (x : List ℕ). x ++ drop (groupsRoom n) (b .groups)) (ap (λ (q : List ℤ). tabulate (2 * n) (groupAt (tableOf (2 * n) q))) table-is ∙ groups-agree n L (ok .variables) (ok .lines));
                     refutation = k .on-yes refl .0;
                     identifiers = refl;
                     work = cleared-is w₁ w₂ (k .behind) z;

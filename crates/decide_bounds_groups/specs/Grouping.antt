@@ -1,14 +1,14 @@
--- Halves read off the written bounds, and the tightened distances that they give: what the groups are found by.
+-- Halves read off the written bounds, and the tightened distances that they give: what the groups are found by; and the groups, two numbers at a time.
 use mathlib.Core.Path.{_≡_, refl, sym, ap, ap₂, subst, _∙_}
 use mathlib.Core.Logic.{⊎-elim}
-use mathlib.Core.Bool.{Bool, true, false, cond, _&&_}
+use mathlib.Core.Bool.{Bool, true, false, cond}
 use mathlib.Core.List.{List, _++_}
-use Prim.Native.Nat.{ℕ, _*_, _%_, _<_, _≤_}
+use Prim.Native.Nat.{ℕ, _+_, _*_, _/_, _%_, _<_, _≤_}
 use native.Mathlib.Omega.{arith}
 use borrow.Author.Tests.{eq-eqb, ne-eqb}
 use lib.Dec.{eqb}
 use lib.IntN.{ℤ, pos, negℤ, _-ℤ_, negℤ-negℤ}
-use lib.ListN.{length, length-append, List·getD-append}
+use lib.ListN.{length, set, length-append, List·getD-append}
 use lib.Signed.{leZ}
 use mir.Syntax.{w64}
 use mir.Val.{SFits}
@@ -16,13 +16,14 @@ use Rattle.integers.specs.Integer.{eqZ, Within}
 use Rattle.integers.specs.Linear.{ints, zs}
 use Rattle.integers.specs.Laws.{eq-eqZ, ne-eqZ}
 use Rattle.integers.specs.Sequence.{tabulate, length-tabulate, getD-tabulate}
+use Rattle.integers.specs.Fill.{filled, filled-more}
 use Rattle.lines.specs.Line.{number}
 use Rattle.steps.specs.Point.{point, opposite}
 use Rattle.theory_walks.specs.Distance.{Distance, none, some, minD, _⊞_}
 use Rattle.theory_bounds.specs.Points.{variableOf, variable-below, which, opposite-plus, opposite-minus, minus-below, opposite-below}
 use Rattle.theory_bounds.specs.Tight.{Table, halves, tight}
 use Rattle.lines.specs.Limits.{absentLeast}
-use Rattle.theory_bounds.specs.Answers.{leastOf, boundAt, notAbove0, sameGroup, bound-least, bound-greatest}
+use Rattle.theory_bounds.specs.Answers.{leastOf, boundAt, bound-least, bound-greatest, groupPoint, groupAt, group-variable, group-sign}
 use Rattle.decide_rows.specs.Stored.{stored}
 use Rattle.decide_rows.specs.Read.{noWalk, distanceOf, Short, maxDistance}
 use Rattle.decide_stored_table.specs.Sum.{minus-is}
@@ -48,16 +49,6 @@ pub record GroupsReady (n : ℕ) (t bounds : List ℤ) : Type 0 where
   pub table : MirroredTable n t
   pub room : 2 * n ≤ length bounds
   pub written : (i : ℕ) → i < 2 * n → number bounds i ≡ boundAt (tableOf (2 * n) t) i
-
--- no tightened distance between two points is above 0
-abbrev pub samePoints : Table → ℕ → ℕ → Bool
-samePoints D p q = notAbove0 (tight D p q) && notAbove0 (tight D q p)
-
-pub same-variables : (D : Table) (x r : ℕ) → samePoints D (2 * x) (2 * r) ≡ sameGroup D x r
-same-variables D x r =
-    let a : 2 * x ≡ point x 0 = omega arith in
-    let b : 2 * r ≡ point r 0 = omega arith in
-    ap₂ (samePoints D) a b
 
 -- ---- one half, as the code finds it
 module _ (p : ℕ) (bound : ℤ) where
@@ -145,3 +136,12 @@ groups-ready n t rest bounds m e =
       room = omega (arith, ap length e, length-append (tabulate (2 * n) f) rest, l);
       written = λ i h. ap (λ (b : List ℤ). number b i) e ∙ List·getD-append (tabulate (2 * n) f) rest (pos 0) i (omega (arith, l)) ∙ getD-tabulate (2 * n) i f (pos 0) h;
     }
+
+-- ---- two more numbers of the groups: the variable and the sign of the point of x
+pub pair-filled : (D : Table) (d : List ℕ) (x p : ℕ) → 2 * x + 1 < length d → p ≡ groupPoint D x
+    → set (set (filled (groupAt D) d (2 * x)) (2 * x) (p / 2)) (2 * x + 1) (p % 2) ≡ filled (groupAt D) d (2 * (x + 1))
+pair-filled D d x p h e =
+    let z : 2 * x + 1 + 1 ≡ 2 * (x + 1) = omega arith in
+    ap (λ (l : List ℕ). set l (2 * x + 1) (p % 2)) (filled-more (groupAt D) d (2 * x) (p / 2) (omega arith) (ap (λ (q : ℕ). q / 2) e ∙ sym (group-variable D x)))
+    ∙ filled-more (groupAt D) d (2 * x + 1) (p % 2) h (ap (λ (q : ℕ). q % 2) e ∙ sym (group-sign D x))
+    ∙ ap (filled (groupAt D) d) z

@@ -12,11 +12,11 @@ ghost use lib.ListN.{length, drop};
 ghost use Rattle.integers.specs.Sequence.{tabulate};
 ghost use Rattle.steps.specs.Point.{point, opposite};
 ghost use Rattle.theory_bounds.specs.Tight.{halves};
-ghost use Rattle.theory_bounds.specs.Answers.{boundAt, greatestOf, leastOf, groupAt};
+ghost use Rattle.theory_bounds.specs.Answers.{boundAt, greatestOf, leastOf, samePoints, groupPoint, groupAt};
 ghost use Rattle.decide_rows.specs.Stored.{stored};
 ghost use Rattle.decide_rows.specs.Read.{distanceOf};
 ghost use Rattle.decide_stored_table.specs.Table.{tableOf, ShortTable};
-ghost use Rattle.decide_bounds_groups.specs.Grouping.{halfIn, tightIn, HalfReady, GroupsReady, samePoints};
+ghost use Rattle.decide_bounds_groups.specs.Grouping.{halfIn, tightIn, HalfReady, GroupsReady};
 
 // Written for a least value that is absent.
 const ABSENT_LEAST: i64 = -9223372036854775808;
@@ -104,29 +104,32 @@ fn same_points(table: &[i64], n: usize, bounds: &[i64], p: usize, q: usize) -> b
     tight_by(bounds, entry_at(table, n, q, p), q, p) <= 0
 }
 
-// The lowest variable that has the value of x in every solution.
-fn group_at(table: &[i64], n: usize, bounds: &[i64], x: usize) -> usize
+// The lowest point that has the value of x in every solution: the plus point of x at the latest.
+fn group_point(table: &[i64], n: usize, bounds: &[i64], x: usize) -> usize
     requires { ⌜ GroupsReady n (now table) (now bounds) × (x < n) ⌝ }
-    ensures { λ r. ⌜ r ≡ groupAt (tableOf (2 * n) (now (table .entry))) x ⌝ }
+    ensures { λ r. ⌜ r ≡ groupPoint (tableOf (2 * n) (now (table .entry))) x ⌝ }
 {
-    let mut r = 0;
-    while r < x {
-        if same_points(table, n, bounds, 2 * x, 2 * r) {
-            return r;
+    let own = 2 * x;
+    let mut p = 0;
+    while p < own {
+        if same_points(table, n, bounds, own, p) {
+            return p;
         }
-        r += 1;
+        p += 1;
     }
-    r
+    p
 }
 
-// The groups of all n variables, whose bounds are written.
+// The groups of all n variables, whose bounds are written: of each the variable of its lowest point, then the sign.
 pub fn write_groups(table: &[i64], n: usize, bounds: &[i64], groups: &mut [u32])
-    requires { ⌜ GroupsReady n (now table) (now bounds) × (n ≤ length (now groups)) ⌝ }
-    ensures { λ _. ⌜ now (groups .exit) ≡ tabulate n (groupAt (tableOf (2 * n) (now (table .entry)))) ++ drop n (now (groups .entry)) ⌝ }
+    requires { ⌜ GroupsReady n (now table) (now bounds) × (2 * n ≤ length (now groups)) ⌝ }
+    ensures { λ _. ⌜ now (groups .exit) ≡ tabulate (2 * n) (groupAt (tableOf (2 * n) (now (table .entry)))) ++ drop (2 * n) (now (groups .entry)) ⌝ }
 {
     let mut x = 0;
     while x < n {
-        groups[x] = group_at(table, n, bounds, x) as u32;
+        let p = group_point(table, n, bounds, x);
+        groups[2 * x] = (p / 2) as u32;
+        groups[2 * x + 1] = (p % 2) as u32;
         x += 1;
     }
 }

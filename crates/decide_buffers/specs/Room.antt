@@ -48,7 +48,7 @@ abbrev pub boundsRoom : ℕ → ℕ
 boundsRoom n = 2 * n
 
 abbrev pub groupsRoom : ℕ → ℕ
-groupsRoom n = n
+groupsRoom n = 2 * n
 
 abbrev pub refutationRoom : ℕ → ℕ
 refutationRoom n = 4 + 4 * n

@@ -15,7 +15,7 @@ const MODEL_EACH: usize = 1;
 
 const BOUNDS_EACH: usize = 2;
 
-const GROUPS_EACH: usize = 1;
+const GROUPS_EACH: usize = 2;
 
 const REFUTATION_EACH: usize = 4;
 

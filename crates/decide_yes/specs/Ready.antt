@@ -14,4 +14,4 @@ pub record AnswersReady (n : ℕ) (t model bounds : List ℤ) (groups : List ℕ
   pub small : (k : ℕ) → k < n → Within maxModel (tableModel n (tableOf (2 * n) t) k)
   pub model-room : n ≤ length model
   pub bounds-room : 2 * n ≤ length bounds
-  pub groups-room : n ≤ length groups
+  pub groups-room : 2 * n ≤ length groups

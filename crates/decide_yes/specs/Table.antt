@@ -77,7 +77,7 @@ module _ (n : ℕ) (L : List ℤ) (few : n ≤ maxVariables) (ok : LinesOk n L) 
   unfolding boundsOf
   bounds-agree = bounds-same n D (distances n (linesOf L)) agree
 
-  pub groups-agree : tabulate n (groupAt (tableOf (2 * n) (tableFor n L))) ≡ groupsOf n (linesOf L)
+  pub groups-agree : tabulate (2 * n) (groupAt (tableOf (2 * n) (tableFor n L))) ≡ groupsOf n (linesOf L)
   unfolding groupsOf
   groups-agree = groups-same n D (distances n (linesOf L)) agree
 

@@ -24,7 +24,7 @@ pub fn write_answers(
     ensures { λ _. ⌜
         (now (model .exit) ≡ tabulate n (tableModel n (tableOf (2 * n) (now (table .entry)))) ++ drop n (now (model .entry)))
         × (now (bounds .exit) ≡ tabulate (2 * n) (boundAt (tableOf (2 * n) (now (table .entry)))) ++ drop (2 * n) (now (bounds .entry)))
-        × (now (groups .exit) ≡ tabulate n (groupAt (tableOf (2 * n) (now (table .entry)))) ++ drop n (now (groups .entry)))
+        × (now (groups .exit) ≡ tabulate (2 * n) (groupAt (tableOf (2 * n) (now (table .entry)))) ++ drop (2 * n) (now (groups .entry)))
         ⌝ }
 {
     write_model(table, n, model);

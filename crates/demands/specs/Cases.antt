@@ -112,7 +112,7 @@ cases =
     -- 1
     record { n = 0; list = []; expected = on-yes [] [] [] }
     -- 2
-    ∷ record { n = 1; list = []; expected = on-yes (pos 0 ∷ []) (absentLeast ∷ absentGreatest ∷ []) (0 ∷ []) }
+    ∷ record { n = 1; list = []; expected = on-yes (pos 0 ∷ []) (absentLeast ∷ absentGreatest ∷ []) (0 ∷ 0 ∷ []) }
     -- 3, and with d = 0
     ∷ record { n = 0; list = pos 0 ∷ pos 0 ∷ pos 0 ∷ pos 0 ∷ minus 1 ∷ pos 0 ∷ []; expected = on-no (3 ∷ 1 ∷ 0 ∷ 0 ∷ []) [] }
     ∷ record { n = 0; list = pos 0 ∷ pos 0 ∷ pos 0 ∷ pos 0 ∷ pos 0 ∷ pos 0 ∷ []; expected = on-yes [] [] [] }
@@ -126,7 +126,7 @@ cases =
           ∷ pos 1 ∷ pos 0 ∷ pos 1 ∷ pos 1 ∷ minus 1 ∷ pos 0
           ∷ minus 1 ∷ pos 0 ∷ minus 1 ∷ pos 2 ∷ minus 4 ∷ pos 0
           ∷ [];
-      expected = on-yes (pos 0 ∷ minus 1 ∷ pos 4 ∷ []) (absentLeast ∷ pos 0 ∷ absentLeast ∷ absentGreatest ∷ pos 4 ∷ absentGreatest ∷ []) (0 ∷ 1 ∷ 2 ∷ []);
+      expected = on-yes (pos 0 ∷ minus 1 ∷ pos 4 ∷ []) (absentLeast ∷ pos 0 ∷ absentLeast ∷ absentGreatest ∷ pos 4 ∷ absentGreatest ∷ []) (0 ∷ 0 ∷ 1 ∷ 0 ∷ 2 ∷ 0 ∷ []);
     }
     -- 6
     ∷ record {
@@ -137,11 +137,11 @@ cases =
           ∷ pos 1 ∷ pos 1 ∷ pos 1 ∷ pos 1 ∷ pos 1 ∷ pos 0
           ∷ minus 1 ∷ pos 1 ∷ minus 1 ∷ pos 1 ∷ pos 1 ∷ pos 0
           ∷ [];
-      expected = on-yes (pos 0 ∷ pos 0 ∷ []) (pos 0 ∷ pos 0 ∷ pos 0 ∷ pos 0 ∷ []) (0 ∷ 0 ∷ []);
+      expected = on-yes (pos 0 ∷ pos 0 ∷ []) (pos 0 ∷ pos 0 ∷ pos 0 ∷ pos 0 ∷ []) (0 ∷ 0 ∷ 0 ∷ 0 ∷ []);
     }
     -- 7, and with d = 0
     ∷ record { n = 1; list = list-7; expected = on-no (1 ∷ 1 ∷ 0 ∷ 0 ∷ []) (minus 1 ∷ []) }
-    ∷ record { n = 1; list = pos 1 ∷ pos 0 ∷ minus 1 ∷ pos 0 ∷ pos 0 ∷ pos 0 ∷ []; expected = on-yes (pos 0 ∷ []) (absentLeast ∷ absentGreatest ∷ []) (0 ∷ []) }
+    ∷ record { n = 1; list = pos 1 ∷ pos 0 ∷ minus 1 ∷ pos 0 ∷ pos 0 ∷ pos 0 ∷ []; expected = on-yes (pos 0 ∷ []) (absentLeast ∷ absentGreatest ∷ []) (0 ∷ 0 ∷ []) }
     -- 8, and with the second d -3
     ∷ record { n = 1; list = list-8; expected = on-no (1 ∷ 2 ∷ 0 ∷ 0 ∷ 2 ∷ []) (minus 2 ∷ []) }
     ∷ record {
@@ -150,10 +150,10 @@ cases =
           pos 1 ∷ pos 0 ∷ pos 0 ∷ pos 0 ∷ pos 3 ∷ pos 0
           ∷ minus 1 ∷ pos 0 ∷ pos 0 ∷ pos 0 ∷ minus 3 ∷ pos 0
           ∷ [];
-      expected = on-yes (pos 3 ∷ []) (pos 3 ∷ pos 3 ∷ []) (0 ∷ []);
+      expected = on-yes (pos 3 ∷ []) (pos 3 ∷ pos 3 ∷ []) (0 ∷ 0 ∷ []);
     }
     -- 9
-    ∷ record { n = 1; list = list-9; expected = on-yes (pos 4 ∷ []) (pos 4 ∷ absentGreatest ∷ []) (0 ∷ []) }
+    ∷ record { n = 1; list = list-9; expected = on-yes (pos 4 ∷ []) (pos 4 ∷ absentGreatest ∷ []) (0 ∷ 0 ∷ []) }
     -- 10
     ∷ record {
       n = 2;
@@ -161,7 +161,7 @@ cases =
           pos 1 ∷ pos 0 ∷ minus 1 ∷ pos 1 ∷ pos 0 ∷ pos 0
           ∷ minus 1 ∷ pos 0 ∷ pos 1 ∷ pos 1 ∷ pos 0 ∷ pos 0
           ∷ [];
-      expected = on-yes (pos 0 ∷ pos 0 ∷ []) (absentLeast ∷ absentGreatest ∷ absentLeast ∷ absentGreatest ∷ []) (0 ∷ 0 ∷ []);
+      expected = on-yes (pos 0 ∷ pos 0 ∷ []) (absentLeast ∷ absentGreatest ∷ absentLeast ∷ absentGreatest ∷ []) (0 ∷ 0 ∷ 0 ∷ 0 ∷ []);
     }
     ∷ []
 

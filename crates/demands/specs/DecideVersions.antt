@@ -2,13 +2,14 @@
 use mathlib.Core.Path.{_≡_, refl, sym, ap, subst, _∙_}
 use mathlib.Core.Bool.{Bool, true, false, cond, not}
 use mathlib.Core.List.{List, [], _∷_, _++_, reverse, map}
-use Prim.Native.Nat.{ℕ, zero, suc, _+_, _/_, _%_, _<_}
+use Prim.Native.Nat.{ℕ, zero, suc, _+_, _*_, _-_, _/_, _%_, _<_}
 use native.Mathlib.Omega.{arith}
 use lib.Dec.{eqb, ltb}
 use lib.IntN.{ℤ, pos, negℤ}
 use lib.ListN.{length, getD, take, drop, replicate}
 use Rattle.integers.specs.Laws.{never}
 use Rattle.integers.specs.Sequence.{tabulate}
+use Rattle.integers.specs.Lowest.{lowest}
 use Rattle.lines.specs.declared.Line.{Line}
 use Rattle.lines.specs.declared.Refusal.the-variants.{TooManyVariables, BrokenLength, TooManyLines, BadCoefficient, BadVariable, BadConstant, ShortOutput}
 use Rattle.lines.specs.declared.Validity.{Validity}
@@ -31,13 +32,13 @@ use Rattle.theory_walks.specs.Row.{relaxRow, startRow, rounds, rowAt, best}
 use Rattle.theory_walks.specs.Negative.{noNegative}
 use Rattle.theory_bounds.specs.Points.{assign}
 use Rattle.theory_bounds.specs.Near.{above, atMost, near}
-use Rattle.theory_bounds.specs.Tight.{halves, tight}
+use Rattle.theory_bounds.specs.Tight.{Table, halves, tight}
 use Rattle.theory_bounds.specs.Extend.{limit, pick}
 use Rattle.theory_bounds.specs.Model.{model}
 use Rattle.theory_bounds.specs.Table.{tableModel}
 use Rattle.lines.specs.Limits.{absentLeast, absentGreatest}
-use Rattle.theory_bounds.specs.Verdict.{hasFalse, firstFalse, consistentHalves, verdictOf, dueKind}
-use Rattle.theory_bounds.specs.Answers.{modelOf, boundsOf, groupsOf}
+use Rattle.theory_bounds.specs.Verdict.{hasFalse, firstFalse, distances, consistentHalves, verdictOf, dueKind}
+use Rattle.theory_bounds.specs.Answers.{modelOf, boundsOf, samePoints, groupPoint, groupsOf}
 use Rattle.theory_answers.specs.Refuted.{Due, due-refutation}
 use Rattle.theory_answers.specs.Decided.{due-accepted}
 use Rattle.decide_buffers.specs.Room.{Lent, lengthsOf, modelRoom, boundsRoom, groupsRoom, refutationRoom, identifiersRoom, workRoom, outputRooms, workRooms, firstShort, roomsValidity, decideValidity}
@@ -289,20 +290,6 @@ writes-nothing-breaks k =
     let s = on-yes nothing nothing k 1 [] (room 1) refl in
     let e : pos 0 ∷ pos 0 ∷ [] ≡ absentLeast ∷ absentGreatest ∷ [] = s .bounds in never (cc)
 
--- on a yes it gives each variable a group of its own
-abbrev ownGroupsYes : Left
-ownGroupsYes n L = written n (modelOf n (linesOf L)) (boundsOf n (linesOf L)) (tabulate n (λ k. k))
-
-pub ownGroups : Version
-ownGroups = leaving ownGroupsYes rightNo
-
-pub own-groups-breaks : Keeps ownGroups → ⊥
-unfolding ownGroups decideAnswer decideValidity roomsValidity validityOf linesValidity coefficientsOk variableOk variablesOk constantOk identifierOk lineAt isFalse verdictOf hasFalse noNegative consistentHalves
-    entry digit stepOf stepsOf relaxRow startRow rounds rowAt best opposite groupsOf halves tight
-own-groups-breaks k =
-    let s = on-yes ownGroupsYes rightNo k 2 equalPair (room 2) refl in
-    let e : _≡_ {A = List ℕ} (0 ∷ 1 ∷ []) (0 ∷ 0 ∷ []) = s .groups in never (cc)
-
 -- on a yes it gives no variable a least or greatest value
 abbrev absent : ℕ → List ℤ
 absent zero = []
@@ -421,6 +408,98 @@ stock-refutation-breaks k =
     let written : refutationIn (stockNo 3 list-4 (room 3)) ≡ stock 2 = ap (λ (j : ℕ). refutationIn (refuted 3 list-4 (stock j) (room 3))) kind-of-4 in
     let d : Due 3 list-4 (stock 2) = subst (Due 3 list-4) (sym (refutation-in o) ∙ written) (o .due) in
     let e : check.No 3 ≡ check.Yes = sym stock-not-accepted ∙ due-accepted 3 list-4 valid-4 (stock 2) d in never (cc)
+
+-- ---- versions with other groups
+-- on a yes it finds each variable's group variable and its sign, from the distances, so
+abbrev grouping : (variable sign : Table → ℕ → ℕ) → Left
+grouping v s n L = written n (modelOf n (linesOf L)) (boundsOf n (linesOf L)) (tabulate (2 * n) (λ i. cond (eqb (i % 2) 0) (v (distances n (linesOf L)) (i / 2)) (s (distances n (linesOf L)) (i / 2))))
+
+-- the right variable
+abbrev rightVariable : Table → ℕ → ℕ
+rightVariable D x = groupPoint D x / 2
+
+-- plus
+abbrev noSign : Table → ℕ → ℕ
+noSign D x = 0
+
+-- each variable is a group of its own
+abbrev ownVariable : Table → ℕ → ℕ
+ownVariable D x = x
+
+pub ownGroups : Version
+ownGroups = leaving (grouping ownVariable noSign) rightNo
+
+pub own-groups-breaks : Keeps ownGroups → ⊥
+unfolding ownGroups decideAnswer decideValidity roomsValidity validityOf linesValidity coefficientsOk variableOk variablesOk constantOk identifierOk lineAt isFalse verdictOf hasFalse noNegative consistentHalves
+    entry digit stepOf stepsOf relaxRow startRow rounds rowAt best opposite groupsOf halves tight
+own-groups-breaks k =
+    let s = on-yes (grouping ownVariable noSign) rightNo k 2 equalPair (room 2) refl in
+    let e : _≡_ {A = List ℕ} (0 ∷ 0 ∷ 1 ∷ 0 ∷ []) (0 ∷ 0 ∷ 0 ∷ 0 ∷ []) = s .groups in never (cc)
+
+-- it never says minus: the lowest variable with the same value
+abbrev plusVariable : Table → ℕ → ℕ
+plusVariable D x = lowest (λ r. samePoints D (2 * x) (2 * r)) 0 x
+
+pub neverMinus : Version
+neverMinus = leaving (grouping plusVariable noSign) rightNo
+
+-- x and y mirrored: x + y is 0
+abbrev mirroredPair : List ℤ
+mirroredPair =
+    pos 1 ∷ pos 0 ∷ pos 1 ∷ pos 1 ∷ pos 0 ∷ pos 0
+    ∷ negℤ (pos 1) ∷ pos 0 ∷ negℤ (pos 1) ∷ pos 1 ∷ pos 0 ∷ pos 0
+    ∷ []
+
+pub never-minus-breaks : Keeps neverMinus → ⊥
+unfolding neverMinus decideAnswer decideValidity roomsValidity validityOf linesValidity coefficientsOk variableOk variablesOk constantOk identifierOk lineAt isFalse verdictOf hasFalse noNegative consistentHalves
+    entry digit stepOf stepsOf relaxRow startRow rounds rowAt best opposite groupsOf halves tight
+never-minus-breaks k =
+    let s = on-yes (grouping plusVariable noSign) rightNo k 2 mirroredPair (room 2) refl in
+    let e : _≡_ {A = List ℕ} (0 ∷ 0 ∷ 1 ∷ 0 ∷ []) (0 ∷ 0 ∷ 0 ∷ 1 ∷ []) = s .groups in never (cc)
+
+-- where both signs hold it says minus
+abbrev minusFirst : Table → ℕ → ℕ
+minusFirst D x = cond (samePoints D (2 * x) (2 * rightVariable D x + 1)) 1 0
+
+pub prefersMinus : Version
+prefersMinus = leaving (grouping rightVariable minusFirst) rightNo
+
+-- x always 0
+abbrev zeroList : List ℤ
+zeroList =
+    pos 1 ∷ pos 0 ∷ pos 0 ∷ pos 0 ∷ pos 0 ∷ pos 0
+    ∷ negℤ (pos 1) ∷ pos 0 ∷ pos 0 ∷ pos 0 ∷ pos 0 ∷ pos 0
+    ∷ []
+
+pub prefers-minus-breaks : Keeps prefersMinus → ⊥
+unfolding prefersMinus decideAnswer decideValidity roomsValidity validityOf linesValidity coefficientsOk variableOk variablesOk constantOk identifierOk lineAt isFalse verdictOf hasFalse noNegative consistentHalves
+    entry digit stepOf stepsOf relaxRow startRow rounds rowAt best opposite groupsOf halves tight
+prefers-minus-breaks k =
+    let s = on-yes (grouping rightVariable minusFirst) rightNo k 1 zeroList (room 1) refl in
+    let e : _≡_ {A = List ℕ} (0 ∷ 1 ∷ []) (0 ∷ 0 ∷ []) = s .groups in never (cc)
+
+-- its sign is that of x to the variable before x, not to the group variable
+abbrev neighbourSign : Table → ℕ → ℕ
+neighbourSign D x = cond (samePoints D (2 * x) (2 * (x - 1) + 1)) 1 0
+
+pub signsToNeighbour : Version
+signsToNeighbour = leaving (grouping rightVariable neighbourSign) rightNo
+
+-- y mirrors x and z mirrors y, so that z is x
+abbrev mirroredTwice : List ℤ
+mirroredTwice =
+    mirroredPair
+    ++ pos 1 ∷ pos 1 ∷ pos 1 ∷ pos 2 ∷ pos 0 ∷ pos 0
+    ∷ negℤ (pos 1) ∷ pos 1 ∷ negℤ (pos 1) ∷ pos 2 ∷ pos 0 ∷ pos 0
+    ∷ []
+
+other-last : _≡_ {A = List ℕ} (0 ∷ 0 ∷ 0 ∷ 1 ∷ 0 ∷ 1 ∷ []) (0 ∷ 0 ∷ 0 ∷ 1 ∷ 0 ∷ 0 ∷ []) → ⊥
+other-last e = let l : _≡_ {A = ℕ} 1 0 = ap (λ (g : List ℕ). getD g 5 0) e in absurd (omega arith)
+
+pub signs-to-neighbour-breaks : Keeps signsToNeighbour → ⊥
+unfolding signsToNeighbour decideAnswer decideValidity roomsValidity validityOf linesValidity coefficientsOk variableOk variablesOk constantOk identifierOk lineAt isFalse verdictOf hasFalse noNegative consistentHalves
+    entry digit stepOf stepsOf relaxRow startRow rounds rowAt best opposite groupsOf halves tight
+signs-to-neighbour-breaks k = other-last (on-yes (grouping rightVariable neighbourSign) rightNo k 3 mirroredTwice (room 3) refl .groups)
 
 -- ---- versions that lose identifiers
 -- on a no it writes a due refutation, and this of it for the identifiers

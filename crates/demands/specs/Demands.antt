@@ -10,7 +10,7 @@
 -- `InputReported` (file_report/specs/Input.antt). src/lib.rt calls both checkers on buffers that could be written, and proves that every buffer
 -- is left as it was.
 use mathlib.Core.Path.{_≡_, refl, sym, ap, subst, _∙_}
-use mathlib.Core.Logic.{_↔_, Iff·rfl, Iff·trans, Iff·and}
+use mathlib.Core.Logic.{_⊎_, _↔_, Iff·rfl, Iff·trans, Iff·and}
 use mathlib.Core.Bool.{Bool, true, false, cond}
 use mathlib.Core.List.{List, [], _∷_, _++_}
 use Prim.Native.Nat.{ℕ, _+_, _*_, _/_, _%_, _<_, _≤_}
@@ -41,7 +41,7 @@ use Rattle.check_pieces.specs.Cut.{Words, takePieces, joined, resumed, in-piece
 use Rattle.check_soundness.specs.Head.{kindOf, stepsIn}
 use Rattle.check_soundness.specs.Refutes.{Refutes}
 use Rattle.check_soundness.specs.Answered.{accepted-when, answers-longer, answers-no-solvable}
-use Rattle.theory_answers.specs.Semantics.{Agrees, IsModel, NoLeast, NoGreatest, Written}
+use Rattle.theory_answers.specs.Semantics.{Agrees, IsModel, NoLeast, NoGreatest, Equal, Mirrored, AlwaysZero, SameVariable, SameSign, Written}
 use Rattle.lines.specs.Limits.{absentLeast, absentGreatest}
 use Rattle.check_soundness.specs.BreaksAt.{BreaksAt}
 use Rattle.check_soundness.specs.Breaks.{breaks-once, breaks-unless-refutes, no-exactly-where}
@@ -54,8 +54,9 @@ use Rattle.theory_answers.specs.Refuted.{Due, due-refutation}
 use Rattle.theory_answers.specs.Meaning.{computed-written, no-tie}
 use Rattle.theory_answers.specs.Decided.{DueKind, LowestFalseLine, names-the-lowest, lines-ok, yes-solvable, no-unsolvable, solvable-yes, unsolvable-no, due-accepted, accepted-no, kind-due}
 use Rattle.theory_answers.specs.Unique.{written-model, written-bounds, written-groups}
+use Rattle.theory_answers.specs.Groups.{shared-exactly, equal-exactly, mirrored-exactly}
 use Rattle.theory_answers.specs.Absent.{least-absent, greatest-absent}
-use Rattle.theory_answers.specs.Longer.{no-stays, yes-before, least-stays-or-rises, greatest-stays-or-falls, groups-kept, model-kept, solves-both, longer-entails}
+use Rattle.theory_answers.specs.Longer.{no-stays, yes-before, least-stays-or-rises, greatest-stays-or-falls, groups-kept, equal-kept, different-kept, model-kept, solves-both, longer-entails}
 use Rattle.theory_answers.specs.Same.{same-verdict, same-written}
 use Rattle.decide_buffers.specs.Room.{Lent, modelRoom, boundsRoom, groupsRoom}
 use Rattle.decide.specs.declared.Answer.{Answer}
@@ -214,6 +215,13 @@ shows-no n L R v d =
 pub shorter-is-valid : (n : ℕ) (L M : List ℤ) → length L % lineSize ≡ 0 → ValidFor n (L ++ M) → ValidFor n L
 shorter-is-valid n L M = shorter-valid n L M
 
+-- Who shared a group variable in the groups before shares one in those after, with the same relative sign: equal signs stay equal, and different signs stay
+-- different unless both variables are always 0 in the longer list K.
+pub record GoOnSharing (K : List ℤ) (before after : List ℕ) (x y : ℕ) : Type 0 where
+  pub variable : SameVariable after x y
+  pub equal : SameSign before x y → SameSign after x y
+  pub different : (SameSign before x y → ⊥) → (SameSign after x y → ⊥) ⊎ (AlwaysZero (linesOf K) x × AlwaysZero (linesOf K) y)
+
 -- One claim over any two calls that were not refused, on a list and on one that begins with all its lines.
 pub record NothingUnlearned (n : ℕ) (L M : List ℤ) (c : Call n L) (d : Call n (L ++ M)) : Type 0 where
   -- A no hands over a refutation of the due kind, and the checker accepts it.
@@ -230,9 +238,9 @@ pub record NothingUnlearned (n : ℕ) (L M : List ℤ) (c : Call n L) (d : Call 
       → getD (boundsIn n (c .after)) (2 * x) (pos 0) ⩽ getD (boundsIn n (d .after)) (2 * x) (pos 0)
   pub greatest : c .answer ≡ decide.Yes → d .answer ≡ decide.Yes → (x : ℕ) → x < n
       → getD (boundsIn n (d .after)) (2 * x + 1) (pos 0) ⩽ getD (boundsIn n (c .after)) (2 * x + 1) (pos 0)
-  -- Two events in one group stay in one group.
+  -- Two events in one group stay in one group, equal ones equal and mirrored ones mirrored.
   pub groups : c .answer ≡ decide.Yes → d .answer ≡ decide.Yes → (x y : ℕ) → x < n → y < n
-      → getD (groupsIn n (c .after)) x 0 ≡ getD (groupsIn n (c .after)) y 0 → getD (groupsIn n (d .after)) x 0 ≡ getD (groupsIn n (d .after)) y 0
+      → SameVariable (groupsIn n (c .after)) x y → GoOnSharing (L ++ M) (groupsIn n (c .after)) (groupsIn n (d .after)) x y
   -- The model is the same exactly if the shorter list's model meets every added line.
   pub model : c .answer ≡ decide.Yes → d .answer ≡ decide.Yes
       → (modelIn n (d .after) ≡ modelIn n (c .after)) ↔ Solves (linesOf M) (assignmentOf (modelIn n (c .after)))
@@ -251,7 +259,14 @@ nothing-unlearned n L M c d =
       yes-was-yes = λ e. verdict-yes c (yes-before n L (L ++ M) v u more (call-yes d e));
       least = λ a b. least-stays-or-rises n L (L ++ M) v u more _ _ _ _ _ _ (call-written c a) (call-written d b);
       greatest = λ a b. greatest-stays-or-falls n L (L ++ M) v u more _ _ _ _ _ _ (call-written c a) (call-written d b);
-      groups = λ a b. groups-kept n L (L ++ M) v u more _ _ _ _ _ _ (call-written c a) (call-written d b);
+      groups = λ a b x y h k e.
+          let w = call-written c a in
+          let z = call-written d b in
+          record {
+            variable = groups-kept n L (L ++ M) v u more _ _ _ _ _ _ w z x y h k e;
+            equal = equal-kept n L (L ++ M) v u more _ _ _ _ _ _ w z x y h k e;
+            different = different-kept n L (L ++ M) v u more _ _ _ _ _ _ w z x y h k e;
+          };
       model = λ a b.
           let w = call-written c a in
           let k = model-kept n L (L ++ M) v u more _ _ _ _ _ _ w (call-written d b) in
@@ -305,6 +320,24 @@ yes-writes n L v e = computed-written n (linesOf L) (lines-ok n L v) e
 pub nothing-else : (n : ℕ) (L model bounds : List ℤ) (groups : List ℕ) → ValidFor n L → Written n (linesOf L) model bounds groups
     → (model ≡ modelOf n (linesOf L)) × (bounds ≡ boundsOf n (linesOf L)) × (groups ≡ groupsOf n (linesOf L))
 nothing-else n L m b g v w = (written-model n L v m b g w, written-bounds n L v m b g w, written-groups n L v m b g w)
+
+-- On a yes, two group entries tell all that holds of two events in every solution. Sharing a group variable is an equivalence up to sign: x and y have the
+-- same one exactly if x = y in every solution or x = -y in every solution. The signs say which: x = y exactly if both entries are equal, variable and sign;
+-- x = -y exactly if the variables are equal and the signs differ, or both are always 0.
+pub record GroupsTell (n : ℕ) (L : List ℤ) (c : Call n L) (x y : ℕ) : Type 0 where
+  pub shared : SameVariable (groupsIn n (c .after)) x y ↔ (Equal (linesOf L) x y ⊎ Mirrored (linesOf L) x y)
+  pub equal : (SameVariable (groupsIn n (c .after)) x y × SameSign (groupsIn n (c .after)) x y) ↔ Equal (linesOf L) x y
+  pub mirrored : ((SameVariable (groupsIn n (c .after)) x y × (SameSign (groupsIn n (c .after)) x y → ⊥)) ⊎ (AlwaysZero (linesOf L) x × AlwaysZero (linesOf L) y))
+      ↔ Mirrored (linesOf L) x y
+
+pub groups-tell : (n : ℕ) (L : List ℤ) (c : Call n L) → c .answer ≡ decide.Yes → (x y : ℕ) → x < n → y < n → GroupsTell n L c x y
+groups-tell n L c e x y h k =
+    let w = call-written c e in
+    record {
+      shared = shared-exactly n (linesOf L) _ _ _ w x y h k;
+      equal = equal-exactly n (linesOf L) _ _ _ w x y h k;
+      mirrored = mirrored-exactly n (linesOf L) _ _ _ w x y h k;
+    }
 
 -- The values that a variable has in solutions agreeing with all earlier choices are consecutive integers, so there is no tie.
 pub consecutive-values : (n : ℕ) (L : List ℤ) → ValidFor n L → (k : ℕ) → k < n → (s t : Assignment) → Solves (linesOf L) s → Solves (linesOf L) t → Agrees k t s

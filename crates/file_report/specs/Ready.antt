@@ -13,7 +13,7 @@ use Rattle.file_report.specs.Report.{mostVariables}
 
 -- the room for text that the program has
 abbrev pub textSize : ℕ
-textSize = 2_048
+textSize = 4_096
 
 pub record RefutationReady (R text : List ℕ) : Type 0 where
   pub room : headSize + stepsIn R ≤ length R

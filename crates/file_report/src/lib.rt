@@ -38,7 +38,7 @@ const MOST_NUMBERS: usize = LINE_SIZE * MOST_LINES;
 // Nothing beyond the bytes of so many lines, and of one line more, is looked at, each as long as a line can be.
 pub const INPUT_SIZE: usize = VARIABLES_RECORD + LONGEST_LINE_RECORD * (MOST_LINES + 1);
 // The text of so many variables takes less.
-pub const TEXT_SIZE: usize = 2_048;
+pub const TEXT_SIZE: usize = 4_096;
 
 // The refutation that deciding left: as many numbers as its counts say.
 fn report_no(refutation: &[u32], text: &mut [u8]) -> usize

@@ -15,4 +15,4 @@ fieldRoom = 22
 
 -- a variable's line
 abbrev pub lineRoom : ℕ
-lineRoom = 5 * fieldRoom
+lineRoom = 6 * fieldRoom

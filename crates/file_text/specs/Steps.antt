@@ -72,12 +72,15 @@ valueText x value = decimalOf x ++ space ++ signedText value ++ space
 abbrev pub boundsText : ℤ → ℤ → List ℕ
 boundsText least greatest = boundText absentLeast least ++ space ++ boundText absentGreatest greatest ++ space
 
+abbrev pub groupText : ℕ → ℕ → List ℕ
+groupText variable sign = decimalOf variable ++ space ++ decimalOf sign ++ newline
+
 pub bounds-same : {a b c d : ℤ} → a ≡ b → c ≡ d → boundsText a c ≡ boundsText b d
 bounds-same {a} {b} {c} {d} p q = ap (λ (z : ℤ). boundsText z c) p ∙ ap (boundsText b) q
 
 -- a line by its parts
 pub line-parts : (x : ℕ) (model bounds : List ℤ) (groups : List ℕ)
-    → valueText x (getD model x (pos 0)) ++ boundsText (getD bounds (2 * x) (pos 0)) (getD bounds (2 * x + 1) (pos 0)) ++ decimalOf (getD groups x 0) ++ newline
+    → valueText x (getD model x (pos 0)) ++ boundsText (getD bounds (2 * x) (pos 0)) (getD bounds (2 * x + 1) (pos 0)) ++ groupText (getD groups (2 * x) 0) (getD groups (2 * x + 1) 0)
     ≡ lineText x model bounds groups
 unfolding lineText
 line-parts x model bounds groups = simp append-assoc

@@ -50,7 +50,7 @@ abbrev pub boundText : ℤ → ℤ → List ℕ
 boundText absent z = cond (eqZ z absent) dot (signedText z)
 
 -- ---- yes
--- a variable's line: its number, value, least, greatest and group
+-- a variable's line: its number, value, least, greatest, group variable and sign
 unfoldable pub lineText : ℕ → List ℤ → List ℤ → List ℕ → List ℕ
 lineText x model bounds groups =
     decimalOf x
@@ -61,7 +61,9 @@ lineText x model bounds groups =
     ++ space
     ++ boundText absentGreatest (getD bounds (2 * x + 1) (pos 0))
     ++ space
-    ++ decimalOf (getD groups x 0)
+    ++ decimalOf (getD groups (2 * x) 0)
+    ++ space
+    ++ decimalOf (getD groups (2 * x + 1) 0)
     ++ newline
 
 -- the lines of the first n variables
@@ -91,8 +93,8 @@ unfoldable pub refusedText : ℕ → ℕ → List ℕ
 refusedText number place = refusedWord ++ decimalOf number ++ space ++ decimalOf place ++ newline
 
 -- ---- examples
--- one variable with x ≤ 5: "yes", then "0 0 . 5 0"
-one-variable : yesText 1 (pos 0 ∷ []) (absentLeast ∷ pos 5 ∷ []) (0 ∷ []) ≡ 121 ∷ 101 ∷ 115 ∷ 10 ∷ 48 ∷ 32 ∷ 48 ∷ 32 ∷ 46 ∷ 32 ∷ 53 ∷ 32 ∷ 48 ∷ 10 ∷ []
+-- one variable with x ≤ 5: "yes", then "0 0 . 5 0 0"
+one-variable : yesText 1 (pos 0 ∷ []) (absentLeast ∷ pos 5 ∷ []) (0 ∷ 0 ∷ []) ≡ 121 ∷ 101 ∷ 115 ∷ 10 ∷ 48 ∷ 32 ∷ 48 ∷ 32 ∷ 46 ∷ 32 ∷ 53 ∷ 32 ∷ 48 ∷ 32 ∷ 48 ∷ 10 ∷ []
 unfolding yesText linesText lineText signedText decimalOf decimalBelow
 one-variable = refl
 

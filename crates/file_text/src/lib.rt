@@ -10,7 +10,7 @@ ghost use Rattle.integers.specs.Integer.{_⋖_};
 ghost use Rattle.file_text.specs.Text.{decimalOf, signedText, boundText, lineText, yesText, noText, refusedText};
 ghost use Rattle.file_text.specs.Put.{Put, Wrote};
 ghost use Rattle.file_text.specs.Rooms.{digitsRoom, signedRoom, fieldRoom, lineRoom};
-ghost use Rattle.file_text.specs.Steps.{valueText, boundsText, nextText};
+ghost use Rattle.file_text.specs.Steps.{valueText, boundsText, groupText, nextText};
 
 // One byte.
 fn put_byte(out: &mut [u8], at: usize, byte: u8) -> usize
@@ -97,7 +97,18 @@ fn put_bounds(out: &mut [u8], at: usize, least: i64, greatest: i64) -> usize
     put_byte(out, next, b' ')
 }
 
-// The line of the variable x: its number, value, least, greatest and group.
+// A variable's group variable and sign, with a space between, and the end of the line.
+fn put_group(out: &mut [u8], at: usize, variable: u32, sign: u32) -> usize
+    requires { ⌜ at + 2 * fieldRoom ≤ length (now out) ⌝ }
+    ensures { λ r. ⌜ Put (2 * fieldRoom) at (groupText variable sign) (now (out .entry)) (now (out .exit)) r ⌝ }
+{
+    let mut next = put_decimal(out, at, variable as u64);
+    next = put_byte(out, next, b' ');
+    next = put_decimal(out, next, sign as u64);
+    put_byte(out, next, b'\n')
+}
+
+// The line of the variable x: its number, value, least, greatest, group variable and sign.
 fn put_variable_line(
     out: &mut [u8],
     at: usize,
@@ -106,18 +117,17 @@ fn put_variable_line(
     bounds: &[i64],
     groups: &[u32],
 ) -> usize
-    requires { ⌜ (x < length (now model)) × (2 * x + 1 < length (now bounds)) × (x < length (now groups)) × (at + lineRoom ≤ length (now out)) ⌝ }
+    requires { ⌜ (x < length (now model)) × (2 * x + 1 < length (now bounds)) × (2 * x + 1 < length (now groups)) × (at + lineRoom ≤ length (now out)) ⌝ }
     ensures { λ r. ⌜ Put lineRoom at (lineText x (now (model .entry)) (now (bounds .entry)) (now (groups .entry))) (now (out .entry)) (now (out .exit)) r ⌝ }
 {
     let mut next = put_value(out, at, x, model[x]);
     next = put_bounds(out, next, bounds[2 * x], bounds[2 * x + 1]);
-    next = put_decimal(out, next, groups[x] as u64);
-    put_byte(out, next, b'\n')
+    put_group(out, next, groups[2 * x], groups[2 * x + 1])
 }
 
 // The answer yes with n variables.
 pub fn write_yes(n: usize, model: &[i64], bounds: &[i64], groups: &[u32], out: &mut [u8]) -> usize
-    requires { ⌜ (n ≤ length (now model)) × (2 * n ≤ length (now bounds)) × (n ≤ length (now groups)) × (4 + n * lineRoom ≤ length (now out)) ⌝ }
+    requires { ⌜ (n ≤ length (now model)) × (2 * n ≤ length (now bounds)) × (2 * n ≤ length (now groups)) × (4 + n * lineRoom ≤ length (now out)) ⌝ }
     ensures { λ r. ⌜ Wrote (yesText n (now (model .entry)) (now (bounds .entry)) (now (groups .entry))) (now (out .entry)) (now (out .exit)) r ⌝ }
 {
     let mut at = put_text(out, 0, b"yes\n");

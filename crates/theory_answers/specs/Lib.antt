@@ -5,6 +5,7 @@ pub mod Solved
 pub mod Meaning
 pub mod Decided
 pub mod Unique
+pub mod Groups
 pub mod Absent
 pub mod Longer
 pub mod Same

@@ -1,6 +1,6 @@
 -- Demand 3 of the answers: what is learned of a list holds of each valid list whose every solution solves it, and so of each that begins with it.
-use mathlib.Core.Path.{_≡_, sym, ap, subst, _∙_}
-use mathlib.Core.Logic.{inl, inr, _↔_}
+use mathlib.Core.Path.{_≡_, sym, subst, _∙_}
+use mathlib.Core.Logic.{_⊎_, inl, inr, _↔_}
 use mathlib.Core.Bool.{true, false}
 use mathlib.Core.List.{List, _++_}
 use Prim.Native.Nat.{ℕ, _+_, _*_, _%_, _<_}
@@ -17,11 +17,12 @@ use Rattle.lines.specs.Line.{linesOf, Assignment, assignmentOf, Solves, Solvabl
 use Rattle.lines.specs.Refusal.{validityOf}
 use Rattle.lines.specs.LineNumbers.{lines-append}
 use Rattle.lines.specs.Solutions.{solves-append}
-use Rattle.theory_answers.specs.Semantics.{IsModel, Together, IsGroup, LeastWritten, GreatestWritten, Written}
+use Rattle.theory_answers.specs.Semantics.{IsModel, Equal, Mirrored, AlwaysZero, SameVariable, SameSign, LeastWritten, GreatestWritten, Written}
 use Rattle.theory_bounds.specs.Verdict.{verdictOf}
 use Rattle.theory_answers.specs.Meaning.{only-model}
 use Rattle.theory_answers.specs.Decided.{lines-ok, yes-solvable, no-unsolvable, solvable-yes, unsolvable-no}
-use Rattle.theory_answers.specs.Unique.{no-both-greatest, no-both-least, one-group, written-yes}
+use Rattle.theory_answers.specs.Unique.{no-both-greatest, no-both-least, written-yes}
+use Rattle.theory_answers.specs.Groups.{shared-exactly, equal-exactly, mirrored-exactly}
 use Rattle.theory_answers.specs.Absent.{least-above, greatest-below}
 
 -- ---- two valid lists: every solution of K solves L
@@ -68,15 +69,27 @@ module _ (n : ℕ) (L K : List ℤ) (valid : validityOf n L ≡ Valid) (valid′
         go v v′ (inr a) (inl b) = rw (a .1) (weaken v′ _ (greatest-below n K valid′ yes′ x h v′ b))
         go v v′ (inr a) (inr b) = rw (a .1, b .1) (simp ints (omega arith))
 
-    -- events in one group stay in one group
-    pub groups-kept : (x y : ℕ) → x < n → y < n → getD groups x 0 ≡ getD groups y 0 → getD groups′ x 0 ≡ getD groups′ y 0
-    groups-kept x y h k e = one-group ks y _ _ (record { together = λ t s. sym (same t s) ∙ g .together t s; lowest = λ q l u. g .lowest q l (λ t s. same t s ∙ u t s) }) (w′ .group-is y k)
-      where
-        g : IsGroup ks x (getD groups′ x 0)
-        g = w′ .group-is x h
+    -- who shares a group variable goes on sharing one, with the same relative sign
+    module _ (x y : ℕ) (h : x < n) (k : y < n) (e : SameVariable groups x y) where
+      pub groups-kept : SameVariable groups′ x y
+      groups-kept = shared-exactly n ks model′ bounds′ groups′ w′ x y h k .1 (later (shared-exactly n ls model bounds groups w x y h k .0 e))
+        where
+          later : Equal ls x y ⊎ Mirrored ls x y → Equal ks x y ⊎ Mirrored ks x y
+          later (inl f) = inl (λ t s. f t (entails t s))
+          later (inr f) = inr (λ t s. f t (entails t s))
 
-        same : Together ks x y
-        same t s = w .group-is x h .together t (entails t s) ∙ ap t e ∙ sym (w .group-is y k .together t (entails t s))
+      -- equal signs stay equal
+      pub equal-kept : SameSign groups x y → SameSign groups′ x y
+      equal-kept d = equal-exactly n ks model′ bounds′ groups′ w′ x y h k .1 (λ t s. equal-exactly n ls model bounds groups w x y h k .0 (e, d) t (entails t s)) .1
+
+      -- different ones stay different, unless both variables are always 0 now
+      pub different-kept : (SameSign groups x y → ⊥) → (SameSign groups′ x y → ⊥) ⊎ (AlwaysZero ks x × AlwaysZero ks y)
+      different-kept d = go (mirrored-exactly n ks model′ bounds′ groups′ w′ x y h k .1 (λ t s. mirrored-exactly n ls model bounds groups w x y h k .0 (inl (e, d)) t (entails t s)))
+        where
+          go : (SameVariable groups′ x y × (SameSign groups′ x y → ⊥)) ⊎ (AlwaysZero ks x × AlwaysZero ks y)
+              → (SameSign groups′ x y → ⊥) ⊎ (AlwaysZero ks x × AlwaysZero ks y)
+          go (inl f) = inl (f .1)
+          go (inr z) = inr z
 
     -- the model is the same exactly if it solves K
     pub model-kept : (model′ ≡ model) ↔ Solves ks (assignmentOf model)

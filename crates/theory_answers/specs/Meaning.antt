@@ -3,7 +3,7 @@ use mathlib.Core.Path.{_≡_, refl, sym, ap, _∙_}
 use mathlib.Core.Logic.{_⊎_, inl, inr, _↔_}
 use mathlib.Core.Bool.{Bool, true, false}
 use mathlib.Core.List.{List}
-use Prim.Native.Nat.{ℕ, _+_, _*_, _<_}
+use Prim.Native.Nat.{ℕ, zero, suc, _+_, _*_, _/_, _%_, _<_}
 use native.Mathlib.Omega.{arith}
 use lib.IntN.{ℤ, pos}
 use lib.ListN.{getD}
@@ -15,14 +15,14 @@ use Rattle.integers.specs.Sequence.{length-tabulate, getD-tabulate}
 use Rattle.lines.specs.declared.Line.{Line}
 use Rattle.lines.specs.Line.{Assignment, assignmentOf, Solves}
 use Rattle.lines.specs.Valid.{AllOk}
-use Rattle.steps.specs.Point.{point, value}
+use Rattle.steps.specs.Point.{point, value, value-plus, value-minus}
 use Rattle.theory_walks.specs.Distance.{Distance, none, some, _⊑_, some-le, le-some}
 use Rattle.theory_bounds.specs.Points.{variableOf, value-cong, variable-below}
 use Rattle.theory_bounds.specs.Tight.{Table, halves, tight}
-use Rattle.theory_bounds.specs.Table.{ClosedTable, Solution, tableModel, model-solves, model-nearest, model-unique, consecutive, greatest, no-greatest, least, no-least, grouped}
-use Rattle.theory_answers.specs.Semantics.{Agrees, IsModel, Together, IsGroup, LeastWritten, GreatestWritten, Written, NoGreatest, NoLeast}
+use Rattle.theory_bounds.specs.Table.{ClosedTable, Solution, tableModel, model-solves, model-nearest, model-unique, consecutive, greatest, no-greatest, least, no-least, equal-points}
+use Rattle.theory_answers.specs.Semantics.{Agrees, IsModel, signed, Together, IsGroup, groupVariable, groupSign, LeastWritten, GreatestWritten, Written, NoGreatest, NoLeast}
 use Rattle.theory_bounds.specs.Verdict.{distances, verdictOf}
-use Rattle.theory_bounds.specs.Answers.{modelOf, greatestOf, leastOf, boundAt, bound-least, bound-greatest, boundsOf, notAbove0, sameGroup, groupAt, groupsOf}
+use Rattle.theory_bounds.specs.Answers.{modelOf, greatestOf, leastOf, boundAt, bound-least, bound-greatest, boundsOf, notAbove0, samePoints, groupPoint, groupAt, group-variable, group-sign, groupsOf}
 use Rattle.integers.specs.Lowest.{Passed, NonePassed, lowest-known}
 use Rattle.theory_answers.specs.Solved.{Verdicts, verdict-yes, to-table, of-table, closed-table}
 
@@ -35,6 +35,17 @@ not-above (some z) = ((λ e. some-le (to z e)), (λ h. back z (le-some h)))
 
     back : (z : ℤ) → z ⩽ pos 0 → leZ z (pos 0) ≡ true
     back z = simp ints (omega arith)
+
+-- what a point stands for: its variable with its sign
+value-signed : (t : Assignment) (p : ℕ) → value t p ≡ signed (p % 2) (t (p / 2))
+value-signed t p = go (p % 2) refl
+  where
+    go : (s : ℕ) → p % 2 ≡ s → value t p ≡ signed s (t (p / 2))
+    go zero e = let q : p ≡ point (p / 2) 0 = omega arith in ap (value t) q ∙ value-plus t (p / 2)
+    go (suc s) e = let q : p ≡ point (p / 2) 1 = omega arith in ap (value t) q ∙ value-minus t (p / 2)
+
+value-even : (t : Assignment) (x : ℕ) → value t (2 * x) ≡ t x
+value-even t x = let q : 2 * x ≡ point x 0 = omega arith in ap (value t) q ∙ value-plus t x
 
 module _ (n : ℕ) (ls : List Line) (ok : AllOk n ls) (yes-verdict : verdictOf n ls ≡ true) where
   abbrev D : Table
@@ -115,37 +126,74 @@ module _ (n : ℕ) (ls : List Line) (ok : AllOk n ls) (yes-verdict : verdictOf n
   greatest-at x h = getD-tabulate (2 * n) (2 * x + 1) (boundAt D) (pos 0) (omega arith) ∙ bound-greatest D x
 
   -- ---- groups
-  same-together : (x r : ℕ) → x < n → r < n → (sameGroup D x r ≡ true) ↔ Together ls x r
-  same-together x r i j =
-      let g = grouped n D closed x r i j in (
+  -- the test of two points
+  same-values : (p q : ℕ) → p < 2 * n → q < 2 * n → (samePoints D p q ≡ true) ↔ ((t : Assignment) → Solves ls t → value t p ≡ value t q)
+  same-values p q i j =
+      let g = equal-points n D closed p q i j in (
         (λ e.
-            let t = and-true (notAbove0 (tight D (point x 0) (point r 0))) _ e in
-            λ s st. g .1 (not-above _ .0 (t .0), not-above _ .0 (t .1)) s (to-table n ls ok s st)),
-        (λ f. let w = g .0 (λ s st. f s (table-solves s st)) in both-true _ _ (not-above _ .1 (w .0)) (not-above _ .1 (w .1))),
+            let w = and-true (notAbove0 (tight D p q)) _ e in
+            λ t st. g .1 (not-above _ .0 (w .0), not-above _ .0 (w .1)) t (to-table n ls ok t st)),
+        (λ f. let w = g .0 (λ t st. f t (table-solves t st)) in both-true _ _ (not-above _ .1 (w .0)) (not-above _ .1 (w .1))),
       )
 
-  group-is-group : (x : ℕ) → x < n → IsGroup ls x (groupAt D x)
-  group-is-group x h = go (lowest-known (sameGroup D x) 0 x)
+  -- of x and a point
+  abbrev At : ℕ → ℕ → Type 0
+  At x p = (t : Assignment) → Solves ls t → t x ≡ value t p
+
+  at-point : (x p : ℕ) → x < n → p < 2 * n → (samePoints D (2 * x) p ≡ true) ↔ At x p
+  at-point x p h l =
+      let s = same-values (2 * x) p (omega arith) l in
+      ((λ e t st. sym (value-even t x) ∙ s .0 e t st), (λ f. s .1 (λ t st. value-even t x ∙ f t st)))
+
+  -- the lowest point of x: x has its value, and that of none before it
+  record LowestPoint (x p : ℕ) : Type 0 where
+    at : At x p
+    before : (q : ℕ) → q < p → At x q → ⊥
+
+  lowest-point : (x : ℕ) → x < n → LowestPoint x (groupPoint D x)
+  lowest-point x h = go (lowest-known (samePoints D (2 * x)) 0 (2 * x))
     where
       clash : {t : Bool} → t ≡ false → t ≡ true → ⊥
       clash e f = never (cc)
 
-      go : Passed (sameGroup D x) 0 (0 + x) (groupAt D x) ⊎ NonePassed (sameGroup D x) 0 (0 + x) (groupAt D x) → IsGroup ls x (groupAt D x)
+      go : Passed (samePoints D (2 * x)) 0 (0 + 2 * x) (groupPoint D x) ⊎ NonePassed (samePoints D (2 * x)) 0 (0 + 2 * x) (groupPoint D x) → LowestPoint x (groupPoint D x)
       go (inl s) =
           record {
-            together = same-together x (groupAt D x) h (omega (arith, s .below)) .0 (s .passes);
-            lowest = λ q l t. clash (s .before q (omega arith) l) (same-together x q h (omega (arith, s .below)) .1 t);
+            at = at-point x (groupPoint D x) h (omega (arith, s .below)) .0 (s .passes);
+            before = λ q l f. clash (s .before q (omega arith) l) (at-point x q h (omega (arith, s .below)) .1 f);
           }
       go (inr s) =
-          let e : x ≡ groupAt D x = omega (arith, s .at-end) in
+          let e : 2 * x ≡ groupPoint D x = omega (arith, s .at-end) in
           record {
-            together = λ v _. ap v e;
-            lowest = λ q l t. clash (s .fails q (omega arith) (omega arith)) (same-together x q h (omega arith) .1 t);
+            at = λ t _. sym (value-even t x) ∙ ap (value t) e;
+            before = λ q l f. clash (s .fails q (omega arith) (omega arith)) (at-point x q h (omega arith) .1 f);
           }
 
-  group-value : (x : ℕ) → x < n → getD (groupsOf n ls) x 0 ≡ groupAt D x
+  -- its variable and its sign are the group of x: every point of a lower variable stands before it, and so does the plus point before the minus point
+  point-group : (x p : ℕ) → LowestPoint x p → IsGroup ls x (p / 2) (p % 2)
+  point-group x p g =
+      record {
+        a-sign = omega arith;
+        together = λ t st. g .at t st ∙ value-signed t p;
+        lowest = lower;
+        plus = λ f. sign-is (p % 2) refl f;
+      }
+    where
+      lower : (q : ℕ) → q < p / 2 → (s : ℕ) → Together ls x q s → ⊥
+      lower q l zero f = g .before (point q 0) (omega arith) (λ t st. f t st ∙ sym (value-plus t q))
+      lower q l (suc s) f = g .before (point q 1) (omega arith) (λ t st. f t st ∙ sym (value-minus t q))
+
+      sign-is : (s : ℕ) → p % 2 ≡ s → Together ls x (p / 2) 0 → s ≡ 0
+      sign-is zero e f = refl
+      sign-is (suc s) e f = absurd (g .before (point (p / 2) 0) (omega arith) (λ t st. f t st ∙ sym (value-plus t (p / 2))))
+
+  variable-at : (x : ℕ) → x < n → groupVariable (groupsOf n ls) x ≡ groupPoint D x / 2
   unfolding groupsOf
-  group-value x h = getD-tabulate n x (groupAt D) 0 h
+  variable-at x h = getD-tabulate (2 * n) (2 * x) (groupAt D) 0 (omega arith) ∙ group-variable D x
+
+  sign-at : (x : ℕ) → x < n → groupSign (groupsOf n ls) x ≡ groupPoint D x % 2
+  unfolding groupsOf
+  sign-at x h = getD-tabulate (2 * n) (2 * x + 1) (groupAt D) 0 (omega arith) ∙ group-sign D x
 
   -- what is computed is what is to be written
   pub computed-written : Written n ls (modelOf n ls) (boundsOf n ls) (groupsOf n ls)
@@ -157,6 +205,6 @@ module _ (n : ℕ) (ls : List Line) (ok : AllOk n ls) (yes-verdict : verdictOf n
         bounds-length = length-tabulate (2 * n) _;
         least-is = λ x h. rw (least-at x h) (least-written x h);
         greatest-is = λ x h. rw (greatest-at x h) (greatest-written x h);
-        groups-length = length-tabulate n _;
-        group-is = λ x h. rw (group-value x h) (group-is-group x h);
+        groups-length = length-tabulate (2 * n) _;
+        group-is = λ x h. rw (variable-at x h, sign-at x h) (point-group x (groupPoint D x) (lowest-point x h));
       }

@@ -42,7 +42,9 @@ module _ (ls ms : List Line) (same : SameSolutions ls ms) where
         least-is = λ x h. least-too (w .least-is x h);
         greatest-is = λ x h. greatest-too (w .greatest-is x h);
         groups-length = w .groups-length;
-        group-is = λ x h. record { together = λ t s. w .group-is x h .together t (from t s); lowest = λ q l f. w .group-is x h .lowest q l (λ t s. f t (to t s)) };
+        group-is = λ x h.
+            let g = w .group-is x h in
+            record { a-sign = g .a-sign; together = λ t s. g .together t (from t s); lowest = λ q l u f. g .lowest q l u (λ t s. f t (to t s)); plus = λ f. g .plus (λ t s. f t (to t s)) };
       }
 
 -- so two valid lists with the same solutions have one verdict, and on a yes one model, bounds and groups

@@ -2,8 +2,8 @@
 use mathlib.Core.Path.{_≡_}
 use mathlib.Core.Logic.{_⊎_}
 use mathlib.Core.List.{List}
-use Prim.Native.Nat.{ℕ, _+_, _*_, _≤_, _<_}
-use lib.IntN.{ℤ, pos, natAbs}
+use Prim.Native.Nat.{ℕ, zero, suc, _+_, _*_, _≤_, _<_}
+use lib.IntN.{ℤ, pos, negℤ, natAbs}
 use lib.ListN.{length, getD}
 use Rattle.integers.specs.Integer.{_⩽_}
 use Rattle.lines.specs.declared.Line.{Line}
@@ -40,14 +40,31 @@ pub record IsLeast (ls : List Line) (x : ℕ) (z : ℤ) : Type 0 where
 pub record NoLeast (ls : List Line) (x : ℕ) : Type 0 where
   pub beyond : (z : ℤ) → (t : Assignment) × Solves ls t × (t x ⩽ z)
 
--- x and r have the same value in every integer solution
-abbrev pub Together : List Line → ℕ → ℕ → Type 0
-Together ls x r = (t : Assignment) → Solves ls t → t x ≡ t r
+-- in every integer solution x and y have the same value; each has the other's value mirrored; x is 0
+abbrev pub Equal : List Line → ℕ → ℕ → Type 0
+Equal ls x y = (t : Assignment) → Solves ls t → t x ≡ t y
 
--- r is the lowest variable number that has the same value as x in every integer solution
-pub record IsGroup (ls : List Line) (x r : ℕ) : Type 0 where
-  pub together : Together ls x r
-  pub lowest : (q : ℕ) → q < r → Together ls x q → ⊥
+abbrev pub Mirrored : List Line → ℕ → ℕ → Type 0
+Mirrored ls x y = (t : Assignment) → Solves ls t → t x ≡ negℤ (t y)
+
+abbrev pub AlwaysZero : List Line → ℕ → Type 0
+AlwaysZero ls x = (t : Assignment) → Solves ls t → t x ≡ pos 0
+
+-- a value with a sign: 0 is plus, 1 is minus
+abbrev pub signed : ℕ → ℤ → ℤ
+signed zero z = z
+signed (suc k) z = negℤ z
+
+-- in every integer solution x is r with this sign: with plus that is `Equal`, with minus `Mirrored`
+abbrev pub Together : List Line → ℕ → ℕ → ℕ → Type 0
+Together ls x r sign = (t : Assignment) → Solves ls t → t x ≡ signed sign (t r)
+
+-- r is the lowest variable number that x is together with, with either sign; the sign is plus where both hold
+pub record IsGroup (ls : List Line) (x r sign : ℕ) : Type 0 where
+  pub a-sign : sign < 2
+  pub together : Together ls x r sign
+  pub lowest : (q : ℕ) → q < r → (s : ℕ) → Together ls x q s → ⊥
+  pub plus : Together ls x r 0 → sign ≡ 0
 
 -- ---- as the numbers written
 abbrev pub LeastWritten : List Line → ℕ → ℤ → Type 0
@@ -56,6 +73,20 @@ LeastWritten ls x w = IsLeast ls x w ⊎ (NoLeast ls x × (w ≡ absentLeast))
 abbrev pub GreatestWritten : List Line → ℕ → ℤ → Type 0
 GreatestWritten ls x w = IsGreatest ls x w ⊎ (NoGreatest ls x × (w ≡ absentGreatest))
 
+-- of each variable its group variable, then its sign
+abbrev pub groupVariable : List ℕ → ℕ → ℕ
+groupVariable groups x = getD groups (2 * x) 0
+
+abbrev pub groupSign : List ℕ → ℕ → ℕ
+groupSign groups x = getD groups (2 * x + 1) 0
+
+-- two variables with one group variable; with one sign
+abbrev pub SameVariable : List ℕ → ℕ → ℕ → Type 0
+SameVariable groups x y = groupVariable groups x ≡ groupVariable groups y
+
+abbrev pub SameSign : List ℕ → ℕ → ℕ → Type 0
+SameSign groups x y = groupSign groups x ≡ groupSign groups y
+
 -- written on a yes: the model; for each variable its least, then its greatest value; the groups
 pub record Written (n : ℕ) (ls : List Line) (model bounds : List ℤ) (groups : List ℕ) : Type 0 where
   pub model-length : length model ≡ n
@@ -63,5 +94,5 @@ pub record Written (n : ℕ) (ls : List Line) (model bounds : List ℤ) (groups 
   pub bounds-length : length bounds ≡ 2 * n
   pub least-is : (x : ℕ) → x < n → LeastWritten ls x (getD bounds (2 * x) (pos 0))
   pub greatest-is : (x : ℕ) → x < n → GreatestWritten ls x (getD bounds (2 * x + 1) (pos 0))
-  pub groups-length : length groups ≡ n
-  pub group-is : (x : ℕ) → x < n → IsGroup ls x (getD groups x 0)
+  pub groups-length : length groups ≡ 2 * n
+  pub group-is : (x : ℕ) → x < n → IsGroup ls x (groupVariable groups x) (groupSign groups x)

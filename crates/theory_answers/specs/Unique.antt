@@ -1,5 +1,5 @@
 -- The meaning fixes the answers: whatever is the model, the bounds and the groups of a list is what is computed.
-use mathlib.Core.Path.{_≡_, refl, sym, subst, _∙_}
+use mathlib.Core.Path.{_≡_, refl, sym, ap, subst, _∙_}
 use mathlib.Core.Logic.{inl, inr}
 use mathlib.Core.Bool.{true}
 use mathlib.Core.List.{List}
@@ -15,7 +15,7 @@ use Rattle.lines.specs.declared.Line.{Line}
 use Rattle.lines.specs.declared.Validity.the-variants.{Valid}
 use Rattle.lines.specs.Line.{linesOf, assignmentOf}
 use Rattle.lines.specs.Refusal.{validityOf}
-use Rattle.theory_answers.specs.Semantics.{IsGreatest, NoGreatest, IsLeast, NoLeast, IsGroup, LeastWritten, GreatestWritten, Written}
+use Rattle.theory_answers.specs.Semantics.{IsGreatest, NoGreatest, IsLeast, NoLeast, Together, IsGroup, groupVariable, groupSign, LeastWritten, GreatestWritten, Written}
 use Rattle.theory_bounds.specs.Verdict.{verdictOf}
 use Rattle.theory_bounds.specs.Answers.{modelOf, boundsOf, groupsOf}
 use Rattle.theory_answers.specs.Meaning.{only-model, computed-written}
@@ -50,13 +50,22 @@ module _ (ls : List Line) (x : ℕ) where
   one-least v w (inr a) (inl b) = absurd (no-both-least w b (a .0))
   one-least v w (inr a) (inr b) = a .1 ∙ sym (b .1)
 
-  pub one-group : (q r : ℕ) → IsGroup ls x q → IsGroup ls x r → q ≡ r
-  one-group q r a b = go (decLt q r) (decLt r q)
+  -- the variable is the lowest, and then the sign is plus wherever that holds
+  pub one-group : (q r s u : ℕ) → IsGroup ls x q s → IsGroup ls x r u → (q ≡ r) × (s ≡ u)
+  one-group q r s u a b = (variable, sign s u (a .a-sign) (b .a-sign) (a .together) (b .together) (a .plus) (b .plus))
     where
       go : Dec (q < r) → Dec (r < q) → q ≡ r
-      go (yes h) _ = absurd (b .lowest q h (a .together))
-      go (no _) (yes h) = absurd (a .lowest r h (b .together))
+      go (yes h) _ = absurd (b .lowest q h s (a .together))
+      go (no _) (yes h) = absurd (a .lowest r h u (b .together))
       go (no h) (no k) = omega arith
+
+      variable : q ≡ r
+      variable = go (decLt q r) (decLt r q)
+
+      sign : (s u : ℕ) → s < 2 → u < 2 → Together ls x q s → Together ls x r u → (Together ls x q 0 → s ≡ 0) → (Together ls x r 0 → u ≡ 0) → s ≡ u
+      sign zero u h k f g m p = sym (p (λ t st. f t st ∙ ap t variable))
+      sign (suc s) zero h k f g m p = m (λ t st. g t st ∙ ap t (sym variable))
+      sign (suc s) (suc u) h k f g m p = omega arith
 
 -- ---- all that is written
 module _ (n : ℕ) (L : List ℤ) (valid : validityOf n L ≡ Valid) where
@@ -89,7 +98,19 @@ module _ (n : ℕ) (L : List ℤ) (valid : validityOf n L ≡ Valid) where
     written-bounds =
         ext-getD (pos 0) bounds (boundsOf n ls) (w .bounds-length ∙ sym (computed .bounds-length)) (λ i h. bound-at i (i % 2) (omega (arith, w .bounds-length)) refl)
 
+    group-at : (i : ℕ) → i < 2 * n → getD groups i 0 ≡ getD (groupsOf n ls) i 0
+    group-at i h = go (i % 2) refl
+      where
+        k : i / 2 < n
+        k = omega arith
+
+        one : (groupVariable groups (i / 2) ≡ groupVariable (groupsOf n ls) (i / 2)) × (groupSign groups (i / 2) ≡ groupSign (groupsOf n ls) (i / 2))
+        one = one-group ls (i / 2) _ _ _ _ (w .group-is (i / 2) k) (computed .group-is (i / 2) k)
+
+        go : (r : ℕ) → i % 2 ≡ r → getD groups i 0 ≡ getD (groupsOf n ls) i 0
+        go zero e = let s : 2 * (i / 2) ≡ i = omega arith in subst (λ (j : ℕ). getD groups j 0 ≡ getD (groupsOf n ls) j 0) s (one .0)
+        go (suc r) e = let s : 2 * (i / 2) + 1 ≡ i = omega arith in subst (λ (j : ℕ). getD groups j 0 ≡ getD (groupsOf n ls) j 0) s (one .1)
+
     pub written-groups : groups ≡ groupsOf n ls
     written-groups =
-        ext-getD 0 groups (groupsOf n ls) (w .groups-length ∙ sym (computed .groups-length))
-        (λ x h. let k : x < n = omega (arith, w .groups-length) in one-group ls x _ _ (w .group-is x k) (computed .group-is x k))
+        ext-getD 0 groups (groupsOf n ls) (w .groups-length ∙ sym (computed .groups-length)) (λ i h. group-at i (omega (arith, w .groups-length)))

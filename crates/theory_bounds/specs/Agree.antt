@@ -12,7 +12,7 @@ use Rattle.theory_walks.specs.Distance.{Distance, minD, _⊞_, halfD}
 use Rattle.theory_walks.specs.Negative.{notBelow0}
 use Rattle.theory_bounds.specs.Points.{plus-below, minus-below, opposite-below}
 use Rattle.theory_bounds.specs.Tight.{Table, halves, tight}
-use Rattle.theory_bounds.specs.Answers.{leastOf, greatestOf, boundAt, notAbove0, sameGroup, groupAt}
+use Rattle.theory_bounds.specs.Answers.{leastOf, greatestOf, boundAt, notAbove0, samePoints, groupAt}
 use Rattle.theory_bounds.specs.Verdict.{halvesOk}
 use Rattle.integers.specs.Lowest.{lowest-cong}
 
@@ -38,17 +38,17 @@ module _ (n : ℕ) (D E : Table) (same : Agree (2 * n) D E) where
   pub bounds-same : tabulate (2 * n) (boundAt D) ≡ tabulate (2 * n) (boundAt E)
   bounds-same = tabulate-cong (2 * n) (boundAt D) (boundAt E) bound-same
 
-  same-same : (x r : ℕ) → x < n → r < n → sameGroup D x r ≡ sameGroup E x r
-  same-same x r h k =
-      ap₂ (λ (a b : Distance). notAbove0 a && notAbove0 b)
-      (tight-same (point x 0) (point r 0) (plus-below n x h) (plus-below n r k))
-      (tight-same (point r 0) (point x 0) (plus-below n r k) (plus-below n x h))
+  points-same : (p q : ℕ) → p < 2 * n → q < 2 * n → samePoints D p q ≡ samePoints E p q
+  points-same p q h k = ap₂ (λ (a b : Distance). notAbove0 a && notAbove0 b) (tight-same p q h k) (tight-same q p k h)
 
-  group-same : (x : ℕ) → x < n → groupAt D x ≡ groupAt E x
-  group-same x h = lowest-cong (sameGroup D x) (sameGroup E x) 0 x (λ r l. same-same x r h (omega arith))
+  group-same : (i : ℕ) → i < 2 * n → groupAt D i ≡ groupAt E i
+  group-same i h =
+      let x = i / 2 in
+      ap (λ (p : ℕ). cond (eqb (i % 2) 0) (p / 2) (p % 2))
+      (lowest-cong (samePoints D (2 * x)) (samePoints E (2 * x)) 0 (2 * x) (λ q l. points-same (2 * x) q (omega arith) (omega arith)))
 
-  pub groups-same : tabulate n (groupAt D) ≡ tabulate n (groupAt E)
-  groups-same = tabulate-cong n (groupAt D) (groupAt E) group-same
+  pub groups-same : tabulate (2 * n) (groupAt D) ≡ tabulate (2 * n) (groupAt E)
+  groups-same = tabulate-cong (2 * n) (groupAt D) (groupAt E) group-same
 
   pub ok-same : (p : ℕ) → p < 2 * n → halvesOk D p ≡ halvesOk E p
   ok-same p h =

@@ -54,12 +54,30 @@ abbrev pub notAbove0 : Distance → Bool
 notAbove0 none = false
 notAbove0 (some z) = leZ z (pos 0)
 
--- no tightened distance between the plus points of two variables is above 0
-abbrev pub sameGroup : Table → ℕ → ℕ → Bool
-sameGroup D x r = notAbove0 (tight D (point x 0) (point r 0)) && notAbove0 (tight D (point r 0) (point x 0))
+-- no tightened distance between two points is above 0
+abbrev pub samePoints : Table → ℕ → ℕ → Bool
+samePoints D p q = notAbove0 (tight D p q) && notAbove0 (tight D q p)
 
+-- The lowest point that has the value of x in every solution, x's plus point at the latest. A variable's plus point stands before its minus point, and
+-- both stand before the points of higher variables: so the lowest point is the lowest variable, with plus where both signs hold.
+abbrev pub groupPoint : Table → ℕ → ℕ
+groupPoint D x = lowest (samePoints D (2 * x)) 0 (2 * x)
+
+-- the i-th number of the groups: a variable's group variable, then its sign
 abbrev pub groupAt : Table → ℕ → ℕ
-groupAt D x = lowest (sameGroup D x) 0 x
+groupAt D i = cond (eqb (i % 2) 0) (groupPoint D (i / 2) / 2) (groupPoint D (i / 2) % 2)
+
+pub group-variable : (D : Table) (x : ℕ) → groupAt D (2 * x) ≡ groupPoint D x / 2
+group-variable D x =
+    let a : 2 * x % 2 ≡ 0 = omega arith in
+    let b : 2 * x / 2 ≡ x = omega arith in
+    rw (eq-eqb _ _ a, b)
+
+pub group-sign : (D : Table) (x : ℕ) → groupAt D (2 * x + 1) ≡ groupPoint D x % 2
+group-sign D x =
+    let a : (2 * x + 1) % 2 ≡ 0 → ⊥ = λ e. omega arith in
+    let b : (2 * x + 1) / 2 ≡ x = omega arith in
+    rw (ne-eqb _ _ a, b)
 
 unfoldable pub groupsOf : ℕ → List Line → List ℕ
-groupsOf n ls = tabulate n (groupAt (distances n ls))
+groupsOf n ls = tabulate (2 * n) (groupAt (distances n ls))

@@ -294,12 +294,3 @@ module _ (n : ℕ) (D : Table) (I : ClosedTable n D) where
 
       to-up : (p q : ℕ) → p < 2 * n → q < 2 * n → tight D p q ⊑ some (pos 0) → Up (T p q) (pos 0)
       to-up p q i j k = up-eq (sym (clip-tight n D p q i j)) (up-of-le k _ (up-at (pos 0)))
-
-  -- two variables have the same value in every solution exactly if neither tightened distance between their plus points is above 0
-  pub grouped : (x r : ℕ) → x < n → r < n
-      → ((s : Assignment) → Solution n D s → s x ≡ s r) ↔ ((tight D (point x 0) (point r 0) ⊑ some (pos 0)) × (tight D (point r 0) (point x 0) ⊑ some (pos 0)))
-  grouped x r i j =
-      ((λ f. g .0 (λ s k. value-plus s x ∙ f s k ∙ sym (value-plus s r))), (λ w s f. sym (value-plus s x) ∙ g .1 w s f ∙ value-plus s r))
-    where
-      g : ((s : Assignment) → Solution n D s → value s (point x 0) ≡ value s (point r 0)) ↔ ((tight D (point x 0) (point r 0) ⊑ some (pos 0)) × (tight D (point r 0) (point x 0) ⊑ some (pos 0)))
-      g = equal-points (point x 0) (point r 0) (plus-below n x i) (plus-below n r j)

@@ -12,16 +12,10 @@ use Rattle.file_text.specs.Steps.{valueText, bounds-same, line-parts}
 use Rattle.file_text.proofs.put_variable_line.Statement.{statement}
 use Rattle.file_text.proofs.put_variable_line.Tie as tie
 
-cast-put-decimal : tie.Need-cast-put-decimal
-cast-put-decimal c =
-    let s = c .before .before .before .before .before .before .before .before .before .before .before .before .before .before .before in
-    record { fits = omega (arith, c .shared-slice-known2 .given (s .args .x)) }
-
 returns : tie.Need-returns
 returns c =
-    let p4 = c .before .before in
-    let p3 = p4 .before .before .before .before in
-    let p2 = p3 .before .before .before .before .before in
+    let p3 = c .before .before in
+    let p2 = p3 .before .before .before .before .before .before in
     let p1 = p2 .before .before .before .before .before .before in
     let s = p1 .before .before .before .before .before in
     let h : s .args .at ≤ length (now (s .args .out)) = omega arith in
@@ -34,7 +28,7 @@ returns c =
     let q2 = same (bounds-same least greatest) (p2 .put-bounds .ensures) in
     same
     (line-parts x (now (s .args .model)) bounds (now (s .args .groups)))
-    (wider (omega arith) (then h (then h (then h q1 q2) (p3 .put-decimal .ensures)) (p4 .put-byte .ensures)))
+    (wider (omega arith) (then h (then h q1 q2) (p3 .put-group .ensures)))
 
 pub put-variable-line-spec : {M : Type 1} → statement M
 put-variable-line-spec =
@@ -53,7 +47,10 @@ put-variable-line-spec =
     (λ c. omega arith)
     (λ c. omega arith)
     (λ c. omega arith)
-    cast-put-decimal
+    (λ c. omega arith)
+    (λ c. omega arith)
+    (λ c. omega arith)
+    (λ c. omega arith)
     (λ c. omega arith)
     (λ c. omega arith)
     (λ c. omega arith)
