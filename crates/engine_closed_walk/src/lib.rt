@@ -259,8 +259,8 @@ fn refuted_by_passes(
     false
 }
 
-// Whether the list is refuted so from 0 everywhere: first over the steps of negative weight, since a pass over them is
-// short, then over all. Where a pass over all changes nothing, no closed walk is negative.
+// Whether the list is refuted so from 0 everywhere: first over the steps of negative weight, which a pass tells apart by
+// one comparison each, then over all. Where a pass over all changes nothing, no closed walk is negative.
 pub fn refuted_at_once(
     list: &[i32],
     n: usize,

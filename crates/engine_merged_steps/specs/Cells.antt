@@ -2,7 +2,6 @@
 -- if its number is less than the one that stands there.
 use mathlib.Core.Path.{_≡_, refl, sym, ap, subst, _∙_}
 use mathlib.Core.Logic.{_⊎_, inl, inr, ⊎-elim}
-use mathlib.Core.Bool.{true, false}
 use mathlib.Core.List.{List, [], _∷_, _++_, append-nil}
 use Prim.Native.Nat.{ℕ, _+_, _*_, _≤_, _<_}
 use native.Mathlib.Decide.{ℕ-discrete, decLt}
@@ -10,7 +9,6 @@ use native.Mathlib.Nat.{mul-le-mul-right}
 use native.Mathlib.Omega.{arith}
 use lib.IntN.{ℤ, pos, natAbs, _-ℤ_}
 use lib.ListN.{length, set}
-use lib.Signed.{ltZ}
 use lib.Seq.{getD-set-same, getD-set-other}
 use Rattle.integers.specs.Integer.{_⩽_, _⋖_}
 use Rattle.integers.specs.Linear.{ints, ≤ℤ-trans}
@@ -22,6 +20,7 @@ use Rattle.steps.specs.declared.NamedStep.{NamedStep}
 use Rattle.steps.specs.declared.NamedStep.the-variants.{Found, Nothing}
 use Rattle.steps.specs.Step.{maxWeight, stepNumbered, named}
 use Rattle.theory_walks.specs.Distance.{le-refl}
+use Rattle.theory_walks.specs.Graph.{in-left, in-right}
 use Rattle.theory_walks.specs.Row.{In}
 use Rattle.decide_rows.specs.Numbers.{StepOk as WrittenOk, stepsBefore, before-zero, before-more, numbered-ok}
 use Rattle.engine_packed_steps.specs.Packed.{Packs, unpacked, shiftedIn}
@@ -40,12 +39,6 @@ abbrev pub cellOf : ℕ → Step → ℕ
 cellOf m s = s .from * m + s .to
 
 -- ---- what a comparison in the code says
-pub test-yes : (a b : ℤ) → ltZ a b ≡ true → a ⋖ b
-test-yes a b = simp ints (omega arith)
-
-pub test-no : (a b : ℤ) → ltZ a b ≡ false → b ⩽ a
-test-no a b = simp ints (omega arith)
-
 -- ---- cells of points
 pub cell-lt : (m i j : ℕ) → i < m → j < m → i * m + j < m * m
 cell-lt m i j h l = omega (arith, mul-le-mul-right m h)
@@ -204,15 +197,6 @@ least-below x y l h g = (under x y h g, lighter x y l h)
     under : (x y : ℤ) → x ⩽ y → y ⋖ pos noStep → x ⋖ pos noStep
     under x y = simp ints (omega arith)
 
-in-first : (s : Step) (E F : List Step) → In s E → In s (E ++ F)
-in-first s [] F i = absurd i
-in-first s (t ∷ E) F (inl e) = inl e
-in-first s (t ∷ E) F (inr i) = inr (in-first s E F i)
-
-in-last : (s : Step) (E : List Step) → In s (E ++ s ∷ [])
-in-last s [] = inl refl
-in-last s (t ∷ E) = inr (in-last s E)
-
 in-either : (s t : Step) (E : List Step) → In s (E ++ t ∷ []) → In s E ⊎ (s ≡ t)
 in-either s t [] (inl e) = inr e
 in-either s t [] (inr i) = absurd i
@@ -270,10 +254,10 @@ module _ {n start k : ℕ} {L w₀ w : List ℤ} (p : StepsPut n start L w₀ w 
 
     weaken : {c : ℕ} {z : ℤ} → CellIs m E c z → CellIs m (E ++ s ∷ []) c z
     weaken (inl x) = inl x
-    weaken (inr t) = inr (record { ok = t .ok; member = in-first _ E (s ∷ []) (t .member); cell = t .cell })
+    weaken (inr t) = inr (record { ok = t .ok; member = in-left _ E (s ∷ []) (t .member); cell = t .cell })
 
     new : CellIs m (E ++ s ∷ []) (cellOf m s) (q .z)
-    new = inr (record { ok = q .ok; member = subst (λ (t : Step). In t (E ++ s ∷ [])) (sym (q .step)) (in-last s E); cell = ap (cellOf m) (q .step) })
+    new = inr (record { ok = q .ok; member = subst (λ (t : Step). In t (E ++ s ∷ [])) (sym (q .step)) (in-right s E (s ∷ []) (inl refl)); cell = ap (cellOf m) (q .step) })
 
     stands-at : (number w′ place ≡ number w place) ⊎ (number w′ place ≡ q .z) → CellIs m (E ++ s ∷ []) (cellOf m s) (number w′ place)
     stands-at (inl x) = rw x (weaken (p .stands (cellOf m s) inside))

@@ -1,4 +1,4 @@
--- Laws of halving, of the number nearest zero and of the test for equality.
+-- Laws of halving, of the number nearest zero, and of the tests for equality and order.
 use mathlib.Core.Path.{_≡_, refl, sym, ap, subst, _∙_}
 use mathlib.Core.Logic.{_↔_}
 use mathlib.Core.Bool.{Bool, true, false, _&&_}
@@ -7,8 +7,8 @@ use native.Mathlib.Omega.{arith}
 use borrow.Author.Tests.{eq-eqb}
 use lib.Dec.{T, eqb→eq}
 use lib.IntN.{ℤ, pos, negsuc, negℤ, natAbs, _+ℤ_}
-use lib.Signed.{leZ}
-use Rattle.integers.specs.Integer.{_⩽_, half, nearestZero, eqZ, isWithin, Within}
+use lib.Signed.{leZ, ltZ}
+use Rattle.integers.specs.Integer.{_⩽_, _⋖_, half, nearestZero, eqZ, isWithin, Within}
 use Rattle.integers.specs.Linear.{ints, zs, given}
 
 -- halving is the greatest number whose double is not above
@@ -34,6 +34,13 @@ nearest-high lo hi = simp ints (omega arith)
 -- no number from lo to hi is nearer zero
 pub nearest-least : (lo hi z : ℤ) → lo ⩽ z → z ⩽ hi → natAbs (nearestZero lo hi) ≤ natAbs z
 nearest-least lo hi z = simp ints (omega arith)
+
+-- what the test of the order says
+pub test-yes : (a b : ℤ) → ltZ a b ≡ true → a ⋖ b
+test-yes a b = simp ints (omega arith)
+
+pub test-no : (a b : ℤ) → ltZ a b ≡ false → b ⩽ a
+test-no a b = simp ints (omega arith)
 
 pub eqZ→eq : (a b : ℤ) → T (eqZ a b) → a ≡ b
 eqZ→eq (pos a) (pos b) t = ap pos (eqb→eq a b t)

@@ -78,12 +78,12 @@ in-append t [] ys i = inr i
 in-append t (x ∷ xs) ys (inl e) = inl (inl e)
 in-append t (x ∷ xs) ys (inr i) = ⊎-elim (λ j. inl (inr j)) (λ j. inr j) (in-append t xs ys i)
 
-in-left : (t : Step) (xs ys : List Step) → In t xs → In t (xs ++ ys)
+pub in-left : (t : Step) (xs ys : List Step) → In t xs → In t (xs ++ ys)
 in-left t [] ys i = absurd i
 in-left t (x ∷ xs) ys (inl e) = inl e
 in-left t (x ∷ xs) ys (inr i) = inr (in-left t xs ys i)
 
-in-right : (t : Step) (xs ys : List Step) → In t ys → In t (xs ++ ys)
+pub in-right : (t : Step) (xs ys : List Step) → In t ys → In t (xs ++ ys)
 in-right t [] ys i = i
 in-right t (x ∷ xs) ys i = inr (in-right t xs ys i)
 

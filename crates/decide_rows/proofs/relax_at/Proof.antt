@@ -1,29 +1,20 @@
 -- `decide_rows::relax_at` meets its contract: the sum fits, and each of the three ways leaves the smaller of entry and sum.
 use mathlib.Core.Path.{_≡_, sym, ap, _∙_}
-use mathlib.Core.Bool.{true, false}
 use mathlib.Core.List.{List}
 use Prim.Native.Nat.{_+_}
-use native.Mathlib.Omega.{arith}
 use borrow.Author.Needs.{needs}
 use denote.Ref.{now}
 use lib.IntN.{ℤ, _+ℤ_}
-use lib.Signed.{ltZ}
 use mir.Syntax.{w64}
 use mir.Val.{SFits, toZ, ofZ}
 use mir.Facts.{toZ-ofZ}
-use Rattle.integers.specs.Integer.{_⩽_, _⋖_, Within}
-use Rattle.integers.specs.Linear.{ints}
+use Rattle.integers.specs.Integer.{Within}
+use Rattle.integers.specs.Laws.{test-yes, test-no}
 use Rattle.lines.specs.Line.{number}
 use Rattle.decide_rows.specs.Read.{noWalk, maxDistance, sum-fits}
 use Rattle.decide_rows.specs.Relax.{none-way, less-way, more-way, entry-small}
 use Rattle.decide_rows.proofs.relax_at.Statement.{statement}
 use Rattle.decide_rows.proofs.relax_at.Tie as tie
-
-test-yes : (a b : ℤ) → ltZ a b ≡ true → a ⋖ b
-test-yes a b = simp ints (omega arith)
-
-test-no : (a b : ℤ) → ltZ a b ≡ false → b ⩽ a
-test-no a b = simp ints (omega arith)
 
 -- the entry of the step's start
 module _ (c : tie.After-distance) where

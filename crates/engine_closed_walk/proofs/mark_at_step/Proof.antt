@@ -1,6 +1,5 @@
 -- `engine_closed_walk::mark_at_step` meets its contract: the sum fits, and what is stored is small.
 use mathlib.Core.Path.{_≡_, sym, subst}
-use mathlib.Core.Bool.{true}
 use mathlib.Core.List.{List}
 use Prim.Native.Nat.{_+_, _<_}
 use native.Mathlib.Omega.{arith}
@@ -8,12 +7,11 @@ use borrow.Author.Needs.{needs}
 use denote.Ref.{now}
 use lib.IntN.{ℤ, _+ℤ_}
 use lib.ListN.{length, length-set}
-use lib.Signed.{ltZ}
 use mir.Syntax.{w64}
 use mir.Val.{SFits, toZ, ofZ}
 use mir.Facts.{toZ-ofZ}
-use Rattle.integers.specs.Integer.{_⋖_, Within}
-use Rattle.integers.specs.Linear.{ints}
+use Rattle.integers.specs.Integer.{Within}
+use Rattle.integers.specs.Laws.{test-yes}
 use Rattle.lines.specs.Line.{number}
 use Rattle.steps.specs.declared.Step.{Step}
 use Rattle.steps.specs.Step.{maxWeight}
@@ -115,9 +113,6 @@ add-mark-2 c = let h = mark-in c in search needs
 
 mul-mark-2 : tie.Need-mul-mark-2
 mul-mark-2 c = let h = mark-in c in search needs
-
-test-yes : (a b : ℤ) → ltZ a b ≡ true → a ⋖ b
-test-yes a b = simp ints (omega arith)
 
 slice-set-from-mark : tie.Need-slice-set-from-mark
 slice-set-from-mark c = simp length-set (mark-in c)

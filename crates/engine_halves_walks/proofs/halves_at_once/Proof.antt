@@ -1,16 +1,14 @@
 -- `engine_halves_walks::halves_at_once` meets its contract: where both walks were found and their halves sum below 0, they make the refutation.
 use mathlib.Core.Path.{_≡_, ap, _∙_}
-use mathlib.Core.Bool.{true}
 use native.Mathlib.Omega.{arith}
 use borrow.Author.Needs.{needs}
 use denote.Ref.{now}
 use lib.IntN.{ℤ, pos, _+ℤ_}
-use lib.Signed.{ltZ}
 use mir.Syntax.{w64}
 use mir.Val.{SFits, toZ, ofZ}
 use mir.Facts.{toZ-ofZ}
 use Rattle.integers.specs.Integer.{_⋖_, half}
-use Rattle.integers.specs.Linear.{ints}
+use Rattle.integers.specs.Laws.{test-yes}
 use Rattle.engine_packed_steps.specs.Scratch.{Scratch}
 use Rattle.engine_packed_steps.specs.Layout.{placesAt}
 use Rattle.engine_halves_walks.specs.Halves.{small-fits, halves-fit, not-at-once, back-ready, first-kept, there-ready, both-kept, copy-fits, both-written}
@@ -93,9 +91,6 @@ module _ (c : tie.After-halved2) where
 
 add-if3 : tie.Need-add-if3
 add-if3 c = rw (first-is c, second-is c) (fits c)
-
-test-yes : (a b : ℤ) → ltZ a b ≡ true → a ⋖ b
-test-yes a b = simp ints (omega arith)
 
 -- they sum below 0
 module _ (t : tie.Then3) where

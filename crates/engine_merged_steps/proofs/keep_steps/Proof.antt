@@ -11,7 +11,7 @@ use mir.Syntax.{w64}
 use mir.Val.{toZ, ofZ}
 use mir.Facts.{toZ-ofZ}
 use Rattle.lines.specs.Line.{number}
-use Rattle.engine_merged_steps.specs.Cells.{test-yes, test-no}
+use Rattle.integers.specs.Laws.{test-yes, test-no}
 use Rattle.engine_merged_steps.specs.Keep.{Keeping, keeping-start, keeping-none, keeping-more}
 use Rattle.engine_merged_steps.proofs.keep_steps.Statement.{statement}
 use Rattle.engine_merged_steps.proofs.keep_steps.Tie as tie

@@ -7,7 +7,8 @@ use mir.Syntax.{w64}
 use mir.Val.{toZ, ofZ}
 use mir.Facts.{toZ-ofZ}
 use Rattle.lines.specs.Line.{number}
-use Rattle.engine_merged_steps.specs.Cells.{test-yes, test-no, lowered-set, lowered-none}
+use Rattle.integers.specs.Laws.{test-yes, test-no}
+use Rattle.engine_merged_steps.specs.Cells.{lowered-set, lowered-none}
 use Rattle.engine_merged_steps.proofs.lower_cell.Statement.{statement}
 use Rattle.engine_merged_steps.proofs.lower_cell.Tie as tie
 

@@ -1,17 +1,14 @@
 -- `engine_reduced_start::put_step` meets its contract.
 use mathlib.Core.Path.{_≡_, refl}
-use mathlib.Core.Bool.{true, false}
 use mathlib.Core.List.{List}
 use Prim.Native.Nat.{_+_, _<_}
-use native.Mathlib.Omega.{arith}
 use denote.Ref.{now}
-use lib.IntN.{ℤ, pos, _+ℤ_, _-ℤ_}
-use lib.Signed.{ltZ}
+use lib.IntN.{ℤ, _+ℤ_, _-ℤ_}
 use mir.Syntax.{w64}
 use mir.Val.{toZ, ofZ}
 use mir.Facts.{toZ-ofZ}
-use Rattle.integers.specs.Integer.{_⩽_, _⋖_, Within}
-use Rattle.integers.specs.Linear.{ints}
+use Rattle.integers.specs.Integer.{Within}
+use Rattle.integers.specs.Laws.{test-yes, test-no}
 use Rattle.lines.specs.Line.{number}
 use Rattle.steps.specs.declared.Step.{Step}
 use Rattle.steps.specs.Step.{maxWeight}
@@ -78,12 +75,6 @@ module _ (c : tie.After-b) where
   whole-is : toZ w64 (ofZ w64 (((t f .weight +ℤ t f .weight) +ℤ a) -ℤ b)) ≡ ((t f .weight +ℤ t f .weight) +ℤ a) -ℤ b
   whole-is = toZ-ofZ (whole-fits (t f .weight) a b (small f) a-small b-small)
 
-test-yes : (a b : ℤ) → ltZ a b ≡ true → a ⋖ b
-test-yes a b = simp ints (omega arith)
-
-test-no : (a : ℤ) → ltZ a (pos 0) ≡ false → pos 0 ⩽ a
-test-no a = simp ints (omega arith)
-
 read-step-requires : tie.Need-read-step-requires
 read-step-requires c κs = step-read (c .before .pre .0) _ (c .before .pre .1)
 
@@ -127,7 +118,7 @@ lower-entry-requires c κs =
     let g = f d in
     rw (weight-is g, twice-is d, a-is d, plus-is d, b-is d, whole-is d)
     (put-ready (s g .pre .0) (s g .args .i) (s g .pre .1) (t g) (g .read-step .ensures) (a d) (b d) _ refl refl refl
-    (test-no _ (rw (weight-is g, twice-is d, a-is d, plus-is d, b-is d, whole-is d) at (n .if1 .left)))
+    (test-no _ _ (rw (weight-is g, twice-is d, a-is d, plus-is d, b-is d, whole-is d) at (n .if1 .left)))
     (test-yes _ _ (rw (weight-is g, twice-is d, a-is d, plus-is d, b-is d, whole-is d) at (c .before .if2 .taken))))
 
 same-length-2 : tie.Need-same-length-2

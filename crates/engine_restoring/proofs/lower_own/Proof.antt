@@ -1,14 +1,10 @@
 -- `engine_restoring::lower_own` meets its contract.
 use mathlib.Core.Path.{_≡_}
-use mathlib.Core.Bool.{true}
-use native.Mathlib.Omega.{arith}
-use lib.IntN.{ℤ, _+ℤ_}
-use lib.Signed.{ltZ}
+use lib.IntN.{_+ℤ_}
 use mir.Syntax.{w64}
 use mir.Val.{SFits, toZ, ofZ}
 use mir.Facts.{toZ-ofZ}
-use Rattle.integers.specs.Integer.{_⋖_}
-use Rattle.integers.specs.Linear.{ints}
+use Rattle.integers.specs.Laws.{test-yes}
 use Rattle.engine_reduced_table.specs.Reduced.{other-asked, own-fits, between-ready}
 use borrow.Author.Needs.{needs}
 use Rattle.engine_restoring.proofs.lower_own.Statement.{statement}
@@ -47,9 +43,6 @@ module _ (c : tie.After-entry-at2) where
 
   sum-is : toZ w64 (ofZ w64 (toZ w64 (ofZ w64 (x .entry-at .result)) +ℤ toZ w64 (ofZ w64 (c .entry-at2 .result)))) ≡ x .entry-at .result +ℤ c .entry-at2 .result
   sum-is = rw (first-read, second-read) (toZ-ofZ fits)
-
-test-yes : (a b : ℤ) → ltZ a b ≡ true → a ⋖ b
-test-yes a b = simp ints (omega arith)
 
 add-sum : tie.Need-add-sum
 add-sum c = rw (first-read c, second-read c) (fits c)
