@@ -39,8 +39,10 @@ fn main() {
         room(&text, name)
             .unwrap_or_else(|| panic!("{} defines no formula {name}", header.display()))
     });
+    // The header has more parentheses than Rust asks for.
+    let allow = "#[allow(unused_parens, clippy::double_parens)]";
     let function = format!(
-        "#[allow(unused_parens)]\nfn rooms(n: usize) -> [usize; {}] {{\n    [{}]\n}}\n",
+        "{allow}\nfn rooms(n: usize) -> [usize; {}] {{\n    [{}]\n}}\n",
         rooms.len(),
         rooms.join(", ")
     );

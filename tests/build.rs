@@ -77,8 +77,10 @@ fn write_limits(header: &Path) {
             panic!("{header} does not define UTVPI_{name}(n) by sums and products of n")
         })
     });
+    // The header has more parentheses than Rust asks for.
+    let allow = "#[allow(unused_parens, clippy::double_parens)]";
     let rooms = format!(
-        "#[allow(unused_parens)]\npub const fn rooms(n: usize) -> [usize; {}] {{\n    [{}]\n}}\n",
+        "{allow}\npub const fn rooms(n: usize) -> [usize; {}] {{\n    [{}]\n}}\n",
         rooms.len(),
         rooms.join(", ")
     );

@@ -38,8 +38,8 @@ use crate::decision::{Group, Reason, Solved, Verdict, MINUS, PLUS};
 use crate::lines::{Line, BOUND, X, Y};
 use crate::make::left_side;
 
-/// Which variables, of x and y the one at x, then the one at y, are equal in every
-/// solution, and of which each is always the negative of the other.
+/// For each two variables x and y, at x and then at y, whether x = y in every solution,
+/// and whether x = -y in every solution.
 #[derive(Clone, Debug, PartialEq, Eq)]
 pub struct Ties {
     pub equal: Vec<Vec<bool>>,
