@@ -39,7 +39,7 @@ mirrored-zero : (v w : ℤ) → v ≡ pos 0 → w ≡ pos 0 → v ≡ negℤ w
 mirrored-zero v w = simp ints (omega arith)
 
 -- ---- two groups
--- where y is x with a sign, x with its group variable tells of y too: so that of y is no higher
+-- where y is x with a sign, it is the group variable of x with a sign: so its own is no higher
 not-higher : (ls : List Line) (x y r q a b s : ℕ) → Together ls y x s → IsGroup ls x r a → IsGroup ls y q b → r < q → ⊥
 not-higher ls x y r q a b s f g k h =
     let j = joined s a in

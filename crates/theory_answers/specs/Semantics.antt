@@ -40,13 +40,15 @@ pub record IsLeast (ls : List Line) (x : ℕ) (z : ℤ) : Type 0 where
 pub record NoLeast (ls : List Line) (x : ℕ) : Type 0 where
   pub beyond : (z : ℤ) → (t : Assignment) × Solves ls t × (t x ⩽ z)
 
--- in every integer solution x and y have the same value; each has the other's value mirrored; x is 0
+-- x and y have the same value in every integer solution
 abbrev pub Equal : List Line → ℕ → ℕ → Type 0
 Equal ls x y = (t : Assignment) → Solves ls t → t x ≡ t y
 
+-- each has the other's value negated, in every integer solution
 abbrev pub Mirrored : List Line → ℕ → ℕ → Type 0
 Mirrored ls x y = (t : Assignment) → Solves ls t → t x ≡ negℤ (t y)
 
+-- x is 0 in every integer solution
 abbrev pub AlwaysZero : List Line → ℕ → Type 0
 AlwaysZero ls x = (t : Assignment) → Solves ls t → t x ≡ pos 0
 
@@ -55,7 +57,7 @@ abbrev pub signed : ℕ → ℤ → ℤ
 signed zero z = z
 signed (suc k) z = negℤ z
 
--- in every integer solution x is r with this sign: with plus that is `Equal`, with minus `Mirrored`
+-- x is r with this sign in every integer solution: with plus that is `Equal`, with minus `Mirrored`
 abbrev pub Together : List Line → ℕ → ℕ → ℕ → Type 0
 Together ls x r sign = (t : Assignment) → Solves ls t → t x ≡ signed sign (t r)
 
