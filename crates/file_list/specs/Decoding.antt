@@ -87,14 +87,19 @@ module _ (b : List ℕ) (d : List ℤ) where
   decoded-length k h p =
       ap length (p .is) ∙ length-append (fileList b k) (drop (lineSize * k) d) ∙ omega (arith, length-fileList b k, length-drop (lineSize * k) d)
 
-  pub decoded-more : (k : ℕ) {m o ys : List ℤ} {f c : ℕ} → f ≡ lineSize * k → c ≡ lineSize → Decoded k m → ys ≡ lineNumbers (lineIn b (recordPlace b k)) → o ≡ take f m ++ (ys ++ drop c (drop f m)) → Decoded (k + 1) o
+  -- the numbers of line k come into the place of those from f on, c of them
+  pub decoded-more : (k : ℕ) {m o ys : List ℤ} {f c : ℕ} → f ≡ lineSize * k → c ≡ lineSize → Decoded k m → ys ≡ lineNumbers (lineIn b (recordPlace b k))
+      → o ≡ take f m ++ (ys ++ drop c (drop f m)) → Decoded (k + 1) o
   decoded-more k {m} {o} {ys} {f} {c} u v p e q =
       let front = fileList b k in
+      let line = lineNumbers (lineIn b (recordPlace b k)) in
+      let behind = drop (lineSize * (k + 1)) d in
       let first : take f m ≡ front = ap (take f) (p .is) ∙ take-at front (drop (lineSize * k) d) f (length-fileList b k ∙ sym u) in
       let next : lineSize * k + c ≡ lineSize * (k + 1) = omega arith in
-      let rest : drop c (drop f m) ≡ drop (lineSize * (k + 1)) d =
+      let rest : drop c (drop f m) ≡ behind =
       ap (λ (l : List ℤ). drop c (drop f l)) (p .is)
       ∙ ap (drop c) (drop-at front (drop (lineSize * k) d) f (length-fileList b k ∙ sym u))
       ∙ drop-drop c (lineSize * k) d
       ∙ ap (λ (i : ℕ). drop i d) next in
-      record { is = q ∙ ap₂ (λ (x y : List ℤ). x ++ y) first (ap₂ (λ (x y : List ℤ). x ++ y) e rest) ∙ sym (append-assoc front (lineNumbers (lineIn b (recordPlace b k))) (drop (lineSize * (k + 1)) d)) ∙ ap (λ (l : List ℤ). l ++ drop (lineSize * (k + 1)) d) (sym (list-more b k)) }
+      let joined : o ≡ front ++ (line ++ behind) = q ∙ ap₂ (λ (x y : List ℤ). x ++ y) first (ap₂ (λ (x y : List ℤ). x ++ y) e rest) in
+      record { is = joined ∙ sym (append-assoc front line behind) ∙ ap (λ (l : List ℤ). l ++ behind) (sym (list-more b k)) }

@@ -39,7 +39,9 @@ module _ (out : List ℕ) (at : ℕ) (ns : List ℤ) where
       let rest = int32Bytes (drop (i + 1) ns) in
       let first : int32Bytes (drop i ns) ≡ signedBytes (number ns i) ++ rest =
       ap int32Bytes (drop-cons ns i (pos 0) h) ∙ ap (λ (j : ℕ). signedBytes (number ns i) ++ int32Bytes (drop j ns)) (sym (add-one i)) in
-      record { left = ap (λ (l : List ℕ). put l (at + 4 * (i + 1)) rest) e ∙ put-append m (at + 4 * i) (signedBytes (number ns i)) (at + 4 * (i + 1)) rest next ∙ ap (put m (at + 4 * i)) (sym first) ∙ p .left }
+      let joined : put o (at + 4 * (i + 1)) rest ≡ put m (at + 4 * i) (signedBytes (number ns i) ++ rest) =
+      ap (λ (l : List ℕ). put l (at + 4 * (i + 1)) rest) e ∙ put-append m (at + 4 * i) (signedBytes (number ns i)) (at + 4 * (i + 1)) rest next in
+      record { left = joined ∙ ap (put m (at + 4 * i)) (sym first) ∙ p .left }
 
   pub numbers-all : (i : ℕ) {m : List ℕ} → length ns ≤ i → NumbersPut i m → m ≡ put out at (int32Bytes ns)
   unfolding put bytesOf

@@ -83,12 +83,11 @@ module _ (b : List ℕ) (room : ℕ) where
   after-variables : (c : Cursor) → Whole b (c .at) variablesKind → c .at ≡ 0 → c .lines ≡ 0 → lineSize * c .lines ≤ room
       → Reached b room (record { at = behind c variablesKind; n = le32 b (c .at + headerSize); begun = true; lines = c .lines })
   after-variables c w z k fits =
+      let next : behind c variablesKind ≡ recordPlace b (c .lines) = omega (arith, ap (recordPlace b) k, place-first b, variables-record) in
+      let body : headerSize ≡ c .at + headerSize = omega arith in
       record {
         within = omega (arith, w .whole);
-        placed = (
-          omega (arith, ap (recordPlace b) k, place-first b, variables-record),
-          record { first = subst (λ (i : ℕ). Whole b i variablesKind) z w; variables = ap (λ (i : ℕ). le32 b i) (sym (zero-add headerSize) ∙ ap (λ (i : ℕ). i + headerSize) (sym z)); lines = λ j l. absurd (omega arith) },
-        );
+        placed = (next, record { first = subst (λ (i : ℕ). Whole b i variablesKind) z w; variables = ap (λ (i : ℕ). le32 b i) body; lines = λ j l. absurd (omega arith) });
         fits = fits;
       }
 
