@@ -10,9 +10,9 @@ use lib.Seq.{length-take-le, set-split, getD-take, getD-drop, drop-drop, take-at
 use mir.Syntax.{w32}
 use mir.Val.{toZ}
 use Rattle.integers.specs.Sequence.{tabulate, tabulate-add, tabulate-cong}
-use Rattle.lines.specs.declared.Line.{Line}
 use Rattle.lines.specs.Limits.{lineSize, bareSize}
 use Rattle.lines.specs.Line.{lineNumbers, lineOf, numbersOf}
+use Rattle.lines.specs.LineNumbers.{numbers-append}
 use Rattle.little_endian.specs.Bytes.{le32, int32, firstOf, int32s}
 use Rattle.file_records.specs.Table.{headerSize, bodySize, sizeOf, recordSize, kindAt, recordPlace}
 use Rattle.file_records.specs.Places.{LineKind, bare, identified}
@@ -61,11 +61,6 @@ line-decoded b at m line {o} h e s q =
     (filled numbers (h .is-line) line e)
 
 -- ---- all lines
-numbers-append : (ls ms : List Line) → numbersOf (ls ++ ms) ≡ numbersOf ls ++ numbersOf ms
-unfolding numbersOf
-numbers-append [] ms = refl
-numbers-append (l ∷ ls) ms = ap (λ (r : List ℤ). lineNumbers l ++ r) (numbers-append ls ms) ∙ sym (append-assoc (lineNumbers l) (numbersOf ls) (numbersOf ms))
-
 -- one line more
 list-more : (b : List ℕ) (k : ℕ) → fileList b (k + 1) ≡ fileList b k ++ lineNumbers (lineIn b (recordPlace b k))
 unfolding fileList numbersOf

@@ -5,16 +5,14 @@ use Prim.Native.Nat.{ℕ, zero, suc, _+_, _*_, _^_, _<_, _≤_, suc-le-suc}
 use native.Mathlib.Nat.{zero-add, add-zero, add-suc, suc-add, add-assoc}
 use native.Mathlib.Omega.{arith}
 use lib.IntN.{ℤ, pos}
-use lib.ListN.{length, drop, take-append-drop, drop-of-length-le}
-use lib.Seq.{drop-drop}
+use lib.ListN.{length, drop, drop-of-length-le}
 use mir.Syntax.{w32}
 use mir.Val.{SFits}
 use Rattle.integers.specs.Sequence.{tabulate, length-tabulate, tabulate-cong, getD-tabulate}
 use Rattle.lines.specs.declared.Line.{Line}
 use Rattle.lines.specs.Limits.{lineSize}
-use Rattle.lines.specs.Line.{number, lineCount, linesOf, numbersOf}
-use Rattle.lines.specs.LineNumbers.{numbers-at, length-numbersOf, lines-of-numbers}
-use Rattle.lines.specs.Laws.{lines-from, lines-past}
+use Rattle.lines.specs.Line.{number, lineCount, numbersOf}
+use Rattle.lines.specs.LineNumbers.{length-numbersOf, lines-of-numbers, numbers-of-lines}
 use Rattle.little_endian.specs.Bytes.{AreBytes, int32}
 use Rattle.little_endian.specs.Writing.{bytes16, bytes32, signedBytes, bytesOf, int32Bytes}
 use Rattle.little_endian.specs.Back.{length-bytesOf}
@@ -27,20 +25,6 @@ use Rattle.file_list.specs.LineRecord.{record-back, length-numbersAt}
 use Rattle.file_list.specs.Bytes.{drop-bytes16, drop-bytes32, drop-signed, end-place, first-whole, end-whole, n-in-file, line-at-place, line-in-file}
 
 -- ---- written
--- the numbers of all lines of a list
-numbers-of-lines : (L : List ℤ) → lineSize * lineCount L ≡ length L → numbersOf (linesOf L) ≡ L
-unfolding numbersOf
-numbers-of-lines L e = go (lineCount L) 0 (zero-add (lineCount L))
-  where
-    go : (m k : ℕ) → k + m ≡ lineCount L → numbersOf (drop k (linesOf L)) ≡ drop (lineSize * k) L
-    go zero k q = ap numbersOf (lines-past L k (omega arith)) ∙ sym (drop-of-length-le L {i = lineSize * k} (omega arith))
-    go (suc m) k q =
-        let rest = drop (lineSize * k) L in
-        let next : lineSize * (k + 1) ≡ lineSize * k + lineSize = omega arith in
-        ap numbersOf (lines-from L k (omega arith))
-        ∙ ap₂ (λ (x y : List ℤ). x ++ y) (numbers-at L k (omega arith)) (go m (k + 1) (omega arith) ∙ ap (λ (i : ℕ). drop i L) next ∙ sym (drop-drop lineSize (lineSize * k) L))
-        ∙ take-append-drop lineSize rest
-
 module _ (n : ℕ) (L : List ℤ) (f : (i : ℕ) → SFits w32 (number L i)) where
   pub file-laid : n < 2 ^ 32 → Laid (fileOf n L) n (lineCount L)
   file-laid h =

@@ -4,11 +4,11 @@
 -- and the numbers of the line with which a list begins are the list's first: all others follow from these.
 use mathlib.Core.Path.{_≡_, refl, sym, ap, ap₂, _∙_}
 use mathlib.Core.List.{List, [], _∷_, _++_, append-assoc, append-nil}
-use Prim.Native.Nat.{ℕ, _+_, _*_, _/_, _%_, _<_, _≤_}
+use Prim.Native.Nat.{ℕ, zero, suc, _+_, _*_, _/_, _%_, _<_, _≤_}
 use native.Mathlib.Omega.{arith}
 use lib.IntN.{ℤ, pos}
 use lib.ListN.{length, take, drop, length-append, length-drop, take-append-drop}
-use lib.Seq.{getD-take, getD-drop, drop-append-le, drop-append-add}
+use lib.Seq.{getD-take, getD-drop, drop-drop, drop-append-le, drop-append-add}
 use Rattle.integers.specs.Sequence.{tabulate, tabulate-add, tabulate-cong, tabulate-getD}
 use Rattle.lines.specs.declared.Line.{Line}
 use Rattle.lines.specs.Limits.{lineSize}
@@ -96,3 +96,28 @@ lines-of-numbers [] = refl
 lines-of-numbers (l ∷ ls) =
     lines-append (lineNumbers l) (numbersOf ls) (omega (arith, length-numbers l))
     ∙ ap₂ (λ (x y : List Line). x ++ y) (one-line l) (lines-of-numbers ls)
+
+-- ---- the numbers of all lines of a list
+pub numbers-append : (ls ms : List Line) → numbersOf (ls ++ ms) ≡ numbersOf ls ++ numbersOf ms
+unfolding numbersOf
+numbers-append [] ms = refl
+numbers-append (l ∷ ls) ms = ap (λ (r : List ℤ). lineNumbers l ++ r) (numbers-append ls ms) ∙ sym (append-assoc (lineNumbers l) (numbersOf ls) (numbersOf ms))
+
+-- of as many numbers as m lines have
+numbers-of-all : (m : ℕ) (L : List ℤ) → length L ≡ lineSize * m → numbersOf (tabulate m (lineAt L)) ≡ L
+unfolding numbersOf lineAt
+numbers-of-all zero [] e = refl
+numbers-of-all zero (z ∷ L) e = absurd (omega arith)
+numbers-of-all (suc m) L e =
+    let rest = drop lineSize L in
+    ap₂ (λ (x y : List ℤ). x ++ y) (numbers-at L 0 (omega arith))
+    (ap numbersOf (tabulate-cong m _ _ (λ k h. later k)) ∙ numbers-of-all m rest (omega (arith, length-drop lineSize L)))
+    ∙ take-append-drop lineSize L
+  where
+    later : (k : ℕ) → lineAt L (suc k) ≡ lineAt (drop lineSize L) k
+    later k =
+        let z : lineSize * suc k ≡ lineSize + lineSize * k = omega arith in
+        ap lineOf (ap (λ (i : ℕ). drop i L) z ∙ sym (drop-drop (lineSize * k) lineSize L))
+
+pub numbers-of-lines : (L : List ℤ) → lineSize * lineCount L ≡ length L → numbersOf (linesOf L) ≡ L
+numbers-of-lines L whole = numbers-of-all (lineCount L) L (omega arith)
