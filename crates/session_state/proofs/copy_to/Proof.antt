@@ -1,0 +1,49 @@
+-- `session_state::copy_to` meets its contract. The invariant: the first i numbers are copied, and the rest is as it was.
+use mathlib.Core.Path.{_≡_, refl, ap, _∙_}
+use mathlib.Core.List.{List}
+use Prim.Native.Nat.{ℕ, _-_, _≤_}
+use native.Mathlib.Omega.{arith}
+use borrow.Author.Needs.{needs}
+use lib.IntN.{ℤ}
+use lib.ListN.{length, set}
+use mir.Syntax.{w32}
+use mir.Val.{toZ, ofZ}
+use Rattle.integers.specs.Bits.{kept}
+use Rattle.integers.specs.Fill.{filled, filled-more}
+use Rattle.lines.specs.Line.{number}
+use Rattle.session_state.specs.Laws.{filled-all}
+use Rattle.session_state.proofs.copy_to.Statement.{statement}
+use Rattle.session_state.proofs.copy_to.Tie as tie
+
+abbrev Inv-loop : tie.InvT-loop
+Inv-loop numbers list₀ i₀ list i = (i ≤ length numbers) × (length list ≡ length list₀) × (list ≡ filled (number numbers) list₀ i)
+
+abbrev μ-loop : tie.MeasureT-loop
+μ-loop numbers list₀ i₀ list i = length numbers - i
+
+loop-holds : tie.Need-loop-holds Inv-loop μ-loop
+loop-holds c = (omega arith, refl, refl)
+
+-- number i, as it is read
+module _ (c : tie.After-list Inv-loop μ-loop) where
+  abbrev z : ℤ
+  z = number (c .before .before .before .args .numbers .now) (c .before .before .loop .i)
+
+  read : toZ w32 (ofZ w32 z) ≡ z
+  read = kept w32 z (c .list .given)
+
+loop-again : tie.Need-loop-again Inv-loop μ-loop
+loop-again c =
+    let l = c .before .before in
+    let list = l .before .args .list .now in (
+      omega arith,
+      search needs,
+      ap (λ (x : List ℤ). set x (l .loop .i) (toZ w32 (ofZ w32 (z c)))) (l .loop .inv .2)
+          ∙ filled-more (number (l .before .args .numbers .now)) list (l .loop .i) (toZ w32 (ofZ w32 (z c))) (omega arith) (read c),
+    )
+
+returns : tie.Need-returns Inv-loop μ-loop
+returns c = let l = c .before in l .loop .inv .2 ∙ filled-all (l .before .args .numbers .now) (l .before .args .list .now) (l .loop .i) (omega (arith, l .loop .inv .0))
+
+pub copy-to-spec : {M : Type 1} → statement M
+copy-to-spec = tie.close (tie.spec Inv-loop μ-loop loop-holds (search needs) (search needs) (search needs) (search needs) (search needs) (search needs) loop-again (search needs) returns)

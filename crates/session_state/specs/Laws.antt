@@ -1,0 +1,149 @@
+-- What the tests of a state give, number by number, and lists that are written from the front.
+use mathlib.Core.Path.{_≡_, refl, sym, ap, subst, _∙_}
+use mathlib.Core.Bool.{Bool, true, false, not, _&&_}
+use mathlib.Core.List.{List, [], _∷_, _++_, append-nil}
+use Prim.Native.Nat.{ℕ, zero, suc, _+_, _*_, _^_, _-_, _<_, _≤_}
+use native.Mathlib.Nat.{not-suc-le-zero, le-of-suc-le-suc}
+use native.Mathlib.Numerals.{add-one}
+use native.Mathlib.Omega.{arith}
+use borrow.Author.Tests.{leb-true}
+use lib.Dec.{leb}
+use lib.IntN.{ℤ, pos, negsuc, natAbs}
+use lib.ListN.{length, take, drop, drop-of-length-le, length-append, length-drop}
+use lib.Seq.{drop-cons, length-take-le, take-all, take-length}
+use lib.Signed.{leZ}
+use mir.Syntax.{w32, w64}
+use mir.Val.{SFits}
+use Rattle.integers.specs.Integer.{_⩽_, isBetween}
+use Rattle.integers.specs.Linear.{ints, given, given₂}
+use Rattle.integers.specs.Laws.{and-true, both-true}
+use Rattle.integers.specs.Sequence.{tabulate-getD}
+use Rattle.integers.specs.Fill.{filled}
+use Rattle.lines.specs.Limits.{lineSize, maxVariables, maxLines}
+use Rattle.lines.specs.Line.{number}
+use Rattle.session_state.specs.State.{headSize, sessionRoom, behind, variablesIn, countIn, numbersIn, headOk, fits32, fitAll, isState, putAt}
+
+-- ---- a number from 0 to m
+pub between-low : (m : ℕ) (z : ℤ) → isBetween (pos 0) (pos m) z ≡ true → pos 0 ⩽ z
+between-low m z e = let t = and-true (leZ (pos 0) z) (leZ z (pos m)) e in given (t .0) (simp ints (omega arith))
+
+pub between-high : (m : ℕ) (z : ℤ) → isBetween (pos 0) (pos m) z ≡ true → natAbs z ≤ m
+between-high m z e = let t = and-true (leZ (pos 0) z) (leZ z (pos m)) e in given₂ (t .0) (t .1) (simp ints (omega arith))
+
+-- ---- the room
+-- for n variables, whatever n is, with k lines and the zeros behind them
+pub room-split : (n k : ℕ) → k ≤ maxLines → sessionRoom n ≡ headSize + (lineSize * k + behind k)
+unfolding sessionRoom behind
+room-split n k h = omega arith
+
+pub room-lines : (n k : ℕ) → k ≤ maxLines → headSize + lineSize * k ≤ sessionRoom n
+room-lines n k h = omega (arith, room-split n k h)
+
+-- ---- the head
+pub record HeadOk (s : List ℤ) : Type 0 where
+  pub long : headSize ≤ length s
+  pub variables-low : pos 0 ⩽ number s 0
+  pub variables : variablesIn s ≤ maxVariables
+  pub count-low : pos 0 ⩽ number s 1
+  pub count : countIn s ≤ maxLines
+  pub room : sessionRoom (variablesIn s) ≤ length s
+
+pub head-ok : (s : List ℤ) → headOk s ≡ true → HeadOk s
+unfolding headOk
+head-ok s e =
+    let a = and-true (leb headSize (length s)) _ e in
+    let b = and-true (isBetween (pos 0) (pos maxVariables) (number s 0)) _ (a .1) in
+    let c = and-true (isBetween (pos 0) (pos maxLines) (number s 1)) _ (b .1) in
+    let d = and-true (isBetween (pos 0) (pos 1) (number s 2)) _ (c .1) in
+    record {
+      long = leb-true _ _ (a .0);
+      variables-low = between-low maxVariables (number s 0) (b .0);
+      variables = between-high maxVariables (number s 0) (b .0);
+      count-low = between-low maxLines (number s 1) (c .0);
+      count = between-high maxLines (number s 1) (c .0);
+      room = leb-true _ _ (d .1);
+    }
+
+pub state-head : (s : List ℤ) → isState s ≡ true → HeadOk s
+unfolding isState
+state-head s e = head-ok s (and-true (headOk s) (fitAll (numbersIn s)) e .0)
+
+pub state-head-ok : (s : List ℤ) → isState s ≡ true → headOk s ≡ true
+unfolding isState
+state-head-ok s e = and-true (headOk s) (fitAll (numbersIn s)) e .0
+
+pub state-fits : (s : List ℤ) → isState s ≡ true → fitAll (numbersIn s) ≡ true
+unfolding isState
+state-fits s e = and-true (headOk s) (fitAll (numbersIn s)) e .1
+
+-- the lines that are there end within the state
+pub lines-end : {s : List ℤ} → HeadOk s → headSize + lineSize * countIn s ≤ length s
+lines-end {s} h = omega (arith, room-lines (variablesIn s) (countIn s) (h .count), h .room)
+
+-- and so does one more
+pub next-end : {s : List ℤ} → HeadOk s → countIn s < maxLines → headSize + lineSize * countIn s + lineSize ≤ length s
+next-end {s} h l = omega (arith, room-lines (variablesIn s) (countIn s + 1) (omega arith), h .room)
+
+-- the part of a state where its lines stand
+pub lines-part : (s : List ℤ) (k : ℕ) → k ≡ countIn s → take (headSize + lineSize * k - headSize) (drop headSize s) ≡ numbersIn s
+lines-part s k e = let j : headSize + lineSize * k - headSize ≡ lineSize * countIn s = omega arith in ap (λ (i : ℕ). take i (drop headSize s)) j
+
+pub length-numbersIn : (s : List ℤ) → HeadOk s → length (numbersIn s) ≡ lineSize * countIn s
+length-numbersIn s h = length-take-le (lineSize * countIn s) (drop headSize s) (omega (arith, length-drop headSize s, lines-end h))
+
+-- ---- numbers of 32 bits
+fits-is : (z : ℤ) → fits32 z ≡ true → SFits w32 z
+fits-is z e = let t = and-true (leZ (negsuc (2 ^ 31 - 1)) z) (leZ z (pos (2 ^ 31 - 1))) e in given₂ (t .0) (t .1) (simp ints (omega arith))
+
+is-fits : (z : ℤ) → SFits w32 z → fits32 z ≡ true
+is-fits z h = both-true (leZ (negsuc (2 ^ 31 - 1)) z) (leZ z (pos (2 ^ 31 - 1))) (given h (simp ints (omega arith))) (given h (simp ints (omega arith)))
+
+pub fit-at : (zs : List ℤ) → fitAll zs ≡ true → (i : ℕ) → i < length zs → SFits w32 (number zs i)
+unfolding fitAll
+fit-at [] e i h = absurd (not-suc-le-zero h)
+fit-at (z ∷ zs) e zero h = fits-is z (and-true (fits32 z) (fitAll zs) e .0)
+fit-at (z ∷ zs) e (suc i) h = fit-at zs (and-true (fits32 z) (fitAll zs) e .1) i (le-of-suc-le-suc h)
+
+pub all-fit : (zs : List ℤ) → ((i : ℕ) → SFits w32 (number zs i)) → fitAll zs ≡ true
+unfolding fitAll
+all-fit [] h = refl
+all-fit (z ∷ zs) h = both-true (fits32 z) (fitAll zs) (is-fits z (h 0)) (all-fit zs (λ i. h (suc i)))
+
+pub fit-from : (zs : List ℤ) (i : ℕ) → i < length zs → fitAll (drop i zs) ≡ (fits32 (number zs i) && fitAll (drop (i + 1) zs))
+unfolding fitAll
+fit-from zs i h = ap fitAll (drop-cons zs i (pos 0) h) ∙ ap (λ (k : ℕ). fits32 (number zs i) && fitAll (drop k zs)) (sym (add-one i))
+
+pub fit-past : (zs : List ℤ) (i : ℕ) → length zs ≤ i → fitAll (drop i zs) ≡ true
+unfolding fitAll
+fit-past zs i h = ap fitAll (drop-of-length-le zs h)
+
+-- ---- a list that was filled with all of another
+pub filled-all : (zs d : List ℤ) (i : ℕ) → i ≡ length zs → filled (number zs) d i ≡ zs ++ drop (length zs) d
+filled-all zs d i e =
+    ap (filled (number zs) d) e
+    ∙ ap (λ (l : List ℤ). l ++ drop (length zs) d) (tabulate-getD (length zs) zs (pos 0) (omega arith) ∙ take-length zs)
+
+-- ---- a number of 64 bits without its sign
+pub abs-fits : (z : ℤ) → SFits w64 z → natAbs z < 2 ^ 64
+abs-fits z h = given h (simp ints (omega arith))
+
+-- ---- a line's numbers, written to the part of a state from a place on, which is then put back
+module _ (s ys p : List ℤ) (at : ℕ) where
+  part-all : take (length s - at) (drop at s) ≡ drop at s
+  part-all = take-all (length s - at) (drop at s) (omega (arith, length-drop at s))
+
+  pub part-long : at + lineSize ≤ length s → lineSize ≤ length (take (length s - at) (drop at s))
+  part-long h = rw part-all (omega (arith, length-drop at s))
+
+  pub put-back : p ≡ ys ++ drop lineSize (take (length s - at) (drop at s)) → take at s ++ (p ++ drop (length s - at) (drop at s)) ≡ putAt at ys s
+  put-back e =
+      let end : length (drop at s) ≤ length s - at = omega (arith, length-drop at s) in
+      let none : drop (length s - at) (drop at s) ≡ [] = drop-of-length-le (drop at s) end in
+      ap (λ (x : List ℤ). take at s ++ x)
+      (ap (λ (x : List ℤ). p ++ x) none ∙ append-nil p ∙ e ∙ ap (λ (x : List ℤ). ys ++ drop lineSize x) part-all)
+
+  -- the state is as long as before
+  pub put-length : at + lineSize ≤ length s → length ys ≡ lineSize → length (putAt at ys s) ≡ length s
+  put-length h e =
+      length-append (take at s) (ys ++ drop lineSize (drop at s))
+      ∙ omega (arith, length-take-le at s (omega arith), length-append ys (drop lineSize (drop at s)), length-drop lineSize (drop at s), length-drop at s)

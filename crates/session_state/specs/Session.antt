@@ -1,0 +1,153 @@
+-- What is read from a session's state, and what it becomes: the state of its n, its lines and its last answer, with any numbers behind it.
+use mathlib.Core.Path.{_≡_, refl, sym, ap, _∙_}
+use mathlib.Core.Bool.{Bool, true, false, not, _&&_}
+use mathlib.Core.List.{List, [], _∷_, _++_, append-assoc, append-nil}
+use Prim.Native.Nat.{ℕ, zero, suc, _+_, _*_, _-_, _<_, _≤_}
+use native.Mathlib.Nat.{zero-add, suc-add}
+use native.Mathlib.Numerals.{add-one}
+use native.Mathlib.Omega.{arith}
+use borrow.Author.Tests.{le-leb}
+use lib.Dec.{leb}
+use lib.IntN.{ℤ, pos}
+use lib.ListN.{length, take, drop, set, replicate, length-append, length-replicate, replicate-append-replicate}
+use lib.Seq.{take-at, drop-at}
+use lib.Signed.{leZ}
+use mir.Syntax.{w32}
+use mir.Val.{SFits}
+use Rattle.integers.specs.Integer.{eqZ, isBetween}
+use Rattle.integers.specs.Linear.{ints}
+use Rattle.integers.specs.Laws.{both-true}
+use Rattle.lines.specs.declared.Line.{Line}
+use Rattle.lines.specs.Limits.{lineSize, maxVariables, maxLines}
+use Rattle.lines.specs.Line.{number, lineNumbers, numbersOf}
+use Rattle.lines.specs.LineNumbers.{length-numbers, length-numbersOf}
+use Rattle.session_state.specs.State.{headSize, sessionRoom, flagOf, zeros, behind, stateOf, variablesIn, countIn, refusedIn, numbersIn, headOk, fitAll, isState, lineStart, putAt, headed, started, pushed, popped}
+use Rattle.session_state.specs.Laws.{room-split}
+
+-- ---- the numbers of lines and of one more
+pub numbers-more : (ls : List Line) (l : Line) → numbersOf (ls ++ l ∷ []) ≡ numbersOf ls ++ lineNumbers l
+unfolding numbersOf
+numbers-more [] l = append-nil (lineNumbers l)
+numbers-more (k ∷ ls) l = ap (λ (x : List ℤ). lineNumbers k ++ x) (numbers-more ls l) ∙ sym (append-assoc (lineNumbers k) (numbersOf ls) (lineNumbers l))
+
+pub length-more : (ls : List Line) (l : Line) → length (ls ++ l ∷ []) ≡ length ls + 1
+length-more ls l = length-append ls (l ∷ [])
+
+-- one line's zeros of those behind
+behind-more : (k : ℕ) → k < maxLines → zeros (behind k) ≡ zeros lineSize ++ zeros (behind (k + 1))
+unfolding behind
+behind-more k h = let e : lineSize * (maxLines - k) ≡ lineSize + lineSize * (maxLines - (k + 1)) = omega arith in ap zeros e ∙ sym (replicate-append-replicate lineSize (lineSize * (maxLines - (k + 1))) (pos 0))
+
+from-zero : (k m : ℕ) → k ≤ m → isBetween (pos 0) (pos m) (pos k) ≡ true
+from-zero k m h = both-true (leb 0 k) (leb k m) (le-leb 0 k (omega arith)) (le-leb k m h)
+
+-- ---- a state, from its front
+module _ (n : ℕ) (ls : List Line) (r : Bool) where
+  -- what stands before the zeros
+  abbrev front : List ℤ
+  front = pos n ∷ pos (length ls) ∷ flagOf r ∷ numbersOf ls
+
+  length-front : length (pos n ∷ pos (length ls) ∷ flagOf r ∷ numbersOf ls) ≡ lineStart (length ls)
+  length-front = omega (arith, length-numbersOf ls)
+
+  pub length-state : length ls ≤ maxLines → length (stateOf n ls r) ≡ sessionRoom n
+  unfolding stateOf
+  length-state h =
+      omega (arith, length-append (numbersOf ls) (zeros (behind (length ls))), length-numbersOf ls, length-replicate (behind (length ls)) (pos 0), room-split n (length ls) h)
+
+  split : (rest : List ℤ) → stateOf n ls r ++ rest ≡ (pos n ∷ pos (length ls) ∷ flagOf r ∷ numbersOf ls) ++ (zeros (behind (length ls)) ++ rest)
+  unfolding stateOf
+  split rest = append-assoc (pos n ∷ pos (length ls) ∷ flagOf r ∷ numbersOf ls) (zeros (behind (length ls))) rest
+
+  -- ---- what is read
+  module _ (rest : List ℤ) where
+    pub variables-is : variablesIn (stateOf n ls r ++ rest) ≡ n
+    unfolding stateOf
+    variables-is = refl
+
+    pub count-is : countIn (stateOf n ls r ++ rest) ≡ length ls
+    unfolding stateOf
+    count-is = refl
+
+    pub refused-is : refusedIn (stateOf n ls r ++ rest) ≡ r
+    unfolding stateOf
+    refused-is = go r
+      where
+        go : (t : Bool) → not (eqZ (flagOf t) (pos 0)) ≡ t
+        go true = refl
+        go false = refl
+
+    pub numbers-is : numbersIn (stateOf n ls r ++ rest) ≡ numbersOf ls
+    numbers-is =
+        ap (λ (k : ℕ). take (lineSize * k) (drop headSize (stateOf n ls r ++ rest))) count-is
+        ∙ ap (λ (x : List ℤ). take (lineSize * length ls) (drop headSize x)) (split rest)
+        ∙ take-at (numbersOf ls) (zeros (behind (length ls)) ++ rest) (lineSize * length ls) (length-numbersOf ls)
+
+    head-is : n ≤ maxVariables → length ls ≤ maxLines → headOk (stateOf n ls r ++ rest) ≡ true
+    unfolding headOk stateOf
+    head-is few h =
+        let size = length-append (stateOf n ls r) rest in
+        let long : headSize ≤ length (stateOf n ls r ++ rest) = omega (arith, size, length-state h, room-split n (length ls) h) in
+        let whole : sessionRoom n ≤ length (stateOf n ls r ++ rest) = omega (arith, size, length-state h) in
+        both-true _ _ (le-leb _ _ long)
+        (both-true _ _ (from-zero n maxVariables few) (both-true _ _ (from-zero (length ls) maxLines h) (both-true _ _ (flag r) (le-leb _ _ whole))))
+      where
+        flag : (t : Bool) → isBetween (pos 0) (pos 1) (flagOf t) ≡ true
+        flag true = refl
+        flag false = refl
+
+    pub state-is : n ≤ maxVariables → length ls ≤ maxLines → fitAll (numbersOf ls) ≡ true → isState (stateOf n ls r ++ rest) ≡ true
+    unfolding isState
+    state-is few h fit = both-true _ _ (head-is few h) (ap fitAll numbers-is ∙ fit)
+
+-- ---- what it becomes
+-- n and no lines
+pub started-is : (n : ℕ) (s : List ℤ) → started n s ≡ stateOf n [] false ++ drop (sessionRoom n) s
+unfolding started stateOf numbersOf
+started-is n s =
+    let e : sessionRoom n ≡ suc (suc (suc (behind 0))) = omega (arith, room-split n 0 (omega arith)) in
+    ap (λ (k : ℕ). set (zeros k ++ drop (sessionRoom n) s) 0 (pos n)) e
+
+-- ys in place of as many numbers zs behind xs
+put-is : (xs zs ys w : List ℤ) (at : ℕ) → length xs ≡ at → length zs ≡ lineSize → putAt at ys (xs ++ (zs ++ w)) ≡ xs ++ (ys ++ w)
+put-is xs zs ys w at e z = rw (take-at xs (zs ++ w) at e, drop-at xs (zs ++ w) at e, drop-at zs w lineSize z)
+
+-- a state with one line more, from its front
+one-more : (n : ℕ) (ls : List Line) (l : Line) (q : Bool) (rest : List ℤ)
+    → stateOf n (ls ++ l ∷ []) q ++ rest ≡ (pos n ∷ pos (length ls + 1) ∷ flagOf q ∷ numbersOf ls) ++ (lineNumbers l ++ (zeros (behind (length ls + 1)) ++ rest))
+one-more n ls l q rest =
+    split n (ls ++ l ∷ []) q rest
+    ∙ ap (λ (k : ℕ). pos n ∷ pos k ∷ flagOf q ∷ (numbersOf (ls ++ l ∷ []) ++ (zeros (behind k) ++ rest))) (length-more ls l)
+    ∙ ap (λ (x : List ℤ). pos n ∷ pos (length ls + 1) ∷ flagOf q ∷ x)
+    (ap (λ (x : List ℤ). x ++ (zeros (behind (length ls + 1)) ++ rest)) (numbers-more ls l) ∙ append-assoc (numbersOf ls) (lineNumbers l) (zeros (behind (length ls + 1)) ++ rest))
+
+-- one line more
+pub pushed-is : (n : ℕ) (ls : List Line) (r : Bool) (rest : List ℤ) (l : Line) (q : Bool) → length ls < maxLines
+    → pushed (stateOf n ls r ++ rest) l q ≡ stateOf n (ls ++ l ∷ []) q ++ rest
+unfolding pushed
+pushed-is n ls r rest l q h =
+    let c = length ls in
+    let xs = front n ls r in
+    let w = zeros (behind (c + 1)) ++ rest in
+    let e : stateOf n ls r ++ rest ≡ xs ++ (zeros lineSize ++ w) =
+    split n ls r rest ∙ ap (λ (x : List ℤ). xs ++ x) (ap (λ (x : List ℤ). x ++ rest) (behind-more c h) ∙ append-assoc (zeros lineSize) (zeros (behind (c + 1))) rest) in
+    ap (λ (x : List ℤ). headed (countIn x + 1) q (putAt (lineStart (countIn x)) (lineNumbers l) x)) e
+    ∙ ap (headed (c + 1) q) (put-is xs (zeros lineSize) (lineNumbers l) w (lineStart c) (length-front n ls r) (length-replicate lineSize (pos 0)))
+    ∙ sym (one-more n ls l q rest)
+
+-- the last line is taken away
+pub popped-is : (n : ℕ) (ls : List Line) (l : Line) (r : Bool) (rest : List ℤ) → length ls < maxLines
+    → popped (stateOf n (ls ++ l ∷ []) r ++ rest) ≡ stateOf n ls false ++ rest
+unfolding popped
+popped-is n ls l r rest h =
+    let c = length ls in
+    let xs : List ℤ = pos n ∷ pos (c + 1) ∷ flagOf r ∷ numbersOf ls in
+    let w = zeros (behind (c + 1)) ++ rest in
+    let back : c + 1 - 1 ≡ c = omega arith in
+    let size : length xs ≡ lineStart c = omega (arith, length-numbersOf ls) in
+    let zs : zeros (behind c) ++ rest ≡ zeros lineSize ++ w = ap (λ (x : List ℤ). x ++ rest) (behind-more c h) ∙ append-assoc (zeros lineSize) (zeros (behind (c + 1))) rest in
+    ap (λ (x : List ℤ). headed (countIn x - 1) false (putAt (lineStart (countIn x - 1)) (zeros lineSize) x)) (one-more n ls l r rest)
+    ∙ ap (λ (k : ℕ). headed k false (putAt (lineStart k) (zeros lineSize) (xs ++ (lineNumbers l ++ w)))) back
+    ∙ ap (headed c false) (put-is xs (lineNumbers l) (zeros lineSize) w (lineStart c) size (length-numbers l))
+    ∙ ap (λ (x : List ℤ). pos n ∷ pos c ∷ pos 0 ∷ (numbersOf ls ++ x)) (sym zs)
+    ∙ sym (split n ls false rest)

@@ -1,0 +1,98 @@
+-- What the state of a session is: the one place that says so. And what is read from any numbers as from a state.
+use mathlib.Core.Bool.{Bool, true, false, not, cond, _&&_}
+use mathlib.Core.List.{List, [], _∷_, _++_}
+use Prim.Native.Nat.{ℕ, _+_, _*_, _-_, _^_}
+use lib.Dec.{leb}
+use lib.IntN.{ℤ, pos, negsuc, natAbs}
+use lib.ListN.{length, take, drop, set, replicate}
+use Rattle.integers.specs.Integer.{eqZ, isBetween}
+use Rattle.lines.specs.declared.Line.{Line}
+use Rattle.lines.specs.Limits.{lineSize, maxVariables, maxLines}
+use Rattle.lines.specs.Line.{number, lineNumbers, numbersOf}
+use Rattle.session_state.specs.declared.Head.{Head}
+
+-- ---- the state
+-- the numbers before those of the lines
+abbrev pub headSize : ℕ
+headSize = 3
+
+-- how many numbers a state of n variables has
+unfoldable pub sessionRoom : ℕ → ℕ
+sessionRoom n = headSize + lineSize * maxLines
+
+-- the number that says whether the last answer was a no
+abbrev pub flagOf : Bool → ℤ
+flagOf refused = cond refused (pos 1) (pos 0)
+
+abbrev pub zeros : ℕ → List ℤ
+zeros k = replicate k (pos 0)
+
+-- how many of them are zeros behind k lines
+unfoldable pub behind : ℕ → ℕ
+behind k = lineSize * (maxLines - k)
+
+-- n, how many lines, whether the last answer was a no, the numbers of the lines in order, zeros behind
+unfoldable pub stateOf : ℕ → List Line → Bool → List ℤ
+stateOf n ls refused = pos n ∷ pos (length ls) ∷ flagOf refused ∷ (numbersOf ls ++ zeros (behind (length ls)))
+
+-- ---- any numbers, read as a state
+abbrev pub headOf : List ℤ → Head
+headOf s = record { n = natAbs (number s 0); count = natAbs (number s 1); refused = not (eqZ (number s 2) (pos 0)) }
+
+abbrev pub variablesIn : List ℤ → ℕ
+variablesIn s = natAbs (number s 0)
+
+abbrev pub countIn : List ℤ → ℕ
+countIn s = natAbs (number s 1)
+
+abbrev pub refusedIn : List ℤ → Bool
+refusedIn s = not (eqZ (number s 2) (pos 0))
+
+-- the numbers of its lines
+abbrev pub numbersIn : List ℤ → List ℤ
+numbersIn s = take (lineSize * countIn s) (drop headSize s)
+
+-- ---- whether they begin with a state, as far as the calls have to know it
+unfoldable pub headOk : List ℤ → Bool
+headOk s =
+    leb headSize (length s)
+    && (isBetween (pos 0) (pos maxVariables) (number s 0)
+    && (isBetween (pos 0) (pos maxLines) (number s 1)
+    && (isBetween (pos 0) (pos 1) (number s 2)
+    && leb (sessionRoom (variablesIn s)) (length s))))
+
+-- z fits 32 bits
+abbrev pub fits32 : ℤ → Bool
+fits32 z = isBetween (negsuc (2 ^ 31 - 1)) (pos (2 ^ 31 - 1)) z
+
+unfoldable pub fitAll : List ℤ → Bool
+fitAll [] = true
+fitAll (z ∷ zs) = fits32 z && fitAll zs
+
+unfoldable pub isState : List ℤ → Bool
+isState s = headOk s && fitAll (numbersIn s)
+
+-- ---- what is written
+-- where line number k begins
+abbrev pub lineStart : ℕ → ℕ
+lineStart k = headSize + lineSize * k
+
+-- ys, a line's numbers, from a place on
+abbrev pub putAt : ℕ → List ℤ → List ℤ → List ℤ
+putAt at ys s = take at s ++ (ys ++ drop lineSize (drop at s))
+
+-- the count of lines and the last answer
+abbrev pub headed : ℕ → Bool → List ℤ → List ℤ
+headed count refused s = set (set s 1 (pos count)) 2 (flagOf refused)
+
+-- n and zeros
+unfoldable pub started : ℕ → List ℤ → List ℤ
+started n s = set (zeros (sessionRoom n) ++ drop (sessionRoom n) s) 0 (pos n)
+
+-- one line more
+unfoldable pub pushed : List ℤ → Line → Bool → List ℤ
+pushed s l refused = headed (countIn s + 1) refused (putAt (lineStart (countIn s)) (lineNumbers l) s)
+
+-- the last line is taken away
+unfoldable pub popped : List ℤ → List ℤ
+popped s = headed (countIn s - 1) false (putAt (lineStart (countIn s - 1)) (zeros lineSize) s)
