@@ -1,7 +1,7 @@
 -- What the tests of a state give, number by number, and lists that are written from the front.
 use mathlib.Core.Path.{_≡_, refl, sym, ap, subst, _∙_}
 use mathlib.Core.Bool.{Bool, true, false, not, _&&_}
-use mathlib.Core.List.{List, [], _∷_, _++_, append-nil}
+use mathlib.Core.List.{List, [], _∷_, _++_, append-assoc, append-nil}
 use Prim.Native.Nat.{ℕ, zero, suc, _+_, _*_, _^_, _-_, _<_, _≤_}
 use native.Mathlib.Nat.{not-suc-le-zero, le-of-suc-le-suc}
 use native.Mathlib.Numerals.{add-one}
@@ -10,7 +10,7 @@ use borrow.Author.Tests.{leb-true}
 use lib.Dec.{leb}
 use lib.IntN.{ℤ, pos, negsuc, natAbs}
 use lib.ListN.{length, take, drop, drop-of-length-le, length-append, length-drop}
-use lib.Seq.{drop-cons, length-take-le, take-all, take-length}
+use lib.Seq.{drop-cons, drop-drop, drop-at, length-take-le, take-all, take-at, take-length}
 use lib.Signed.{leZ}
 use mir.Syntax.{w32, w64}
 use mir.Val.{SFits}
@@ -147,3 +147,10 @@ module _ (s ys p : List ℤ) (at : ℕ) where
   put-length h e =
       length-append (take at s) (ys ++ drop lineSize (drop at s))
       ∙ omega (arith, length-take-le at s (omega arith), length-append ys (drop lineSize (drop at s)), length-drop lineSize (drop at s), length-drop at s)
+
+-- ---- ys, a line's numbers, put behind the numbers xs with which a list begins
+pub put-behind : (xs ys d : List ℤ) (at : ℕ) → length xs ≡ at → length ys ≡ lineSize → putAt at ys (xs ++ drop at d) ≡ (xs ++ ys) ++ drop (length (xs ++ ys)) d
+put-behind xs ys d at h e =
+    let end : at + lineSize ≡ length (xs ++ ys) = omega (arith, length-append xs ys) in
+    rw (take-at xs (drop at d) at h, drop-at xs (drop at d) at h)
+    (ap (λ (x : List ℤ). xs ++ (ys ++ x)) (drop-drop lineSize at d ∙ ap (λ (k : ℕ). drop k d) end) ∙ sym (append-assoc xs ys (drop (length (xs ++ ys)) d)))

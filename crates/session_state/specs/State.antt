@@ -52,6 +52,14 @@ refusedIn s = not (eqZ (number s 2) (pos 0))
 abbrev pub numbersIn : List ℤ → List ℤ
 numbersIn s = take (lineSize * countIn s) (drop headSize s)
 
+-- and with those of one line more
+abbrev pub numbersWith : List ℤ → Line → List ℤ
+numbersWith s l = numbersIn s ++ lineNumbers l
+
+-- how many numbers the most lines and one more have
+abbrev pub mostNumbers : ℕ
+mostNumbers = lineSize * maxLines + lineSize
+
 -- ---- whether they begin with a state, as far as the calls have to know it
 unfoldable pub headOk : List ℤ → Bool
 headOk s =

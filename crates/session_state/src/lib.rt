@@ -15,10 +15,12 @@ ghost use lib.ListN.{length, drop};
 ghost use Rattle.integers.specs.Integer.{_⩽_};
 ghost use Rattle.lines.specs.Limits.{lineSize, maxVariables, maxLines};
 ghost use Rattle.lines.specs.Line.{lineNumbers};
-ghost use Rattle.session_state.specs.State.{headSize, sessionRoom, flagOf, headOf, headOk, fitAll, isState, numbersIn, countIn, headed, started, pushed, popped};
+ghost use Rattle.session_state.specs.State.{headSize, sessionRoom, flagOf, headOf, headOk, fitAll, isState, numbersIn, mostNumbers, numbersWith, countIn, headed, started, pushed, popped};
 
 // The numbers before those of the lines: n, how many lines there are, and whether the last answer was a no.
 const HEAD_SIZE: usize = 3;
+// The numbers of the most lines and of one more.
+pub const MOST_NUMBERS: usize = LINE_SIZE * MAX_LINES + LINE_SIZE;
 // The least and the greatest number of 32 bits.
 const LEAST: i64 = i32::MIN as i64;
 
@@ -116,7 +118,7 @@ fn narrow_to(numbers: &[i64], list: &mut [i32])
 }
 
 // Copies the numbers of the lines of a state to the front of a list.
-pub fn copy_lines(state: &[i64], list: &mut [i32])
+fn copy_lines(state: &[i64], list: &mut [i32])
     requires { ⌜ (isState (now state) ≡ true) × (lineSize * maxLines ≤ length (now list)) ⌝ }
     ensures { λ _. ⌜ now (list .exit) ≡ numbersIn (now (state .entry)) ++ drop (lineSize * countIn (now (state .entry))) (now (list .entry)) ⌝ }
 {
@@ -157,12 +159,23 @@ fn widen_to(numbers: &[i32], wide: &mut [i64])
 }
 
 // Writes the numbers of a line to the front of a list.
-pub fn write_line(list: &mut [i32], line: Line)
+fn write_line(list: &mut [i32], line: Line)
     requires { ⌜ lineSize ≤ length (now list) ⌝ }
     ensures { λ _. ⌜ now (list .exit) ≡ lineNumbers line ++ drop lineSize (now (list .entry)) ⌝ }
 {
     let numbers = line_numbers(line);
     copy_to(&numbers, list);
+}
+
+// Copies the numbers of the lines of a state, and those of one line more, to the front of a list.
+pub fn copy_with(state: &[i64], line: Line, list: &mut [i32])
+    requires { ⌜ (isState (now state) ≡ true) × (mostNumbers ≤ length (now list)) ⌝ }
+    ensures { λ _. ⌜ now (list .exit) ≡ numbersWith (now (state .entry)) line ++ drop (length (numbersWith (now (state .entry)) line)) (now (list .entry)) ⌝ }
+{
+    copy_lines(state, list);
+    let head = read_head(state);
+    let at = LINE_SIZE * head.count;
+    write_line(&mut list[at..], line);
 }
 
 // The same in numbers of 64 bits.
