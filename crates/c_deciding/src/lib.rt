@@ -9,7 +9,7 @@ ghost use Rattle.c_codes.specs.Codes.{refusalUnit};
 ghost use Rattle.c_deciding.specs.Calls.{decideCode, DecideReturns};
 
 // The number that an answer on a list is returned as.
-fn decide_code(a: Answer) -> i64
+pub fn decide_code(a: Answer) -> i64
     requires { ⌜ deciding.Below refusalUnit a ⌝ }
     ensures { λ k. ⌜ k ≡ decideCode a ⌝ }
 {

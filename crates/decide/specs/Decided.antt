@@ -38,6 +38,9 @@ abbrev pub unlessRefused : Validity → Answer → Answer
 unlessRefused Valid a = a
 unlessRefused (validity.Refused r) a = Refused r
 
+abbrev pub NotRefused : Answer → Type 0
+NotRefused a = (r : Refusal) → a ≡ Refused r → ⊥
+
 -- buffers are given by their lengths
 unfoldable pub decideAnswer : ℕ → List ℤ → Lengths → Answer
 decideAnswer n L s = unlessRefused (decideValidity n L s) (cond (verdictOf n (linesOf L)) Yes No)

@@ -20,7 +20,7 @@ use Rattle.theory_bounds.specs.Answers.{modelOf, boundsOf, groupsOf}
 use Rattle.decide_identifiers.specs.Identifiers.{identifiersOf, length-identifiers, counts-front}
 use Rattle.decide_buffers.specs.Room.{Lent, modelRoom, boundsRoom, groupsRoom}
 use Rattle.decide.specs.declared.Answer.the-variants.{Yes, No}
-use Rattle.decide.specs.Decided.{unlessRefused, decideAnswer, answerFor, validityFor, OnYes, OnNo}
+use Rattle.decide.specs.Decided.{NotRefused, unlessRefused, decideAnswer, answerFor, validityFor, OnYes, OnNo}
 
 -- The parts that are written: of a refutation, the 3 + p + q numbers that its counts tell.
 abbrev pub modelIn : ℕ → Lent → List ℤ
@@ -43,7 +43,22 @@ abbrev pub identifiersIn : Lent → List ℕ
 identifiersIn a = take (stepsIn (a .refutation)) (a .identifiers)
 
 -- ---- the verdict, by the answer
+pub yes-answers : NotRefused Yes
+yes-answers r e = never (cc)
+
+pub no-answers : NotRefused No
+no-answers r e = never (cc)
+
 module _ (n : ℕ) (L : List ℤ) (b : Lent) where
+  -- what is answered is valid
+  pub answered-valid : NotRefused (answerFor n L b) → validityFor n L b ≡ Valid
+  unfolding decideAnswer
+  answered-valid other = go (validityFor n L b) other
+    where
+      go : (v : Validity) → NotRefused (unlessRefused v (cond (verdictOf n (linesOf L)) Yes No)) → v ≡ Valid
+      go Valid h = refl
+      go (validity.Refused r) h = absurd (h r refl)
+
   pub yes-verdict : answerFor n L b ≡ Yes → verdictOf n (linesOf L) ≡ true
   unfolding decideAnswer
   yes-verdict = go (validityFor n L b) (verdictOf n (linesOf L))

@@ -14,7 +14,6 @@ use Rattle.integers.specs.Sequence.{length-tabulate}
 use Rattle.lines.specs.declared.Refusal.{Refusal}
 use Rattle.lines.specs.declared.Validity.{Validity}
 use Rattle.lines.specs.declared.Validity.the-variants.{Valid}
-use Rattle.lines.specs.declared.Validity.the-variants as validity
 use Rattle.lines.specs.Line.{linesOf}
 use Rattle.lines.specs.Refusal.{validityOf}
 use Rattle.check_answers.specs.declared.CheckAnswer.the-variants as check
@@ -29,8 +28,8 @@ use Rattle.decide_buffers.specs.Room.{Lent, modelRoom, boundsRoom, groupsRoom}
 use Rattle.decide.specs.declared.Answer.{Answer}
 use Rattle.decide_identifiers.specs.Identifiers.{identifiersOf}
 use Rattle.decide.specs.declared.Answer.the-variants.{Yes, No, Refused}
-use Rattle.decide.specs.Parts.{yes-verdict, no-verdict, modelIn, boundsIn, groupsIn, refutationIn, identifiersIn, model-in, bounds-in, groups-in, refutation-in, identifiers-in}
-use Rattle.decide.specs.Decided.{unlessRefused, decideAnswer, cleared, OnYes, OnNo, Leaves, answerFor, Decided, validityFor, decide-ok}
+use Rattle.decide.specs.Parts.{answered-valid, yes-verdict, no-verdict, modelIn, boundsIn, groupsIn, refutationIn, identifiersIn, model-in, bounds-in, groups-in, refutation-in, identifiers-in}
+use Rattle.decide.specs.Decided.{NotRefused, unlessRefused, decideAnswer, cleared, OnYes, OnNo, Leaves, answerFor, Decided, validityFor, decide-ok}
 use Rattle.decide.specs.Places.{Below}
 use Rattle.c_codes.specs.Codes.{noCode, refusalUnit, refusalCode}
 use Rattle.c_codes.specs.Apart.{no-refusal}
@@ -43,17 +42,12 @@ pub record Call (n : ℕ) (L : List ℤ) : Type 0 where
   pub before : Lent
   pub after : Lent
   pub decided : Decided n L answer before after
-  pub not-refused : (r : Refusal) → answer ≡ Refused r → ⊥
+  pub not-refused : NotRefused answer
 
 -- ---- what follows from the call alone
 module _ {n : ℕ} {L : List ℤ} (c : Call n L) where
   all-valid : validityFor n L (c .before) ≡ Valid
-  unfolding decideAnswer
-  all-valid = go (validityFor n L (c .before)) refl
-    where
-      go : (v : Validity) → validityFor n L (c .before) ≡ v → v ≡ Valid
-      go Valid e = refl
-      go (validity.Refused r) e = absurd (c .not-refused r (c .decided .is ∙ ap (λ (v : Validity). unlessRefused v (cond (verdictOf n (linesOf L)) Yes No)) e))
+  all-valid = answered-valid n L (c .before) (λ r e. c .not-refused r (c .decided .is ∙ e))
 
   pub call-valid : validityOf n L ≡ Valid
   call-valid = decide-ok n L (c .before) all-valid .list

@@ -161,7 +161,7 @@ on-no y m k n L b e = subst (λ (a : Answer). Leaves n L a b (leftBy a b (y n L 
 
 -- ---- the inputs
 -- buffers of exactly the room needed, all zeros, but for the refutation buffer, which holds r everywhere
-abbrev roomWith : ℕ → ℕ → Lent
+abbrev pub roomWith : ℕ → ℕ → Lent
 roomWith n r =
     record {
       model = replicate (modelRoom n) (pos 0);
@@ -194,7 +194,7 @@ false-list-no : answerFor 0 falseList (room 0) ≡ No
 unfolding decideAnswer decideValidity roomsValidity validityOf linesValidity coefficientsOk variableOk variablesOk constantOk identifierOk lineAt isFalse verdictOf hasFalse
 false-list-no = refl
 
-list-8-no : answerFor 1 list-8 (roomWith 1 9) ≡ No
+pub list-8-no : answerFor 1 list-8 (roomWith 1 9) ≡ No
 unfolding decideAnswer decideValidity roomsValidity validityOf linesValidity coefficientsOk variableOk variablesOk constantOk identifierOk lineAt isFalse verdictOf hasFalse noNegative
     entry digit stepOf stepsOf relaxRow startRow rounds rowAt best
 list-8-no = refl

@@ -1,4 +1,5 @@
--- What was demanded, in the words of docs/SPECIFICATION.md, each statement proved by citing the rest: of deciding, of the answers and of the checkers.
+-- What was demanded, in the words of docs/SPECIFICATION.md, each statement proved by citing the rest: here of deciding, of the answers and of the checkers, in
+-- Exported.antt of what C gets, in Files.antt of files and the program, in Sessions.antt of sessions.
 --
 -- A reader has to believe the meaning of the words (`Solves`, `Written` in theory_answers/specs/Semantics.antt, `Refutes` and `BreaksAt` in check_soundness/specs),
 -- the table of refusals (`refusalTable` in Refusals.antt, with `lentRooms` in decide_buffers/specs/Room.antt) and what a call is (`Call` in Calls.antt), and
@@ -14,23 +15,16 @@ use mathlib.Core.Logic.{_⊎_, _↔_, Iff·rfl, Iff·trans, Iff·and}
 use mathlib.Core.Bool.{Bool, true, false, cond}
 use mathlib.Core.List.{List, [], _∷_, _++_}
 use Prim.Native.Nat.{ℕ, _+_, _*_, _/_, _%_, _<_, _≤_}
-use native.Mathlib.Omega.{arith}
-use lib.IntN.{ℤ, pos, negℤ, natAbs}
-use lib.ListN.{length, drop, getD, take}
-use Rattle.integers.specs.Integer.{_⩽_, _⋖_}
+use lib.IntN.{ℤ, pos, natAbs}
+use lib.ListN.{length, drop, getD}
+use Rattle.integers.specs.Integer.{_⩽_}
 use Rattle.lines.specs.declared.Refusal.{Refusal}
 use Rattle.lines.specs.declared.Validity.the-variants.{Valid}
-use Rattle.lines.specs.Limits.{lineSize, maxRefutation, maxVariables, maxIdentifier}
-use Rattle.lines.specs.Line.{Assignment, Solves, Solvable, SameSolutions, lineNumbers, lineAt, lineCount, linesOf, assignmentOf, isFalse, number}
-use Rattle.lines.specs.Refusal.{validityOf, numberOf, placeOf}
+use Rattle.lines.specs.Limits.{lineSize, maxRefutation, maxIdentifier}
+use Rattle.lines.specs.Line.{Assignment, Solves, Solvable, SameSolutions, lineAt, lineCount, linesOf, assignmentOf, isFalse}
+use Rattle.lines.specs.Refusal.{validityOf}
 use Rattle.lines.specs.Bare.{OnlyIdentifiers, lines-same}
 use Rattle.lines.specs.Valid.{LineOk, valid-list, shorter-valid}
-use Rattle.little_endian.specs.Bytes.{int32s, nat32s, AreBytes}
-use mir.Syntax.{w32, w64}
-use mir.Val.{SFits}
-use Rattle.lines.specs.Fits.{numbers-fit}
-use Rattle.little_endian.specs.Writing.{bytesOf, int32Bytes, nat32Bytes, int64Bytes}
-use Rattle.little_endian.specs.Back.{int32s-back, int32Bytes-small, nat32Bytes-small, int64Bytes-small}
 use Rattle.check_answers.specs.declared.CheckAnswer.the-variants.{Yes, No}
 use Rattle.check_model.specs.Model.{modelAnswer}
 use Rattle.check_model.specs.Meaning.{FirstFails, yes-exactly, no-exactly}
@@ -61,44 +55,15 @@ use Rattle.theory_answers.specs.Same.{same-verdict, same-written}
 use Rattle.decide_buffers.specs.Room.{Lent, modelRoom, boundsRoom, groupsRoom}
 use Rattle.decide.specs.declared.Answer.{Answer}
 use Rattle.decide.specs.declared.Answer.the-variants as decide
-use Rattle.decide.specs.Decided.{cleared, answerFor, Decided, DecideOk}
+use Rattle.decide.specs.Decided.{cleared, Decided, DecideOk}
 use Rattle.decide_identifiers.specs.Identifiers.{stepAt, identifiersOf, length-identifiers, identifier-whole}
 use Rattle.decide.specs.Parts.{modelIn, boundsIn, groupsIn, refutationIn, identifiersIn, model-in, bounds-in, groups-in, refutation-in, identifiers-in}
 use Rattle.demands.specs.Cases.{AllHold, cases, all-cases}
 use Rattle.demands.specs.Exists.{a-call}
 use Rattle.demands.specs.Shown.{model-accepted}
-use Rattle.demands.specs.Calls.{Call, call-valid, call-yes, call-no, verdict-yes, verdict-no, on-yes, on-no, call-written, call-work, beyond-model, beyond-bounds, beyond-groups, Returned, returned-call, returned-unchanged, call-due, call-accepted, call-identifiers, call-answer}
-use Rattle.demands.specs.Refusals.{Asked, deciding, checking-model, listTable, refusalTable, NoneApplies, FirstApplies, IsRefused, returned}
-use Rattle.demands.specs.Refused.{table-refuses, table-valid, table-passes, list-valid, code-refused}
-use Rattle.file_list.specs.declared.Listed.{Listed}
-use Rattle.file_list.specs.declared.ReadAnswer.{ReadAnswer}
-use Rattle.file_list.specs.declared.ReadAnswer.the-variants.{Read}
-use Rattle.file_list.specs.declared.WriteAnswer.{WriteAnswer}
-use Rattle.file_list.specs.declared.WriteAnswer.the-variants as write
-use Rattle.file_records.specs.Table.{bodySize}
-use Rattle.file_list.specs.File.{fileOf, fileList, lineRecords, lineBody}
-use Rattle.file_list.specs.Read.{readAnswer, ReadDone}
-use Rattle.file_list.specs.Write.{WriteDone}
-use Rattle.file_list.specs.Bytes.{file-bytes}
-use Rattle.file_list.specs.Back.{OneFile, read-written, list-in-file, written-read, one-file, one-list}
-use Rattle.c_codes.specs.Codes.{refusalUnit, refusalCode, noCode}
-use Rattle.c_codes.specs.CheckCode.{checkCode, answers-apart}
-use Rattle.c_codes.specs.ListBytes.{numberBytes, bytesValidity}
-use Rattle.c_checking.specs.Calls.{modelOfBytes, refutationOfBytes, checkModel, checkRefutation}
-use Rattle.c_checking.specs.Laws.{model-bytes-below, refutation-bytes-below}
-use Rattle.c_checking.specs.Returned.{BytesBreakAt, returned-yes, returned-no}
-use Rattle.c_checking.specs.Bytes.{list-in-bytes, refutation-in-bytes, model-in-bytes}
-use Rattle.c_pieces.specs.Pieces.{refutationBegin, refutationEnd, takeEach, each-answered}
-use Rattle.c_deciding.specs.Calls.{decideCode, DecideReturns}
-use Rattle.c_deciding.specs.Laws.{decision-below, decisions-apart}
-use Rattle.c_files.specs.Files.{ReadReturns, WriteReturns, returned-read-back, returned-written-again}
-use Rattle.demands.specs.Accepted.{accepted-words, accepted-refutation, accepted-model}
-use Rattle.demands.specs.Pieces.{each-checked}
-use Rattle.file_list.specs.Calls.{write-then-read, read-then-write}
-use Rattle.c_files.specs.declared.FileRead.{FileRead}
-use Rattle.c_files.specs.declared.FileWritten.{FileWritten}
-use Rattle.file_report.specs.Report.{Reported}
-use Rattle.file_report.specs.Input.{inputSize, front-enough}
+use Rattle.demands.specs.Calls.{Call, call-valid, call-yes, call-no, verdict-yes, verdict-no, on-yes, on-no, call-written, call-work, beyond-model, beyond-bounds, beyond-groups, call-due, call-identifiers, call-answer}
+use Rattle.demands.specs.Refusals.{Asked, deciding, checking-model, listTable, refusalTable, NoneApplies, FirstApplies, IsRefused}
+use Rattle.demands.specs.Refused.{table-refuses, table-valid, table-passes, list-valid}
 
 -- A list is valid for its n if no refusal of the list itself applies.
 abbrev pub ValidFor : ℕ → List ℤ → Type 0
@@ -452,175 +417,3 @@ model-yes n L m = Iff·trans (yes-exactly n L m) (Iff·and (table-valid (checkin
 -- No: with the first line that fails, in list order.
 pub model-no : (n : ℕ) (L m : List ℤ) (k : ℕ) → (modelAnswer n L m ≡ No k) ↔ (NoneApplies (refusalTable (checking-model n L m)) × FirstFails L (assignmentOf m) k)
 model-no n L m k = Iff·trans (no-exactly n L m k) (Iff·and (table-valid (checking-model n L m)) Iff·rfl)
-
--- ---- the exported functions
-
--- A returned 0 or 1,000,000 is a call that was not refused, so that demands 1 to 3 hold of it: 0 is its yes and 1,000,000 its no, and what the buffers
--- held before and after is what the call found and left.
-pub returned-is-a-call : (n : ℕ) (L : List ℤ) (r : ℤ) (b a : Lent) → DecideReturns n L r b a → pos 0 ⩽ r → Returned n L r b a
-returned-is-a-call n L r b a d = returned-call d
-
--- A returned refusal leaves every lent buffer as it was.
-pub returned-refusal-changes-nothing : (n : ℕ) (L : List ℤ) (r : ℤ) (b a : Lent) → DecideReturns n L r b a → r ⋖ pos 0 → a ≡ b
-returned-refusal-changes-nothing n L r b a d = returned-unchanged d
-
--- After a no, the refutation that was left is accepted.
-pub left-refutation-is-accepted : (n : ℕ) (L : List ℤ) (b a : Lent) → DecideReturns n L (pos noCode) b a → Accepted n L (refutationIn a)
-left-refutation-is-accepted n L b a d =
-    let c = returned-call d (omega arith) in
-    subst (λ (x : Lent). Accepted n L (refutationIn x)) (c .after) (call-accepted (c .call) (c .no .1 refl))
-
--- So the exported check of the list and of that refutation, each as its bytes, returns 0.
-pub returned-no-is-shown : (n : ℕ) (L : List ℤ) (b a : Lent) → DecideReturns n L (pos noCode) b a → checkRefutation n (int32Bytes L) (nat32Bytes (refutationIn a)) ≡ pos 0
-returned-no-is-shown n L b a d = accepted-refutation n L (refutationIn a) (left-refutation-is-accepted n L b a d)
-
--- So do the exported calls that take its numbers one by one.
-pub returned-no-is-shown-in-pieces : (n : ℕ) (L : List ℤ) (b a : Lent) → DecideReturns n L (pos noCode) b a → refutationEnd n L (takeEach L refutationBegin (refutationIn a)) ≡ pos 0
-returned-no-is-shown-in-pieces n L b a d =
-    let s = left-refutation-is-accepted n L b a d in
-    each-answered n L (refutationIn a) (accepted-words n L (refutationIn a) s) ∙ ap checkCode s
-
--- After a yes, the model checker says yes to the model that was left.
-pub left-model-is-accepted : (n : ℕ) (L : List ℤ) (b a : Lent) → DecideReturns n L (pos 0) b a → modelAnswer n L (modelIn n a) ≡ Yes
-left-model-is-accepted n L b a d =
-    let c = returned-call d (omega arith) in
-    subst (λ (x : Lent). modelAnswer n L (modelIn n x) ≡ Yes) (c .after) (right-answer n L (c .call) .yes-is-shown (c .yes .1 refl))
-
--- So the exported check of the list and of that model, each as its bytes, returns 0.
-pub returned-yes-is-shown : (n : ℕ) (L : List ℤ) (b a : Lent) → DecideReturns n L (pos 0) b a → checkModel n (int32Bytes L) (int64Bytes (modelIn n a)) ≡ pos 0
-returned-yes-is-shown n L b a d = accepted-model n L (modelIn n a) (left-model-is-accepted n L b a d)
-
--- Bytes change no answer: on the bytes of numbers of 32 bits, of a model's values 64, the exported checks answer as the checkers do on the numbers.
-pub list-bytes-as-numbers : (n : ℕ) (L : List ℤ) → ((i : ℕ) → SFits w32 (number L i)) → bytesValidity n (int32Bytes L) ≡ validityOf n L
-list-bytes-as-numbers n L f = list-in-bytes n L f
-
-pub refutation-bytes-as-numbers : (n : ℕ) (L : List ℤ) (R : List ℕ) → ((i : ℕ) → SFits w32 (number L i)) → Words R
-    → refutationOfBytes n (int32Bytes L) (nat32Bytes R) ≡ refutationAnswer n L R
-refutation-bytes-as-numbers n L R f = refutation-in-bytes n L f R
-
-pub model-bytes-as-numbers : (n : ℕ) (L m : List ℤ) → ((i : ℕ) → SFits w32 (number L i)) → ((i : ℕ) → SFits w64 (assignmentOf m i))
-    → modelOfBytes n (int32Bytes L) (int64Bytes m) ≡ modelAnswer n L m
-model-bytes-as-numbers n L m f = model-in-bytes n L f m
-
--- A valid list has such numbers: its bytes are those of a valid list, and it is read from them.
-pub valid-list-in-bytes : (n : ℕ) (L : List ℤ) → ValidFor n L → (bytesValidity n (int32Bytes L) ≡ Valid) × (int32s (int32Bytes L) ≡ L)
-valid-list-in-bytes n L v = let f = numbers-fit n L v in (list-in-bytes n L f ∙ v, int32s-back L f)
-
--- The bytes of numbers are bytes: each is below 256.
-pub bytes-are-bytes : (L m : List ℤ) (R : List ℕ) → AreBytes (int32Bytes L) × AreBytes (nat32Bytes R) × AreBytes (int64Bytes m)
-bytes-are-bytes L m R = (int32Bytes-small L, nat32Bytes-small R, int64Bytes-small m)
-
--- The number returned is 0 exactly if the bytes are those of a valid list and of a refutation that is accepted against it.
-pub returned-yes-is-accepted : (n : ℕ) (b r : List ℕ) → (checkRefutation n b r ≡ pos 0)
-    ↔ ((bytesValidity n b ≡ Valid) × (length r ≤ numberBytes * maxRefutation) × (length r % numberBytes ≡ 0) × Accepted n (int32s b) (nat32s r))
-returned-yes-is-accepted n b r = returned-yes n b r
-
--- So a returned yes is never against a list that has a solution.
-pub returned-yes-not-against-a-solution : (n : ℕ) (b r : List ℕ) → checkRefutation n b r ≡ pos 0 → Solvable (linesOf (int32s b)) → ⊥
-returned-yes-not-against-a-solution n b r e = nothing-against-a-solution n (int32s b) (nat32s r) (returned-yes n b r .0 e .3)
-
--- The number is 1,000,000 + k exactly if the list's bytes are those of a valid list, there are no more bytes than the longest refutation has, and they
--- break at k: they are no multiple of four and k is 0, or they are one and their numbers break at k.
-pub returned-no-says-where : (n : ℕ) (b r : List ℕ) (k : ℕ) → (checkRefutation n b r ≡ pos (noCode + k))
-    ↔ ((bytesValidity n b ≡ Valid) × (length r ≤ numberBytes * maxRefutation) × BytesBreakAt b r k)
-returned-no-says-where n b r k = returned-no n b r k
-
--- A refusal is returned as minus its number times 100,000, and its place: exactly where it is the first of the table that applies.
-pub refusals-returned : (a : Asked) (r : Refusal) → placeOf r < refusalUnit
-    → (returned a ≡ negℤ (pos (numberOf r * refusalUnit + placeOf r))) ↔ FirstApplies (refusalTable a) r
-unfolding refusalCode
-refusals-returned a r h = Iff·trans (code-refused a r h) (table-refuses a r)
-
--- A refutation may be handed over number by number, with what C keeps between two calls: the end returns the answer on the whole of it.
-pub pieces-return-the-answer : (n : ℕ) (L : List ℤ) (R : List ℕ) → Words R → refutationEnd n L (takeEach L refutationBegin R) ≡ checkCode (refutationAnswer n L R)
-pieces-return-the-answer n L R w = each-answered n L R w
-
--- That is the number which the check of its bytes returns, where these and the list's are whole numbers.
-pub pieces-return-the-check : (n : ℕ) (b r : List ℕ) → AreBytes r → length b % numberBytes ≡ 0 → length r % numberBytes ≡ 0
-    → refutationEnd n (int32s b) (takeEach (int32s b) refutationBegin (nat32s r)) ≡ checkRefutation n b r
-pieces-return-the-check n b r h v w = each-checked n b r v w h
-
--- No two answers are returned as one number.
-pub model-answers-apart : (n k : ℕ) (b c m l : List ℕ) → checkModel n b m ≡ checkModel k c l → modelOfBytes n b m ≡ modelOfBytes k c l
-model-answers-apart n k b c m l = answers-apart _ _ (model-bytes-below n b m) (model-bytes-below k c l)
-
-pub refutation-answers-apart : (n k : ℕ) (b c r s : List ℕ) → checkRefutation n b r ≡ checkRefutation k c s → refutationOfBytes n b r ≡ refutationOfBytes k c s
-refutation-answers-apart n k b c r s = answers-apart _ _ (refutation-bytes-below n b r) (refutation-bytes-below k c s)
-
-pub decisions-returned-apart : (n k : ℕ) (L M : List ℤ) (b c : Lent) → decideCode (answerFor n L b) ≡ decideCode (answerFor k M c) → answerFor n L b ≡ answerFor k M c
-decisions-returned-apart n k L M b c = decisions-apart _ _ (decision-below n L b) (decision-below k M c)
-
--- ---- files
-
--- Reading what was written gives n and the list back.
-pub written-is-read-back : (n : ℕ) (L : List ℤ) → ValidFor n L → (most room : ℕ) → n ≤ most → length L ≤ room
-    → (readAnswer most (fileOf n L) room ≡ Read (record { n = n; lines = lineCount L })) × (fileList (fileOf n L) (lineCount L) ≡ L)
-written-is-read-back n L v most room h k = (written-read n L v most room h k, list-in-file n L v)
-
--- Whatever is read is the list of valid lines whose one file these bytes are.
-pub read-is-written-again : (most : ℕ) (b : List ℕ) (room : ℕ) (z : Listed) → AreBytes b → readAnswer most b room ≡ Read z
-    → ValidFor (z .n) (fileList b (z .lines)) × (fileOf (z .n) (fileList b (z .lines)) ≡ b)
-read-is-written-again most b room z h e = read-written most b room z h e
-
--- So every slice of bytes is refused or is the one file of its list, and two lists never have one file.
-pub refused-or-one-file : (most : ℕ) (b : List ℕ) (room : ℕ) → AreBytes b → OneFile most b room
-refused-or-one-file most b room h = one-file most b room h
-
-pub one-list-of-a-file : (n m : ℕ) (L M : List ℤ) → ValidFor n L → ValidFor m M → fileOf n L ≡ fileOf m M → (n ≡ m) × (L ≡ M)
-one-list-of-a-file n m L M v w e = one-list n m L M v w e
-
--- So every identifier is read back, all its bits, and lists that differ in one have different files.
-pub identifiers-read-back : (n : ℕ) (L : List ℤ) → ValidFor n L → (k : ℕ) → lineAt (fileList (fileOf n L) (lineCount L)) k .identifier ≡ lineAt L k .identifier
-identifiers-read-back n L v k = ap (λ (M : List ℤ). lineAt M k .identifier) (list-in-file n L v)
-
-pub other-identifier-other-file : (n : ℕ) (L M : List ℤ) → ValidFor n L → ValidFor n M → (k : ℕ) → (lineAt L k .identifier ≡ lineAt M k .identifier → ⊥) → fileOf n L ≡ fileOf n M → ⊥
-other-identifier-other-file n L M v w k h e = h (ap (λ (N : List ℤ). lineAt N k .identifier) (one-list n n L M v w e .1))
-
--- What a call of the writer wrote, a call of the reader reads back into any buffer with room: n and the list, and what lies beyond it is untouched.
-pub written-then-read : (n : ℕ) (L : List ℤ) (k : ℕ) (b a : List ℕ) (answer : ReadAnswer) (before after : List ℤ)
-    → WriteDone n L (write.Written k) b a → ReadDone maxVariables (take k a) answer before after → length L ≤ length before
-    → (answer ≡ Read (record { n = n; lines = lineCount L })) × (after ≡ L ++ drop (length L) before)
-written-then-read = write-then-read
-
--- What a call of the reader read, a call of the writer writes again as the same bytes.
-pub read-then-written : (most : ℕ) (bytes : List ℕ) (z : Listed) (before after : List ℤ) (answer : WriteAnswer) (b a : List ℕ)
-    → AreBytes bytes → ReadDone most bytes (Read z) before after → WriteDone (z .n) (take (lineSize * z .lines) after) answer b a → length bytes ≤ length b
-    → (answer ≡ write.Written (length bytes)) × (a ≡ bytes ++ drop (length bytes) b)
-read-then-written = read-then-write
-
--- The same of what the exported functions return, where the refusal that they return is 0.
-pub returned-file-is-read-back : (n : ℕ) (L : List ℤ) (w : FileWritten) (b a : List ℕ) (r : FileRead) (before after : List ℤ)
-    → WriteReturns n L w b a → w .refusal ≡ 0 → ReadReturns (take (w .bytes) a) r before after → length L ≤ length before
-    → (r ≡ record { refusal = 0; place = 0; n = n; lines = lineCount L }) × (after ≡ L ++ drop (length L) before)
-returned-file-is-read-back = returned-read-back
-
-pub returned-list-is-written-again : (bytes : List ℕ) (r : FileRead) (before after : List ℤ) (w : FileWritten) (b a : List ℕ)
-    → AreBytes bytes → ReadReturns bytes r before after → r .refusal ≡ 0 → WriteReturns (r .n) (take (lineSize * r .lines) after) w b a → length bytes ≤ length b
-    → (w ≡ record { refusal = 0; place = 0; bytes = length bytes }) × (a ≡ bytes ++ drop (length bytes) b)
-returned-list-is-written-again = returned-written-again
-
--- A file is bytes: each is below 256.
-pub a-file-is-bytes : (n : ℕ) (L : List ℤ) → AreBytes (fileOf n L)
-a-file-is-bytes n L = file-bytes n L
-
--- One variable with x ≤ 5 is, whole, these 36 bytes.
-pub the-file-of-x-at-most-5 : fileOf 1 (pos 1 ∷ pos 0 ∷ pos 0 ∷ pos 0 ∷ pos 5 ∷ pos 0 ∷ [])
-    ≡ 4 ∷ 0 ∷ 1 ∷ 0 ∷ 1 ∷ 0 ∷ 0 ∷ 0
-    ∷ 20 ∷ 0 ∷ 2 ∷ 0 ∷ 1 ∷ 0 ∷ 0 ∷ 0 ∷ 0 ∷ 0 ∷ 0 ∷ 0 ∷ 0 ∷ 0 ∷ 0 ∷ 0 ∷ 0 ∷ 0 ∷ 0 ∷ 0 ∷ 5 ∷ 0 ∷ 0 ∷ 0
-    ∷ 0 ∷ 0 ∷ 3 ∷ 0 ∷ []
-unfolding fileOf lineRecords lineBody lineNumbers bytesOf lineAt bodySize
-the-file-of-x-at-most-5 = refl
-
--- And of a message with identifier 0x18DA10F1 these 40.
-pub the-file-with-an-identifier : fileOf 1 (pos 1 ∷ pos 0 ∷ pos 0 ∷ pos 0 ∷ pos 5 ∷ pos 416_944_369 ∷ [])
-    ≡ 4 ∷ 0 ∷ 1 ∷ 0 ∷ 1 ∷ 0 ∷ 0 ∷ 0
-    ∷ 24 ∷ 0 ∷ 4 ∷ 0 ∷ 1 ∷ 0 ∷ 0 ∷ 0 ∷ 0 ∷ 0 ∷ 0 ∷ 0 ∷ 0 ∷ 0 ∷ 0 ∷ 0 ∷ 0 ∷ 0 ∷ 0 ∷ 0 ∷ 5 ∷ 0 ∷ 0 ∷ 0 ∷ 241 ∷ 16 ∷ 218 ∷ 24
-    ∷ 0 ∷ 0 ∷ 3 ∷ 0 ∷ []
-unfolding fileOf lineRecords lineBody lineNumbers bytesOf lineAt bodySize
-the-file-with-an-identifier = refl
-
--- ---- the program
-
--- It judges every input as if it had read it whole: what it prints depends on no more than the first `inputSize` bytes.
-pub reads-enough : (k : ℕ) → inputSize ≤ k → (b T : List ℕ) → Reported (take k b) T ↔ Reported b T
-reads-enough k h b T = front-enough k h b T

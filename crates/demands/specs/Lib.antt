@@ -9,3 +9,7 @@ pub mod Shown
 pub mod Accepted
 pub mod Pieces
 pub mod Demands
+pub mod Exported
+pub mod Files
+pub mod Sessions
+pub mod SessionVersions

@@ -3,7 +3,7 @@
 -- `Gives rows v` reads a computed validity along the rows: v is the refusal of the first row that applies, or valid if none does. A test that tells
 -- whether a condition holds makes one row, and one validity or else another makes the rows of both.
 use mathlib.Core.Path.{_≡_, refl, ap, subst}
-use mathlib.Core.Logic.{_↔_, _⊎_, inl, inr, ⊎-elim, Iff·trans}
+use mathlib.Core.Logic.{_↔_, _⊎_, inl, inr, ⊎-elim, Iff·rfl, Iff·trans}
 use mathlib.Core.Bool.{Bool, true, false, not, cond, _&&_, false≢true}
 use mathlib.Core.List.{List, [], _∷_, _++_}
 use Prim.Native.Nat.{ℕ, zero, suc, _+_, _*_, _/_, _%_, _<_}
@@ -52,20 +52,20 @@ use Rattle.c_deciding.specs.Laws.{decision-below, decisions-apart}
 use Rattle.demands.specs.Refusals.{Asked, deciding, checking-model, checking-refutation, checking-model-bytes, checking-refutation-bytes, IsCoefficient, WrongVariable, WrongIdentifier, Outside, Row, _when_, rowsFrom, lineTable, linesTable, listTable, bytesTable, valuesTable, roomsTable, refusalTable, NoneApplies, FirstApplies, IsRefused, returned}
 
 -- ---- a validity, read along the rows
-data Gives : List Row → Validity → Type 1 where
+pub data Gives : List Row → Validity → Type 1 where
   none : Gives [] Valid
   this : {r : Refusal} {C : Type 0} {rows : List Row} → C → Gives (r when C ∷ rows) (Refused r)
   later : {row : Row} {rows : List Row} {v : Validity} → (row .condition → ⊥) → Gives rows v → Gives (row ∷ rows) v
 
 -- the test is passed exactly if the condition holds
-abbrev Tells : Bool → Type 0 → Type 0
+abbrev pub Tells : Bool → Type 0 → Type 0
 Tells t C = (t ≡ true) ↔ C
 
-gives-row : {r : Refusal} {t : Bool} {C : Type 0} {rows : List Row} {v : Validity} → Tells t C → Gives rows v → Gives (r when C ∷ rows) (refuseIf t r orElse v)
+pub gives-row : {r : Refusal} {t : Bool} {C : Type 0} {rows : List Row} {v : Validity} → Tells t C → Gives rows v → Gives (r when C ∷ rows) (refuseIf t r orElse v)
 gives-row {t = true} h g = this (h .0 refl)
 gives-row {t = false} h g = later (λ c. false≢true (h .1 c)) g
 
-gives-last : {r : Refusal} {t : Bool} {C : Type 0} → Tells t C → Gives (r when C ∷ []) (refuseIf t r)
+pub gives-last : {r : Refusal} {t : Bool} {C : Type 0} → Tells t C → Gives (r when C ∷ []) (refuseIf t r)
 gives-last {t = true} h = this (h .0 refl)
 gives-last {t = false} h = later (λ c. false≢true (h .1 c)) none
 
@@ -75,7 +75,7 @@ gives-past none h = h tt
 gives-past (this c) h = this c
 gives-past (later n g) h = later n (gives-past g (λ k. h (n, k)))
 
-gives-or : {rows rest : List Row} {u v : Validity} → Gives rows u → Gives rest v → Gives (rows ++ rest) (u orElse v)
+pub gives-or : {rows rest : List Row} {u v : Validity} → Gives rows u → Gives rest v → Gives (rows ++ rest) (u orElse v)
 gives-or g h = gives-past g (λ _. h)
 
 -- rows that do not apply may be left out
@@ -110,7 +110,7 @@ row-first [] r C after (later f g) h n = absurd (f h)
 row-first (row ∷ rows) r C after (this c) h n = absurd (n .0 c)
 row-first (row ∷ rows) r C after (later f g) h n = row-first rows r C after g h (n .1)
 
-gives-refused : {rows : List Row} {v : Validity} → Gives rows v → (r : Refusal) → (v ≡ Refused r) ↔ FirstApplies rows r
+pub gives-refused : {rows : List Row} {v : Validity} → Gives rows v → (r : Refusal) → (v ≡ Refused r) ↔ FirstApplies rows r
 gives-refused {rows} {v} g r = (
   first-row g r,
   (λ f. row-first (f .before) r (f .condition) (f .after) (subst (λ (t : List Row). Gives t v) (f .stands) g) (f .applies) (f .none-before)),
@@ -140,7 +140,10 @@ either-test : (s t : Bool) {A B : Type 0} → Tells (not s) A → Tells (not t) 
 either-test true t a b = ((λ e. inr (b .0 e)), (λ w. ⊎-elim (λ x. absurd (false≢true (a .1 x))) (b .1) w))
 either-test false t a b = ((λ e. inl (a .0 refl)), (λ w. refl))
 
-less-test : (a b : ℕ) → Tells (ltb a b) (a < b)
+pub true-test : (t : Bool) → Tells t (t ≡ true)
+true-test t = Iff·rfl
+
+pub less-test : (a b : ℕ) → Tells (ltb a b) (a < b)
 less-test a b = (ltb-true a b, lt-ltb a b)
 
 unequal-test : (a b : ℕ) → Tells (not (eqb a b)) (a ≡ b → ⊥)
@@ -212,7 +215,7 @@ rows-give n k l (r ∷ rs) [] h = absurd h
 rows-give n k l (r ∷ rs) (row ∷ rows) h = rw (h .0) (gives-row (h .1) (rows-give n k l rs rows (h .2)))
 
 -- ---- the rows of a line, of a list, and of what is asked
-line-gives : (n k : ℕ) (l : Line) → Gives (lineTable n k l) (lineValidity n k l)
+pub line-gives : (n k : ℕ) (l : Line) → Gives (lineTable n k l) (lineValidity n k l)
 unfolding Rows
 line-gives n k l = rows-give n k l lineRules (lineTable n k l) (search (coefficients-test l, variables-test n l, constant-test l, identifier-test l))
 
@@ -231,7 +234,7 @@ values-give m = go (length m) 0 (omega arith)
     go zero k e = rw (values-past m k (omega arith)) none
     go (suc count) k e = rw (values-from m k (omega arith)) (gives-row (outside-test maxValue (number m k)) (go count (k + 1) (omega arith)))
 
-rooms-give : (rs : List Room) (n : ℕ) (s : Lengths) → Gives (roomsTable rs n s) (firstShort rs n s)
+pub rooms-give : (rs : List Room) (n : ℕ) (s : Lengths) → Gives (roomsTable rs n s) (firstShort rs n s)
 rooms-give [] n s = none
 rooms-give (r ∷ rs) n s = gives-row (less-test (r .size s) (r .room n)) (rooms-give rs n s)
 
@@ -292,7 +295,7 @@ table-gives (checking-refutation-bytes n b R) =
 
 -- ---- the answers
 -- an answer is refused exactly as its validity is
-decision-refused : (n : ℕ) (L : List ℤ) (lent : Lent) (r : Refusal) → (answerFor n L lent ≡ decide.Refused r) ↔ (validityFor n L lent ≡ Refused r)
+pub decision-refused : (n : ℕ) (L : List ℤ) (lent : Lent) (r : Refusal) → (answerFor n L lent ≡ decide.Refused r) ↔ (validityFor n L lent ≡ Refused r)
 unfolding decideAnswer
 decision-refused n L lent r = (fore (validityFor n L lent) (verdictOf n (linesOf L)), (λ e. rw e))
   where

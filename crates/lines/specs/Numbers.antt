@@ -7,7 +7,7 @@ use borrow.Author.Tests.{ltb-true}
 use lib.Dec.{eqb, ltb}
 use Rattle.integers.specs.Laws.{and-true}
 use Rattle.lines.specs.declared.Refusal.{Refusal}
-use Rattle.lines.specs.declared.Refusal.the-variants.{TooManyVariables, BrokenLength, TooManyLines, BadCoefficient, BadVariable, BadConstant, ShortOutput, ShortWorkArea, WrongModelLength, BadValue, LongRefutation, BadIdentifier}
+use Rattle.lines.specs.declared.Refusal.the-variants.{TooManyVariables, BrokenLength, TooManyLines, BadCoefficient, BadVariable, BadConstant, ShortOutput, ShortWorkArea, WrongModelLength, BadValue, LongRefutation, BadIdentifier, AfterNo, NoLines}
 use Rattle.lines.specs.Refusal.{numberOf, placeOf}
 
 -- every refusal, at place k
@@ -25,6 +25,8 @@ allAt k =
     ∷ BadValue k
     ∷ LongRefutation
     ∷ BadIdentifier k
+    ∷ AfterNo
+    ∷ NoLines
     ∷ []
 
 -- the first of some that has this number
@@ -52,6 +54,8 @@ known WrongModelLength = (refl, refl)
 known (BadValue k) = (refl, refl)
 known LongRefutation = (refl, refl)
 known (BadIdentifier k) = (refl, refl)
+known AfterNo = (refl, refl)
+known NoLines = (refl, refl)
 
 pub number-some : (r : Refusal) → 0 < numberOf r
 number-some r = ltb-true _ _ (and-true (ltb 0 (numberOf r)) (ltb (numberOf r) 100) (known r .1) .0)

@@ -17,6 +17,7 @@ ghost use Rattle.integers.specs.Integer.{isBetween};
 
 // One line: a·x + b·y <= d. x and y are the numbers of variables (the field's term: a UTVPI constraint). The identifier is that of the message
 // which the line came from.
+#[repr(C)]
 pub struct Line {
     pub a: i32,
     pub x: i32,
@@ -40,6 +41,8 @@ pub enum Refusal {
     BadValue(usize),
     LongRefutation,
     BadIdentifier(usize),
+    AfterNo,
+    NoLines,
 }
 
 // Whether something is refused, and by what.
@@ -78,6 +81,8 @@ pub fn number_and_place(r: Refusal) -> Numbered
         Refusal::BadValue(k) => numbered_at(10, k),
         Refusal::LongRefutation => numbered_at(11, 0),
         Refusal::BadIdentifier(k) => numbered_at(13, k),
+        Refusal::AfterNo => numbered_at(30, 0),
+        Refusal::NoLines => numbered_at(31, 0),
     }
 }
 

@@ -3,12 +3,10 @@
 use decide::Answer;
 use decide::decide;
 use lines::Line;
-use lines::Numbered;
 use lines::Refusal;
+use lines::Validity;
 use lines::limits::LINE_SIZE;
 use lines::limits::MAX_VARIABLES;
-use lines::number_and_place;
-use lines::numbered_at;
 use session_state::MOST_NUMBERS;
 use session_state::begin_state;
 use session_state::copy_with;
@@ -21,54 +19,23 @@ ghost use mathlib.Core.Path.{_≡_};
 ghost use mathlib.Core.Bool.{true};
 ghost use Rattle.session_state.specs.State.{variablesIn, numbersWith, isState};
 ghost use Rattle.decide.specs.Decided.{Decided};
-ghost use Rattle.session.specs.Promise.{sessionNumber, sessionPlace, Starts, Adds, Withdraws};
+ghost use Rattle.session.specs.Promise.{Starts, Adds, Withdraws};
 
 // The place of the state among the buffers that may be too short.
 const STATE_PLACE: usize = 6;
 
-// Why a call is refused: the last answer was a no, there is no line, or a refusal of the specification.
-pub enum SessionRefusal {
-    AfterNo,
-    NoLines,
-    Listed(Refusal),
-}
-
-// What an added line is answered.
-pub enum Added {
-    Yes,
-    No,
-    Refused(SessionRefusal),
-}
-
-// What a start or a withdrawal comes to.
-pub enum Written {
-    Done,
-    Refused(SessionRefusal),
-}
-
-// The number and the place of each refusal.
-pub fn session_number_and_place(r: SessionRefusal) -> Numbered
-    ensures { λ s. ⌜ (s .number ≡ sessionNumber r) × (s .place ≡ sessionPlace r) ⌝ }
-{
-    match r {
-        SessionRefusal::AfterNo => numbered_at(30, 0),
-        SessionRefusal::NoLines => numbered_at(31, 0),
-        SessionRefusal::Listed(r) => number_and_place(r),
-    }
-}
-
 // Starts a session of n variables.
-pub fn start(n: usize, state: &mut [i64]) -> Written
+pub fn start(n: usize, state: &mut [i64]) -> Validity
     ensures { λ r. ⌜ Starts n (now (state .entry)) r (now (state .exit)) ⌝ }
 {
     if MAX_VARIABLES < n {
-        return Written::Refused(SessionRefusal::Listed(Refusal::TooManyVariables));
+        return Validity::Refused(Refusal::TooManyVariables);
     }
     if state.len() < session_room(n) {
-        return Written::Refused(SessionRefusal::Listed(Refusal::ShortOutput(STATE_PLACE)));
+        return Validity::Refused(Refusal::ShortOutput(STATE_PLACE));
     }
     begin_state(state, n);
-    Written::Done
+    Validity::Valid
 }
 
 // Decides the lines of a state and one more.
@@ -113,18 +80,18 @@ pub fn add(
     refutation: &mut [u32],
     identifiers: &mut [u32],
     work: &mut [i64],
-) -> Added
+) -> Answer
     ensures { λ r. ⌜ Adds (now (state .entry)) line r
         (record { model = now (model .entry); bounds = now (bounds .entry); groups = now (groups .entry); refutation = now (refutation .entry); identifiers = now (identifiers .entry); work = now (work .entry) })
         (now (state .exit))
         (record { model = now (model .exit); bounds = now (bounds .exit); groups = now (groups .exit); refutation = now (refutation .exit); identifiers = now (identifiers .exit); work = now (work .exit) }) ⌝ }
 {
     if !is_state(state) {
-        return Added::Refused(SessionRefusal::Listed(Refusal::ShortOutput(STATE_PLACE)));
+        return Answer::Refused(Refusal::ShortOutput(STATE_PLACE));
     }
     let head = read_head(state);
     if head.refused {
-        return Added::Refused(SessionRefusal::AfterNo);
+        return Answer::Refused(Refusal::AfterNo);
     }
     let answer = decide_with(
         state,
@@ -139,27 +106,27 @@ pub fn add(
     match answer {
         Answer::Yes => {
             push_line(state, line, false);
-            Added::Yes
+            Answer::Yes
         }
         Answer::No => {
             push_line(state, line, true);
-            Added::No
+            Answer::No
         }
-        Answer::Refused(r) => Added::Refused(SessionRefusal::Listed(r)),
+        Answer::Refused(r) => Answer::Refused(r),
     }
 }
 
 // Withdraws the last line.
-pub fn withdraw(state: &mut [i64]) -> Written
+pub fn withdraw(state: &mut [i64]) -> Validity
     ensures { λ r. ⌜ Withdraws (now (state .entry)) r (now (state .exit)) ⌝ }
 {
     if !is_state(state) {
-        return Written::Refused(SessionRefusal::Listed(Refusal::ShortOutput(STATE_PLACE)));
+        return Validity::Refused(Refusal::ShortOutput(STATE_PLACE));
     }
     let head = read_head(state);
     if head.count == 0 {
-        return Written::Refused(SessionRefusal::NoLines);
+        return Validity::Refused(Refusal::NoLines);
     }
     pop_line(state);
-    Written::Done
+    Validity::Valid
 }

@@ -1,5 +1,5 @@
 -- `session::add` meets its contract: each way out has the tests that led there, and what deciding promised.
-use mathlib.Core.Path.{_≡_, sym, ap, subst, _∙_}
+use mathlib.Core.Path.{_≡_, refl, sym, ap, _∙_}
 use mathlib.Core.Bool.{true, false}
 use mathlib.Core.List.{List}
 use Prim.Native.Nat.{_<_}
@@ -8,14 +8,15 @@ use borrow.Author.Tests.{not-true, not-false}
 use lib.IntN.{ℤ}
 use Rattle.decide.specs.declared.Answer.{Answer}
 use Rattle.decide.specs.declared.Answer.the-variants as decide
-use Rattle.decide.specs.Decided.{Decided}
+use Rattle.decide.specs.Decided.{NotRefused}
+use Rattle.decide.specs.Parts.{yes-answers, no-answers}
 use Rattle.decide_buffers.specs.Room.{Lent}
 use Rattle.lines.specs.declared.Line.{Line}
 use Rattle.lines.specs.Limits.{maxLines}
 use Rattle.session_state.specs.declared.Head.{Head}
 use Rattle.session_state.specs.State.{variablesIn, countIn, refusedIn, numbersWith, isState}
 use Rattle.session_state.specs.Laws.{state-head-ok}
-use Rattle.session.specs.Promise.{no-state, after-no, added-refused, added-yes, added-no, yes-room, no-room}
+use Rattle.session.specs.Promise.{no-state, after-no, decided-adds, answered-room}
 use Rattle.session.proofs.add.Statement.{statement}
 use Rattle.session.proofs.add.Tie as tie
 
@@ -93,19 +94,21 @@ module _ (d : tie.After-decide-with) where
 abbrev decided : tie.After-work → tie.After-decide-with
 decided w = w .before .before .before .before .before .before .before .before .before
 
+-- where it is no refusal there is room for the line
+room : (d : tie.After-decide-with) (x : Answer) → d .decide-with .result ≡ x → NotRefused x → countIn (state (first d)) < maxLines
+room d x e h = let s = first d in answered-room (state s) (line s) (lent s) (is-state d) (λ q z. h q (sym e ∙ d .decide-with .ensures .is ∙ z))
+
 push-line-requires : tie.Need-push-line-requires
 push-line-requires c κs =
     let told = c .before in
     let d = decided (told .before .before) in
-    let s = first d in
-    (is-state d, yes-room (state s) (line s) (lent s) (is-state d) (d .decide-with .ensures) (told .enum-told .given .1))
+    (is-state d, room d decide.Yes (told .enum-told .given .1) yes-answers)
 
 push-line-requires-2 : tie.Need-push-line-requires-2
 push-line-requires-2 c κs =
     let told = c .before in
     let d = decided (told .before .before) in
-    let s = first d in
-    (is-state d, no-room (state s) (line s) (lent s) (is-state d) (d .decide-with .ensures) (told .enum-told2 .given .1))
+    (is-state d, room d decide.No (told .enum-told2 .given .1) no-answers)
 
 returns-3 : tie.Need-returns-3
 returns-3 c =
@@ -113,7 +116,7 @@ returns-3 c =
     let told = pushed .before .before in
     let d = decided (told .before .before) in
     let s = first d in
-    added-yes (state s) (line s) (lent s) (is-state d) (not-refused d) (d .decide-with .ensures) (told .enum-told .given .1) _ (pushed .push-line .ensures)
+    decided-adds (state s) (line s) (lent s) (is-state d) (not-refused d) (d .decide-with .ensures) decide.Yes (told .enum-told .given .1) _ (pushed .push-line .ensures)
 
 returns-4 : tie.Need-returns-4
 returns-4 c =
@@ -121,14 +124,14 @@ returns-4 c =
     let told = pushed .before .before in
     let d = decided (told .before .before) in
     let s = first d in
-    added-no (state s) (line s) (lent s) (is-state d) (not-refused d) (d .decide-with .ensures) (told .enum-told2 .given .1) _ (pushed .push-line2 .ensures)
+    decided-adds (state s) (line s) (lent s) (is-state d) (not-refused d) (d .decide-with .ensures) decide.No (told .enum-told2 .given .1) _ (pushed .push-line2 .ensures)
 
 returns-5 : tie.Need-returns-5
 returns-5 c =
     let known = c .before in
     let d = decided (known .before .before) in
     let s = first d in
-    added-refused (state s) (line s) (lent s) (is-state d) (not-refused d) (d .decide-with .ensures) _ (known .answer .given .1)
+    decided-adds (state s) (line s) (lent s) (is-state d) (not-refused d) (d .decide-with .ensures) _ (known .answer .given .1) _ refl
 
 pub add-spec : {M : Type 1} → statement M
 add-spec =

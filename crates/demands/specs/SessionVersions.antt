@@ -1,0 +1,214 @@
+-- Versions of a session's calls that go wrong in one thing, each a definition, and at a named state what breaks the promise. Beside them the versions that keep
+-- it, so that those break it only by what they do otherwise.
+use mathlib.Core.Path.{_≡_, refl, sym, ap, subst, _∙_}
+use mathlib.Core.Bool.{Bool, true, false}
+use mathlib.Core.List.{List, [], _∷_, _++_}
+use Prim.Native.Nat.{ℕ, _+_, _-_}
+use native.Mathlib.Omega.{arith}
+use lib.IntN.{ℤ, pos, negℤ}
+use lib.ListN.{length, drop, length-replicate}
+use Rattle.integers.specs.Laws.{never}
+use Rattle.integers.specs.Linear.{ints}
+use Rattle.lines.specs.declared.Line.{Line}
+use Rattle.lines.specs.declared.Refusal.{Refusal}
+use Rattle.lines.specs.declared.Refusal.the-variants.{BadCoefficient}
+use Rattle.lines.specs.declared.Validity.{Validity}
+use Rattle.lines.specs.declared.Validity.the-variants as validity
+use Rattle.lines.specs.Limits.{lineSize}
+use Rattle.lines.specs.Line.{number, lineNumbers, numbersOf, lineAt, isFalse}
+use Rattle.lines.specs.Refusal.{coefficientsOk, variableOk, variablesOk, constantOk, identifierOk, linesValidity, validityOf}
+use Rattle.steps.specs.Point.{opposite}
+use Rattle.steps.specs.Table.{entry, digit}
+use Rattle.steps.specs.Step.{stepOf, stepsOf}
+use Rattle.theory_walks.specs.Row.{relaxRow, startRow, rounds, rowAt, best}
+use Rattle.theory_walks.specs.Negative.{noNegative}
+use Rattle.theory_bounds.specs.Verdict.{hasFalse, consistentHalves, verdictOf}
+use Rattle.decide_buffers.specs.Room.{Lent, roomsValidity, decideValidity}
+use Rattle.decide.specs.declared.Answer.{Answer}
+use Rattle.decide.specs.declared.Answer.the-variants as decide
+use Rattle.decide.specs.Decided.{unlessRefused, decideAnswer, answerFor, Leaves}
+use Rattle.session_state.specs.State.{sessionRoom, zeros, behind, stateOf, variablesIn, countIn, refusedIn, numbersWith, lineStart, putAt, headed, pushed}
+use Rattle.session_state.specs.Session.{pushed-is}
+use Rattle.session.specs.Promise.{startAnswer, startState, addValidity, addAnswer, addState, withdrawAnswer, withdrawState, Starts, Adds, Withdraws}
+use Rattle.session.specs.Sequence.{stands, variables, state-validity, all-numbers, add-answer, withdraws-from}
+use Rattle.demands.specs.DecideVersions.{right, right-keeps, roomWith, list-8-no}
+
+-- ---- what a call gives back: a start or a withdrawal its answer and the state, an add the buffers too
+pub record Done : Type 0 where
+  pub answer : Validity
+  pub state : List ℤ
+
+pub record Added : Type 0 where
+  pub answer : Answer
+  pub state : List ℤ
+  pub after : Lent
+
+-- the promises, of any version of the calls
+abbrev pub KeepsStart : (ℕ → List ℤ → Done) → Type 0
+KeepsStart f = (n : ℕ) (s : List ℤ) → Starts n s (f n s .answer) (f n s .state)
+
+abbrev pub KeepsAdd : (List ℤ → Line → Lent → Added) → Type 0
+KeepsAdd f = (s : List ℤ) (l : Line) (b : Lent) → Adds s l (f s l b .answer) b (f s l b .state) (f s l b .after)
+
+abbrev pub KeepsWithdraw : (List ℤ → Done) → Type 0
+KeepsWithdraw f = (s : List ℤ) → Withdraws s (f s .answer) (f s .state)
+
+-- ---- versions that keep them
+-- a start or a withdrawal with the right answer that leaves t where it is done
+abbrev leftBy : Validity → (before done : List ℤ) → List ℤ
+leftBy validity.Valid s t = t
+leftBy (validity.Refused r) s t = s
+
+abbrev startingWith : (ℕ → List ℤ → List ℤ) → ℕ → List ℤ → Done
+startingWith t n s = record { answer = startAnswer n (length s); state = leftBy (startAnswer n (length s)) s (t n s) }
+
+abbrev withdrawingBy : (List ℤ → List ℤ) → List ℤ → Done
+withdrawingBy t s = record { answer = withdrawAnswer s; state = leftBy (withdrawAnswer s) s (t s) }
+
+-- an add that answers x where it is not refused by the state alone, with what deciding leaves, and then the state t
+abbrev bufferBy : Validity → (before after : Lent) → Lent
+bufferBy validity.Valid b a = a
+bufferBy (validity.Refused r) b a = b
+
+pub rightAdd : List ℤ → Line → Lent → Added
+rightAdd s l b =
+    record { answer = addAnswer s l b; state = addState s l (addAnswer s l b); after = bufferBy (addValidity s) b (right (variablesIn s) (numbersWith s l) b .after) }
+
+pub right-add-keeps : KeepsAdd rightAdd
+unfolding rightAdd addAnswer
+right-add-keeps s l b = record { is = refl; state = refl; leaves = go (addValidity s) }
+  where
+    go : (v : Validity) → Leaves (variablesIn s) (numbersWith s l) (unlessRefused v (answerFor (variablesIn s) (numbersWith s l) b)) b (bufferBy v b (right (variablesIn s) (numbersWith s l) b .after))
+    go validity.Valid =
+        let k = right-keeps (variablesIn s) (numbersWith s l) b in
+        subst (λ (x : Answer). Leaves (variablesIn s) (numbersWith s l) x b (right (variablesIn s) (numbersWith s l) b .after)) (k .is) (k .leaves)
+    go (validity.Refused r) = refl
+
+-- ---- the states: n is 1, and nothing lies beyond
+-- x at most 3, and x at least 4, which clash; and a line that is refused
+abbrev most : Line
+most = record { a = pos 1; x = pos 0; b = pos 0; y = pos 0; d = pos 3; identifier = pos 0 }
+
+abbrev least : Line
+least = record { a = negℤ (pos 1); x = pos 0; b = pos 0; y = pos 0; d = negℤ (pos 4); identifier = pos 0 }
+
+abbrev twice : Line
+twice = record { a = pos 2; x = pos 0; b = pos 0; y = pos 0; d = pos 0; identifier = pos 0 }
+
+abbrev state : List Line → Bool → List ℤ
+state ls refused = stateOf 1 ls refused ++ []
+
+none-valid : validityOf 1 (numbersOf []) ≡ validity.Valid
+unfolding validityOf linesValidity numbersOf
+none-valid = refl
+
+most-valid : validityOf 1 (numbersOf (most ∷ [])) ≡ validity.Valid
+unfolding validityOf linesValidity numbersOf lineNumbers coefficientsOk variableOk variablesOk constantOk identifierOk lineAt
+most-valid = refl
+
+both-valid : validityOf 1 (numbersOf (most ∷ least ∷ [])) ≡ validity.Valid
+unfolding validityOf linesValidity numbersOf lineNumbers coefficientsOk variableOk variablesOk constantOk identifierOk lineAt
+both-valid = refl
+
+one : pos 1 ≡ pos 0 → ⊥
+one = simp ints (omega arith)
+
+-- ---- a start that forgets its n: it writes a state of no variables
+pub forgetsN : ℕ → List ℤ → Done
+forgetsN = startingWith (λ n s. stateOf 0 [] false ++ drop (sessionRoom n) s)
+
+abbrev long : List ℤ
+long = zeros (sessionRoom 1)
+
+long-enough : startAnswer 1 (length long) ≡ validity.Valid
+unfolding startAnswer sessionRoom
+long-enough = ap (startAnswer 1) (length-replicate (sessionRoom 1) (pos 0))
+
+pub forgets-n-breaks : KeepsStart forgetsN → ⊥
+unfolding forgetsN stateOf numbersOf
+forgets-n-breaks k =
+    let written : stateOf 0 [] false ++ drop (sessionRoom 1) long ≡ stateOf 1 [] false ++ drop (sessionRoom 1) long =
+    subst (λ (v : Validity). leftBy v long (stateOf 0 [] false ++ drop (sessionRoom 1) long) ≡ startState 1 long v) long-enough (k 1 long .state) in
+    one (ap (λ (t : List ℤ). number t 0) (sym written))
+
+-- ---- withdrawals
+-- what a version that withdraws with the right answer must leave behind lines ls and one more
+withdrawn : (t : List ℤ → List ℤ) → KeepsWithdraw (withdrawingBy t) → (ls : List Line) (l : Line) (refused : Bool) → validityOf 1 (numbersOf (ls ++ l ∷ [])) ≡ validity.Valid
+    → t (state (ls ++ l ∷ []) refused) ≡ stateOf 1 ls false ++ drop (sessionRoom 1) (state (ls ++ l ∷ []) refused)
+withdrawn t k ls l refused v =
+    let s = state (ls ++ l ∷ []) refused in
+    let f = withdraws-from (stands 1 (ls ++ l ∷ []) v refused s [] refl) (k s) .last ls l refl in
+    ap (λ (x : Validity). leftBy x s (t s)) (sym (f .0)) ∙ f .1
+
+-- it leaves the old line in the room
+pub leavesOldLine : List ℤ → Done
+leavesOldLine = withdrawingBy (λ s. headed (countIn s - 1) false s)
+
+pub leaves-old-line-breaks : KeepsWithdraw leavesOldLine → ⊥
+unfolding leavesOldLine stateOf behind numbersOf lineNumbers
+leaves-old-line-breaks k = one (ap (λ (t : List ℤ). number t 3) (withdrawn (λ s. headed (countIn s - 1) false s) k [] most false most-valid))
+
+-- it leaves the no, so that the next add is refused
+abbrev keepingNo : List ℤ → List ℤ
+keepingNo s = headed (countIn s - 1) (refusedIn s) (putAt (lineStart (countIn s - 1)) (zeros lineSize) s)
+
+pub staysRefused : List ℤ → Done
+staysRefused = withdrawingBy keepingNo
+
+pub stays-refused-breaks : KeepsWithdraw staysRefused → ⊥
+unfolding staysRefused stateOf behind numbersOf lineNumbers
+stays-refused-breaks k = one (ap (λ (t : List ℤ). number t 2) (withdrawn keepingNo k (most ∷ []) least true both-valid))
+
+-- ---- adds
+-- it counts a line that it refuses
+abbrev pushedAnyway : List ℤ → Line → Answer → List ℤ
+pushedAnyway s l decide.Yes = pushed s l false
+pushedAnyway s l decide.No = pushed s l true
+pushedAnyway s l (decide.Refused r) = pushed s l false
+
+pub countsRefused : List ℤ → Line → Lent → Added
+countsRefused s l b = record { answer = addAnswer s l b; state = pushedAnyway s l (addAnswer s l b); after = rightAdd s l b .after }
+
+twice-refused : answerFor 1 (numbersOf (twice ∷ [])) (roomWith 1 9) ≡ decide.Refused (BadCoefficient 0)
+unfolding decideAnswer decideValidity validityOf linesValidity numbersOf lineNumbers coefficientsOk lineAt
+twice-refused = refl
+
+pub counts-refused-breaks : KeepsAdd countsRefused → ⊥
+unfolding countsRefused stateOf numbersOf
+counts-refused-breaks k =
+    let s = state [] false in
+    let refused : addAnswer s twice (roomWith 1 9) ≡ decide.Refused (BadCoefficient 0) = add-answer (stands 1 [] none-valid false s [] refl) twice (roomWith 1 9) ∙ twice-refused in
+    let same : pushed s twice false ≡ s = subst (λ (x : Answer). pushedAnyway s twice x ≡ addState s twice x) refused (k s twice (roomWith 1 9) .state) in
+    one (ap (λ (t : List ℤ). number t 1) (sym (pushed-is 1 [] false [] twice false (omega arith)) ∙ same))
+
+-- it decides without the first line
+pub withoutFirst : List ℤ → Line → Lent → Added
+withoutFirst s l b =
+    record {
+      answer = unlessRefused (addValidity s) (answerFor (variablesIn s) (drop lineSize (numbersWith s l)) b);
+      state = rightAdd s l b .state;
+      after = rightAdd s l b .after;
+    }
+
+least-yes : answerFor 1 (drop lineSize (numbersOf (most ∷ least ∷ []))) (roomWith 1 9) ≡ decide.Yes
+unfolding numbersOf lineNumbers decideAnswer decideValidity roomsValidity validityOf linesValidity coefficientsOk variableOk variablesOk constantOk identifierOk lineAt isFalse verdictOf hasFalse
+    noNegative consistentHalves entry digit stepOf stepsOf relaxRow startRow rounds rowAt best opposite
+least-yes = refl
+
+both-no : answerFor 1 (numbersOf (most ∷ least ∷ [])) (roomWith 1 9) ≡ decide.No
+unfolding numbersOf lineNumbers
+both-no = list-8-no
+
+pub without-first-breaks : KeepsAdd withoutFirst → ⊥
+unfolding withoutFirst
+without-first-breaks k =
+    let s = state (most ∷ []) false in
+    let b = roomWith 1 9 in
+    let holds = stands 1 (most ∷ []) most-valid false s [] refl in
+    let wrong : unlessRefused (addValidity s) (answerFor (variablesIn s) (drop lineSize (numbersWith s least)) b) ≡ decide.Yes =
+    ap (λ (v : Validity). unlessRefused v (answerFor (variablesIn s) (drop lineSize (numbersWith s least)) b)) (state-validity holds)
+    ∙ ap (λ (n : ℕ). answerFor n (drop lineSize (numbersWith s least)) b) (variables holds)
+    ∙ ap (λ (L : List ℤ). answerFor 1 (drop lineSize L) b) (all-numbers holds least)
+    ∙ least-yes in
+    let same : decide.Yes ≡ decide.No = sym wrong ∙ k s least b .is ∙ add-answer holds least b ∙ both-no in
+    never (cc)

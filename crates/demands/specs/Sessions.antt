@@ -1,0 +1,170 @@
+-- What was demanded of sessions, in the words of docs/SPECIFICATION.md, each statement proved by citing the rest.
+--
+-- A reader has to believe what a state is (`stateOf` in session_state/specs/State.antt), which states sequences of calls lead to (`Reached` in
+-- session/specs/Sequence.antt), the table of refusals here, and the words of Demands.antt. The promises of the calls are `Starts`, `Adds` and `Withdraws`
+-- (session/specs/Promise.antt); the exported calls return `StartReturns`, `AddReturns` and `WithdrawReturns`.
+use mathlib.Core.Path.{_≡_, refl, sym, ap, subst, _∙_}
+use mathlib.Core.Logic.{_↔_}
+use mathlib.Core.Bool.{Bool, true, false}
+use mathlib.Core.List.{List, [], _∷_, _++_, append-assoc}
+use Prim.Native.Nat.{ℕ, _+_, _<_}
+use lib.IntN.{ℤ}
+use lib.ListN.{length, drop}
+use Rattle.lines.specs.declared.Line.{Line}
+use Rattle.lines.specs.declared.Refusal.{Refusal}
+use Rattle.lines.specs.declared.Refusal.the-variants.{TooManyVariables, TooManyLines, ShortOutput, AfterNo, NoLines}
+use Rattle.lines.specs.declared.Validity.{Validity}
+use Rattle.lines.specs.declared.Validity.the-variants as validity
+use Rattle.lines.specs.Limits.{maxVariables, maxLines}
+use Rattle.lines.specs.Line.{numbersOf}
+use Rattle.lines.specs.LineNumbers.{numbers-append}
+use Rattle.lines.specs.Refusal.{_orElse_, refuseIf}
+use Rattle.decide_buffers.specs.Room.{Lent, lengthsOf, lentRooms, roomsValidity}
+use Rattle.decide.specs.declared.Answer.{Answer}
+use Rattle.decide.specs.declared.Answer.the-variants as decide
+use Rattle.decide.specs.Decided.{NotRefused, unlessRefused, answerFor, validityFor, Decided}
+use Rattle.session_state.specs.State.{sessionRoom, stateOf}
+use Rattle.session.specs.Promise.{statePlace, startAnswer, addAnswer, withdrawAnswer, Starts, Adds, Withdraws}
+use Rattle.session.specs.Sequence.{Reached, Grown, AddsTo, WithdrawsFrom, add-validity, add-answer, went-on, adds-to, withdraws-from, reached-stands, reached-more, grown-reached, add-withdraw}
+use Rattle.c_deciding.specs.Calls.{decideCode}
+use Rattle.c_deciding.specs.Laws.{decisions-apart}
+use Rattle.c_session.specs.Calls.{doneCode, StartReturns, AddReturns, WithdrawReturns}
+use Rattle.c_session.specs.Laws.{start-placed, withdraw-placed, add-below, done-apart}
+use Rattle.demands.specs.Calls.{Call}
+use Rattle.demands.specs.Demands.{ValidFor, NothingUnlearned, nothing-unlearned}
+use Rattle.demands.specs.Refusals.{Row, _when_, lineTable, roomsTable, FirstApplies}
+use Rattle.demands.specs.Refused.{gives-row, gives-last, gives-or, gives-refused, less-test, true-test, line-gives, rooms-give, decision-refused}
+
+-- ---- what a session holds
+
+-- After any sequence of calls from a start, each handed the state that the call before left, the state is `stateOf` n, the lines and the last answer, every
+-- number of its room, with what lay beyond it; and its lines are a valid list.
+pub record Holds (n : ℕ) (ls : List Line) (refused : Bool) (s : List ℤ) : Type 0 where
+  pub state : s ≡ stateOf n ls refused ++ drop (sessionRoom n) s
+  pub valid : ValidFor n (numbersOf ls)
+
+pub session-holds : (n : ℕ) (ls : List Line) (refused : Bool) (s : List ℤ) → Reached n ls refused s → Holds n ls refused s
+session-holds n ls refused s p = let k = reached-stands p in record { state = k .is; valid = k .valid }
+
+-- ---- a start
+
+-- 1, then 7
+abbrev pub startTable : ℕ → List ℤ → List Row
+startTable n s = TooManyVariables when (maxVariables < n) ∷ ShortOutput statePlace when (length s < sessionRoom n) ∷ []
+
+pub start-refused-exactly-if : (n : ℕ) (s : List ℤ) (x : Validity) (t : List ℤ) → Starts n s x t → (r : Refusal) → (x ≡ validity.Refused r) ↔ FirstApplies (startTable n s) r
+unfolding startAnswer
+start-refused-exactly-if n s x t d r =
+    let f = gives-refused (gives-row (less-test maxVariables n) (gives-last (less-test (length s) (sessionRoom n)))) r in ((λ e. f .0 (sym (d .is) ∙ e)), (λ e. d .is ∙ f .1 e))
+
+-- Else the state of n and no lines is written, all of its room, and what lies beyond is untouched.
+pub start-writes : (n : ℕ) (s t : List ℤ) → Starts n s validity.Valid t → t ≡ stateOf n [] false ++ drop (sessionRoom n) s
+start-writes n s t d = d .state
+
+-- ---- a line is added
+
+-- 30 after a no; 3 when it holds the most lines; the line rules, which name the new line's number; 7, 8
+abbrev pub addTable : ℕ → List Line → Bool → Line → Lent → List Row
+addTable n ls refused l lent =
+    AfterNo when (refused ≡ true)
+    ∷ TooManyLines when (maxLines < length ls + 1)
+    ∷ lineTable n (length ls) l ++ roomsTable lentRooms n (lengthsOf lent)
+
+pub add-refused-exactly-if : (n : ℕ) (ls : List Line) (refused : Bool) (s : List ℤ) → Reached n ls refused s → (l : Line) (x : Answer) (b : Lent) (t : List ℤ) (a : Lent) → Adds s l x b t a
+    → (r : Refusal) → (x ≡ decide.Refused r) ↔ FirstApplies (addTable n ls refused l b) r
+unfolding roomsValidity
+add-refused-exactly-if n ls refused s p l x b t a d r =
+    let k = reached-stands p in
+    let f = gives-refused (gives-row (true-test refused) (gives-or (gives-row (less-test maxLines (length ls + 1)) (line-gives n (length ls) l)) (rooms-give lentRooms n (lengthsOf b)))) r in
+    let g = refused-unless refused (validityFor n (numbersOf (ls ++ l ∷ [])) b) (answerFor n (numbersOf (ls ++ l ∷ [])) b) r (decision-refused n (numbersOf (ls ++ l ∷ [])) b r) in
+    let computed = ap (λ (v : Validity). refuseIf refused AfterNo orElse v) (add-validity n ls l (k .valid) b) in (
+      (λ e. f .0 (sym computed ∙ g .0 (sym (add-answer k l b) ∙ sym (d .is) ∙ e))),
+      (λ e. d .is ∙ add-answer k l b ∙ g .1 (computed ∙ f .1 e)),
+    )
+  where
+    refused-unless : (q : Bool) (v : Validity) (y : Answer) (r : Refusal) → (y ≡ decide.Refused r) ↔ (v ≡ validity.Refused r)
+        → (unlessRefused (refuseIf q AfterNo) y ≡ decide.Refused r) ↔ ((refuseIf q AfterNo orElse v) ≡ validity.Refused r)
+    refused-unless true v y r h = ((λ e. cc), (λ e. cc))
+    refused-unless false v y r h = h
+
+-- Else the answer, and all that is left in the buffers, is that of deciding all lines so far afresh, where only the walks are free; and the new line is part
+-- of the state, after a no too.
+pub add-is-deciding : (n : ℕ) (ls : List Line) (refused : Bool) (s : List ℤ) → Reached n ls refused s → (l : Line) (x : Answer) (b : Lent) (t : List ℤ) (a : Lent) → Adds s l x b t a
+    → AddsTo n ls refused s l x b t a
+add-is-deciding n ls refused s p l x b t a d = adds-to (reached-stands p) l d
+
+-- ---- the last line is withdrawn
+
+-- 31 where there is none; else only the state is written, and it is that of the lines before.
+pub withdraw-takes-the-last : (n : ℕ) (ls : List Line) (refused : Bool) (s : List ℤ) → Reached n ls refused s → (x : Validity) (t : List ℤ) → Withdraws s x t → WithdrawsFrom n ls s x t
+withdraw-takes-the-last n ls refused s p x t d = withdraws-from (reached-stands p) d
+
+-- An add that was answered, and then a withdrawal, leave the state equal, whole.
+pub add-then-withdraw : (n : ℕ) (ls : List Line) (refused : Bool) (s : List ℤ) → Reached n ls refused s → (l : Line) (x : Answer) (b : Lent) (t : List ℤ) (a : Lent) → Adds s l x b t a → NotRefused x
+    → (y : Validity) (u : List ℤ) → Withdraws t y u → (y ≡ validity.Valid) × (u ≡ s)
+add-then-withdraw n ls refused s p l x b t a d h y u w = add-withdraw p d h w
+
+-- ---- demand 3 along adds
+
+-- Two adds of one session that were answered, with no withdrawal between them, are calls of deciding, on a list and on one that begins with all its lines.
+pub record TwoCalls (n : ℕ) (L M : List ℤ) (x : Answer) (a : Lent) (y : Answer) (e : Lent) : Type 0 where
+  pub first : Call n L
+  pub first-answer : first .answer ≡ x
+  pub first-left : first .after ≡ a
+  pub second : Call n (L ++ M)
+  pub second-answer : second .answer ≡ y
+  pub second-left : second .after ≡ e
+  pub unlearned : NothingUnlearned n L M first second
+
+pub session-unlearns-nothing : (n : ℕ) (ls : List Line) (refused : Bool) (s : List ℤ) → Reached n ls refused s
+    → (l : Line) (x : Answer) (b : Lent) (t : List ℤ) (a : Lent) → Adds s l x b t a → NotRefused x
+    → (ms : List Line) (u : List ℤ) → Grown t ms u
+    → (m : Line) (y : Answer) (c : Lent) (v : List ℤ) (e : Lent) → Adds u m y c v e → NotRefused y
+    → TwoCalls n (numbersOf (ls ++ l ∷ [])) (numbersOf (ms ++ m ∷ [])) x a y e
+session-unlearns-nothing n ls refused s p l x b t a d h ms u g m y c v e f k =
+    let one = reached-more x p d h in
+    let more = grown-reached (one .1) g in
+    let stood = reached-stands p in
+    let stands = reached-stands (more .1) in
+    let first = adds-to stood l d .afresh (went-on stood l d h) in
+    let second = adds-to stands m f .afresh (went-on stands m f k) in
+    let list : numbersOf (((ls ++ l ∷ []) ++ ms) ++ m ∷ []) ≡ numbersOf (ls ++ l ∷ []) ++ numbersOf (ms ++ m ∷ []) =
+    ap numbersOf (append-assoc (ls ++ l ∷ []) ms (m ∷ [])) ∙ numbers-append (ls ++ l ∷ []) (ms ++ m ∷ []) in
+    let early : Call n (numbersOf (ls ++ l ∷ [])) = record { answer = x; before = b; after = a; decided = first; not-refused = h } in
+    let late : Call n (numbersOf (ls ++ l ∷ []) ++ numbersOf (ms ++ m ∷ [])) =
+    record { answer = y; before = c; after = e; decided = subst (λ (L : List ℤ). Decided n L y c e) list second; not-refused = k } in
+    record { first = early; first-answer = refl; first-left = refl; second = late; second-answer = refl; second-left = refl; unlearned = nothing-unlearned n _ _ early late }
+
+-- ---- whatever stands in the state
+
+-- A refusal changes neither the state nor a buffer. That the calls end is part of every promise.
+pub refused-start-changes-nothing : (n : ℕ) (s : List ℤ) (r : Refusal) (t : List ℤ) → Starts n s (validity.Refused r) t → t ≡ s
+refused-start-changes-nothing n s r t d = d .state
+
+pub refused-add-changes-nothing : (s : List ℤ) (l : Line) (r : Refusal) (b : Lent) (t : List ℤ) (a : Lent) → Adds s l (decide.Refused r) b t a → (t ≡ s) × (a ≡ b)
+refused-add-changes-nothing s l r b t a d = (d .state, d .leaves)
+
+pub refused-withdrawal-changes-nothing : (s : List ℤ) (r : Refusal) (t : List ℤ) → Withdraws s (validity.Refused r) t → t ≡ s
+refused-withdrawal-changes-nothing s r t d = d .state
+
+-- ---- the exported calls
+
+-- What they return is the number of an answer, and what they leave is what the call with that answer leaves.
+pub returned-start : (n : ℕ) (s : List ℤ) (r : ℤ) (t : List ℤ) → StartReturns n s r t → (x : Validity) × (r ≡ doneCode x) × Starts n s x t
+returned-start n s r t d = (startAnswer n (length s), d .is, record { is = refl; state = d .state })
+
+pub returned-add : (s : List ℤ) (l : Line) (r : ℤ) (b : Lent) (t : List ℤ) (a : Lent) → AddReturns s l r b t a → (x : Answer) × (r ≡ decideCode x) × Adds s l x b t a
+returned-add s l r b t a d = (addAnswer s l b, d .is, record { is = refl; state = d .state; leaves = d .leaves })
+
+pub returned-withdrawal : (s : List ℤ) (r : ℤ) (t : List ℤ) → WithdrawReturns s r t → (x : Validity) × (r ≡ doneCode x) × Withdraws s x t
+returned-withdrawal s r t d = (withdrawAnswer s, d .is, record { is = refl; state = d .state })
+
+-- No two answers are returned as one number.
+pub starts-returned-apart : (n m : ℕ) (s u : List ℤ) → doneCode (startAnswer n (length s)) ≡ doneCode (startAnswer m (length u)) → startAnswer n (length s) ≡ startAnswer m (length u)
+starts-returned-apart n m s u = done-apart _ _ (start-placed n (length s)) (start-placed m (length u))
+
+pub adds-returned-apart : (s u : List ℤ) (l m : Line) (b c : Lent) → decideCode (addAnswer s l b) ≡ decideCode (addAnswer u m c) → addAnswer s l b ≡ addAnswer u m c
+adds-returned-apart s u l m b c = decisions-apart _ _ (add-below s l b) (add-below u m c)
+
+pub withdrawals-returned-apart : (s u : List ℤ) → doneCode (withdrawAnswer s) ≡ doneCode (withdrawAnswer u) → withdrawAnswer s ≡ withdrawAnswer u
+withdrawals-returned-apart s u = done-apart _ _ (withdraw-placed s) (withdraw-placed u)
