@@ -1,10 +1,11 @@
 /* The C interface: a function that decides a list, and two that check a proposed
  * model of a list, and a proposed refutation of a list; a check of a refutation that
- * arrives in pieces, and two functions for lists in files. A program links one file,
- * libutvpi.a, which ./build-library makes in target/lib/.
+ * arrives in pieces, three functions for sessions, in which lines come one at a time,
+ * and two for lists in files. A program links one file, libutvpi.a, which
+ * ./build-library makes in target/lib/.
  *
- * Deciding takes and writes numbers, as the machine holds them. The two checks
- * take bytes, the lowest byte of each number first.
+ * Deciding and sessions take and write numbers, as the machine holds them. The two
+ * checks take bytes, the lowest byte of each number first.
  *
  * A LIST has n variables, numbered 0 to n-1, each standing for a whole number,
  * and lines of the form  a*x + b*y <= d.  A line is UTVPI_LINE_NUMBERS signed
@@ -67,11 +68,13 @@
 extern "C" {
 #endif
 
-/* Deciding and checking return one number:
+/* Deciding, checking and sessions return one number:
  *
- *     0                              yes
- *     1,000,000 + k                  no. For deciding, k is always 0. For a model,
- *                                    k is the first line that it does not meet.
+ *     0                              yes; of starting a session and of withdrawing a
+ *                                    line, that it was done
+ *     1,000,000 + k                  no. For deciding, and for a line added to a
+ *                                    session, k is always 0. For a model, k is the
+ *                                    first line that it does not meet.
  *                                    For a refutation, k is the index of the
  *                                    first number that is wrong: see WHERE A
  *                                    REFUTATION BREAKS. Lines and indexes count
@@ -102,12 +105,12 @@ extern "C" {
 
 /* The most stack that a call takes, in bytes. utvpi_check_model,
  * utvpi_check_refutation and utvpi_read_list hold the longest list there, however
- * short the one at hand is, and the first of them the longest model; the last part
- * is for all else, and the other calls take no more than that. A thread that calls
- * them needs this much and what it takes itself. No call takes memory from the
- * heap. */
+ * short the one at hand is, utvpi_session_add holds it and one line more, and
+ * utvpi_check_model the longest model; the last part is for all else, and the other
+ * calls take no more than that. A thread that calls them needs this much and what it
+ * takes itself. No call takes memory from the heap. */
 #define UTVPI_MOST_STACK \
-    (UTVPI_LINE_BYTES * UTVPI_MOST_LINES + (size_t)8 * UTVPI_MOST_VARIABLES + (size_t)4096)
+    (UTVPI_LINE_BYTES * (UTVPI_MOST_LINES + 1) + (size_t)8 * UTVPI_MOST_VARIABLES + (size_t)4096)
 
 /* The room that deciding a list of n variables needs, in numbers, for n up to
  * UTVPI_MOST_VARIABLES. With a constant n these are constants, fit for the
@@ -257,6 +260,60 @@ utvpi_progress utvpi_refutation_take(utvpi_progress kept, const int32_t *list, s
 int64_t utvpi_refutation_end(utvpi_progress kept, uint64_t n,
                              const int32_t *list, size_t list_len);
 
+/* A SESSION takes the lines of a list one at a time, and decides all that it has each
+ * time. It starts with n variables and no lines. What is kept between two calls is its
+ * state, and nothing else: a lent buffer of signed 64-bit numbers, in which every line
+ * stands. Its room is UTVPI_SESSION_ROOM(n) numbers, for n up to UTVPI_MOST_VARIABLES;
+ * today that is the same for every n. The buffer may be longer; what lies beyond the
+ * room is left as it was. Lengths are in numbers. A state may be stored and used again
+ * later, and a copy of it is a session of its own.
+ *
+ * Only these calls write a state. It is n, how many lines there are, 1 where the last
+ * answer was a no and else 0, the numbers of each line in order, and zeros. Numbers that
+ * are no state are refused, as UTVPI_SHORT_OUTPUT at the place UTVPI_OUTPUT_STATE: where
+ * there are fewer than the room for their n, or where one of the first three, or a
+ * number of a line, is out of its range. Of all others that no call left, no more is
+ * said than that each call returns, and that a refusal changes nothing.
+ *
+ * The pointers are as for utvpi_decide: no two buffers may overlap. On a refusal the
+ * state and every buffer are left as they were. */
+#define UTVPI_SESSION_ROOM(n) ((size_t)3 + (size_t)UTVPI_LINE_NUMBERS * UTVPI_MOST_LINES)
+
+/* A line, by value. */
+typedef struct utvpi_line {
+    int32_t a, x, b, y, d, identifier;
+} utvpi_line;
+
+/* Starts a session of n variables without lines: all of its room is written, whatever
+ * stood there, and 0 is returned. It is refused as UTVPI_TOO_MANY_VARIABLES, and then as
+ * UTVPI_SHORT_OUTPUT, place UTVPI_OUTPUT_STATE, where the state is shorter than its
+ * room. */
+int64_t utvpi_session_start(uint64_t n, int64_t *state, size_t state_len);
+
+/* Adds a line behind those of the session, and decides all of them: the result, and what
+ * is left in the six buffers, is as utvpi_decide has it for the list of all lines so far.
+ * After a yes and after a no the line is part of the state. After a no, no line is added
+ * before one was withdrawn.
+ *
+ * It is refused, in this order: where the numbers are no state; as UTVPI_AFTER_NO, where
+ * the last answer was a no; as UTVPI_TOO_MANY_LINES, where there are UTVPI_MOST_LINES
+ * lines; by the rules of a line, with the new line's number as the place, which is how
+ * many lines there were before; as UTVPI_SHORT_OUTPUT and as UTVPI_SHORT_WORK_AREA, as
+ * by utvpi_decide. */
+int64_t utvpi_session_add(int64_t *state, size_t state_len, utvpi_line line,
+                          int64_t *model, size_t model_len, int64_t *bounds, size_t bounds_len,
+                          uint32_t *groups, size_t groups_len,
+                          uint32_t *refutation, size_t refutation_len,
+                          uint32_t *identifiers, size_t identifiers_len,
+                          int64_t *work, size_t work_len);
+
+/* Withdraws the last line: every number of the state is what it was before that line was
+ * added, and 0 is returned, which is no answer to the lines that are left. They were
+ * answered with a yes when the last of them was added, so that lines can be added again.
+ * It is refused where the numbers are no state, and then as UTVPI_NO_LINES, where there
+ * is no line. */
+int64_t utvpi_session_withdraw(int64_t *state, size_t state_len);
+
 /* A FILE for a list is records, each a two-byte length of its body, a two-byte
  * kind and the body, all with the lowest byte first: one of kind 1 and length
  * UTVPI_VARIABLES_BYTES, which is n; then the lines, in order; then one of kind 3 and
@@ -288,8 +345,8 @@ int64_t utvpi_refutation_end(utvpi_progress kept, uint64_t n,
 /* Reading writes the list's numbers to the front of the buffer: UTVPI_LINE_NUMBERS
  * for each line. On a refusal the buffer is left as it was; else what lies beyond
  * the lines is. On a refusal n and lines are 0, else refusal and place are.
- * Besides the refusals of a list, with their places, which come last, it gives
- * UTVPI_RECORD_CUT and those after it: see enum utvpi_refusal.
+ * Besides the refusals of a list, with their places, which come last, it gives those
+ * from UTVPI_RECORD_CUT to UTVPI_RECORD_NO_IDENTIFIER: see enum utvpi_refusal.
  *
  * Where refusal is 0, the list was read. */
 typedef struct utvpi_file_read {
@@ -333,7 +390,9 @@ utvpi_file_written utvpi_write_list(uint64_t n, const int32_t *list, size_t list
 
 /* The refusals. Where several apply, the one given is the first of: 1, 2, 3;
  * then line by line from the first, in each line 4, 5, 6, 13; then 7 and 8 for
- * deciding, 9 and 10 for a model, 11 for a refutation.
+ * deciding, 9 and 10 for a model, 11 for a refutation. Starting a session gives 1, then
+ * 7; adding a line 7 for the state, 30, 3, then for the new line 4, 5, 6, 13, then 7 for
+ * the other buffers and 8; withdrawing one 7, then 31.
  */
 enum utvpi_refusal {
     /* n is above UTVPI_MOST_VARIABLES: use fewer variables. */
@@ -362,11 +421,13 @@ enum utvpi_refusal {
     UTVPI_BAD_BOUND = 6,
 
     /* A buffer for output is too short: lend a longer one. The place is the
-     * first that is short, one of enum utvpi_output. Only deciding gives this. */
+     * first that is short, one of enum utvpi_output. Or the numbers lent as the state of
+     * a session are none: hand over a state that one of the calls left. Only deciding
+     * and sessions give this. */
     UTVPI_SHORT_OUTPUT = 7,
 
     /* The work area is too short: lend one of UTVPI_WORK_ROOM(n) numbers. Only
-     * deciding gives this. */
+     * deciding gives this, and adding a line to a session. */
     UTVPI_SHORT_WORK_AREA = 8,
 
     /* The model is not exactly 8*n bytes: give one value for each variable. */
@@ -387,8 +448,8 @@ enum utvpi_refusal {
     UTVPI_BAD_IDENTIFIER = 13,
 
     /* The file ends before this record does, or before the record of kind 3 that
-     * ends a list: look for a missing end. Of this and those that follow the place is
-     * a byte offset, that of the record. Only reading a file gives them. */
+     * ends a list: look for a missing end. Of this and those up to 26 the place is a
+     * byte offset, that of the record. Only reading a file gives them. */
     UTVPI_RECORD_CUT = 20,
 
     /* The record's kind is not 1, 2, 3 or 4: look for a damaged part. */
@@ -412,7 +473,15 @@ enum utvpi_refusal {
 
     /* The record is a line of kind 4, and its identifier is 0: write it as kind 2,
      * without the identifier. It goes after 23 and before 25. */
-    UTVPI_RECORD_NO_IDENTIFIER = 26
+    UTVPI_RECORD_NO_IDENTIFIER = 26,
+
+    /* The last line that was added to the session made a no: withdraw it, and add this
+     * one then. The place is 0. Only adding a line to a session gives this. */
+    UTVPI_AFTER_NO = 30,
+
+    /* The session has no line to withdraw: there is nothing to do. The place is 0. Only
+     * withdrawing gives this. */
+    UTVPI_NO_LINES = 31
 };
 
 /* The places of UTVPI_SHORT_OUTPUT. */
@@ -421,7 +490,8 @@ enum utvpi_output {
     UTVPI_OUTPUT_BOUNDS = 2,
     UTVPI_OUTPUT_GROUPS = 3,
     UTVPI_OUTPUT_REFUTATION = 4,
-    UTVPI_OUTPUT_IDENTIFIERS = 5
+    UTVPI_OUTPUT_IDENTIFIERS = 5,
+    UTVPI_OUTPUT_STATE = 6
 };
 
 #ifdef __cplusplus

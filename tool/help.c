@@ -1,8 +1,9 @@
-/* What --help prints. */
+/* What --help prints, and help in a session. */
 #include "list.h"
 
 const char help[] =
     "Usage: utvpi [--numbers] [FILE]\n"
+    "       utvpi --session\n"
     "       utvpi --check REFUTATION [FILE]\n"
     "       utvpi --text [FILE]\n"
     "       utvpi --write NEW [FILE]\n"
@@ -72,6 +73,21 @@ const char help[] =
     "\n";
 
 /* A compiler need not take it all as one string. */
+const char help_of_session[] =
+    "A session, utvpi --session, takes rules from standard input one at a time, such as\n"
+    "cause - brake <= -1, and says of each at once whether whole numbers meet all the rules\n"
+    "so far, or which of them clash. A line with one of these words does the rest:\n"
+    "\n"
+    "    show    prints the answer so far in full\n"
+    "    list    prints the rules so far, with the lines that they stand in\n"
+    "    undo    withdraws the last rule, and with it the events that only it named\n"
+    "    help    prints this\n"
+    "\n"
+    "Lines count from 1, those that are no rules too. A line that is wrong or refused\n"
+    "changes nothing. After a no, undo has to come before another rule. The number of\n"
+    "variables can be given only before the first rule. A session ends with its input, on\n"
+    "a terminal with Ctrl-D.\n";
+
 const char help_of_check[] =
     "With --check nothing is decided. REFUTATION is a file with the numbers of a\n"
     "refutation of the rules, or \"-\" for standard input; blanks, commas or new lines\n"
@@ -111,4 +127,5 @@ const char help_of_check[] =
     "\n"
     "Exit status: 0 yes, or converted; 1 no; 2 no answer, as something is wrong with the\n"
     "input or can't be written; 3 the answer did not pass its check, so that it can't be\n"
-    "trusted.\n";
+    "trusted. Of a session: 0 or 1 by the rules that it has at its end, unless a line was\n"
+    "wrong or refused, which is 2; 3 ends it at once.\n";

@@ -49,6 +49,9 @@ struct origin {
     struct text rule;
 };
 
+/* How an answer is printed: in full, a no in numbers, or a yes only as such. */
+enum manner { IN_WORDS, IN_NUMBERS, IN_SHORT };
+
 /* The two forms of a text. Records are read as if they were one of numbers. */
 enum form { FORM_OPEN, FORM_NUMBERS, FORM_NAMES };
 
@@ -67,6 +70,9 @@ struct list {
     uint64_t variables;
     struct origin variables_from;
     bool declared;
+
+    /* In a session the line of the input that is read now; else line 0. */
+    struct origin at_hand;
 
     /* The form, and the line of the file that settled it. */
     enum form form;
@@ -124,12 +130,14 @@ struct step {
     struct point to;
 };
 
-/* help.c: what --help prints, one after the other. */
+/* help.c: what --help prints, one after the other; the second, a session too. */
 extern const char help[];
+extern const char help_of_session[];
 extern const char help_of_check[];
 
 /* text.c: the bytes of an input, showing parts of it, and its lines. */
 bool load(FILE *from, const char *file, struct text *input);
+bool load_line(FILE *from, const char *file, struct text *line);
 void show(FILE *to, struct text text);
 bool is_blank(char c);
 bool is_digit(char c);
@@ -143,8 +151,9 @@ bool wrong(const struct list *list, struct origin origin, struct text part, cons
 struct text skip_mark(struct text input);
 bool next_line(const char *file, struct text *rest, struct origin *origin);
 
-/* read.c: a file's lines. The list's input and file are set before. */
+/* read.c: a file's lines, or one rule. The list's input and file are set before. */
 bool read_list(struct list *list);
+bool read_rule(struct list *list, struct origin origin);
 bool settle_form(struct list *list, struct origin origin, enum form form);
 bool add_line(struct list *list, struct origin origin, const int32_t line[UTVPI_LINE_NUMBERS]);
 
@@ -188,6 +197,19 @@ const int32_t *numbers_of(const struct list *list);
 size_t length_of(const struct list *list);
 size_t show_line(char shown[MOST_SHOWN_LINE], const int32_t line[UTVPI_LINE_NUMBERS]);
 int convert(const struct list *list, const char *to);
+
+/* answer.c: the library's answers, checked and printed; and what says that one can't be
+ * trusted. */
+int disagree(const char *what);
+bool within_limits(const struct list *list);
+int64_t *take_work_area(const char *file, uint64_t n);
+int answer(const struct list *list, enum manner manner);
+int64_t add_to_session(uint64_t n, int64_t *state, const int32_t line[UTVPI_LINE_NUMBERS],
+                       int64_t *work);
+int give_answer(const struct list *list, uint64_t n, int64_t result, enum manner manner);
+
+/* session.c: rules from standard input, one at a time. */
+int run_session(const char *file);
 
 /* yes.c, no.c, broken.c and refusal.c: the answers in words. */
 void print_event(FILE *to, const struct list *list, uint64_t variable);

@@ -51,7 +51,7 @@ bool add_line(struct list *list, struct origin origin, const int32_t line[UTVPI_
 }
 
 /* Reads one rule, which is not empty. */
-static bool read_rule(struct list *list, struct origin origin)
+bool read_rule(struct list *list, struct origin origin)
 {
     bool in_words = false;
     if (origin.rule.length > MOST_RULE) {

@@ -3,9 +3,9 @@
 #include "list.h"
 
 /* What of the file a refusal is about: nothing that stands there, the line that
- * says how many variables there are, the first rule too many, or the rule at the
- * refusal's place. */
-enum about { NOTHING, VARIABLES, RULE_TOO_MANY, RULE_AT_PLACE };
+ * says how many variables there are, the first rule too many, the rule at the
+ * refusal's place, or the line of a session that is read now. */
+enum about { NOTHING, VARIABLES, RULE_TOO_MANY, RULE_AT_PLACE, LINE_AT_HAND };
 
 struct words {
     const char *what;
@@ -46,7 +46,8 @@ static struct words words_of(enum utvpi_refusal number)
                               "choose a coarser unit, or an origin nearer to the values",
                               RULE_AT_PLACE};
     case UTVPI_SHORT_OUTPUT:
-        return (struct words){"a buffer for output is too short", fault, NOTHING};
+        return (struct words){"a buffer for output is too short, or no state of a session is lent",
+                              fault, NOTHING};
     case UTVPI_SHORT_WORK_AREA:
         return (struct words){"the work area is too short", fault, NOTHING};
     case UTVPI_BAD_MODEL_LENGTH:
@@ -93,6 +94,13 @@ static struct words words_of(enum utvpi_refusal number)
                               "write the line as kind 2, which has no identifier, or look for a"
                               " damaged part",
                               NOTHING};
+    case UTVPI_AFTER_NO:
+        return (struct words){"the rules before this one can't all be met, so that none is added"
+                              " to them",
+                              "withdraw the last of them with undo, and add this one then",
+                              LINE_AT_HAND};
+    case UTVPI_NO_LINES:
+        return (struct words){"there is no rule to withdraw", "add one first", LINE_AT_HAND};
     }
     return (struct words){"this number is not known", fault, NOTHING};
 }
@@ -112,6 +120,9 @@ static struct origin offender(const struct list *list, enum about about, size_t 
     static const struct origin none = {0, {"", 0}};
     if (about == VARIABLES) {
         return list->variables_from;
+    }
+    if (about == LINE_AT_HAND) {
+        return list->at_hand;
     }
     if (about == RULE_TOO_MANY && list->count > UTVPI_MOST_LINES) {
         return list->origins[UTVPI_MOST_LINES];
@@ -133,7 +144,7 @@ void print_refusal(const struct list *list, const char *file, int number, size_t
                 list->records ? record_of(list, origin.line) : origin.line);
     }
     fprintf(stderr, ": refused with number %d, place %zu: %s.\n", number, place, words.what);
-    if (origin.line > 0) {
+    if (origin.rule.length > 0) {
         fputs("  The rule: ", stderr);
         show(stderr, origin.rule);
         fputc('\n', stderr);

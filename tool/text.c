@@ -18,38 +18,61 @@ static bool not_loaded(const char *file, char *bytes, const char *why)
     return false;
 }
 
-/* Loads all bytes, whatever they are. Says what is wrong where it can't. */
-bool load(FILE *from, const char *file, struct text *input)
+/* Makes room for more bytes behind so many, from so many the first time. */
+static bool make_room(char **bytes, size_t length, size_t *room, size_t first)
+{
+    if (length < *room) {
+        return true;
+    }
+    size_t longer = *room == 0 ? first : 2 * *room;
+    char *more = realloc(*bytes, longer);
+    if (more == NULL) {
+        return false;
+    }
+    *bytes = more;
+    *room = longer;
+    return true;
+}
+
+/* Loads all bytes up to the end of the input, or, of one that is read line by line, up
+ * to the end of a line, which may be the input's. Says what is wrong where it can't. */
+static bool load_to(FILE *from, const char *file, bool by_lines, struct text *input)
 {
     char *bytes = NULL;
-    size_t length = 0, room = 0;
-    for (;;) {
-        if (length == room) {
-            size_t longer = room == 0 ? 65536 : 2 * room;
-            char *more = realloc(bytes, longer);
-            if (more == NULL) {
-                return not_loaded(file, bytes, "there is not enough memory to read it");
-            }
-            bytes = more;
-            room = longer;
+    size_t length = 0, room = 0, got = 1;
+    while (got > 0 && !(by_lines && length > 0 && bytes[length - 1] == '\n')) {
+        if (!make_room(&bytes, length, &room, by_lines ? 128 : 65536)) {
+            return not_loaded(file, bytes, "there is not enough memory to read it");
         }
         errno = 0;
-        size_t got = fread(bytes + length, 1, room - length, from);
+        got = fread(bytes + length, 1, by_lines ? 1 : room - length, from);
         length += got;
         if (got == 0 && ferror(from)) {
             return not_loaded(file, bytes, errno != 0 ? strerror(errno) : "it can't be read");
         }
         if (length > (size_t)MOST_MIB * 1024 * 1024) {
             return not_loaded(file, bytes,
-                              "it has more than " AS_TEXT(MOST_MIB)
-                              " MiB: leave out what is not needed");
-        }
-        if (got == 0) {
-            input->at = bytes;
-            input->length = length;
-            return true;
+                              by_lines ? "a line has more than " AS_TEXT(MOST_MIB)
+                                         " MiB: leave out what is not needed"
+                                       : "it has more than " AS_TEXT(MOST_MIB)
+                                         " MiB: leave out what is not needed");
         }
     }
+    input->at = bytes;
+    input->length = length;
+    return true;
+}
+
+/* Loads all bytes, whatever they are. */
+bool load(FILE *from, const char *file, struct text *input)
+{
+    return load_to(from, file, false, input);
+}
+
+/* Loads the next line; at the end of the input it is empty. */
+bool load_line(FILE *from, const char *file, struct text *line)
+{
+    return load_to(from, file, true, line);
 }
 
 bool is_blank(char c)

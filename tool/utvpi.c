@@ -1,232 +1,11 @@
-/* The command: decides a list of rules given as text, checks the answer with the
- * library's two checkers, and prints it in words. Or it checks a refutation that
- * someone proposes, or writes the list in another form. Lists come as text or as
- * records. */
+/* The command: decides a list of rules given as text, or takes them one at a time in a
+ * session. Or it checks a refutation that someone proposes, or writes the list in another
+ * form. Lists come as text or as records. */
 #include "list.h"
 
 #include <errno.h>
-#include <inttypes.h>
 #include <stdlib.h>
 #include <string.h>
-
-static int64_t model[UTVPI_MODEL_ROOM(UTVPI_MOST_VARIABLES)];
-static int64_t bounds[UTVPI_BOUNDS_ROOM(UTVPI_MOST_VARIABLES)];
-static uint32_t groups[UTVPI_GROUPS_ROOM(UTVPI_MOST_VARIABLES)];
-static uint32_t refutation[UTVPI_REFUTATION_ROOM(UTVPI_MOST_VARIABLES)];
-static uint32_t identifiers[UTVPI_IDENTIFIERS_ROOM(UTVPI_MOST_VARIABLES)];
-
-/* The list, the model and the refutation as the checkers take them. */
-static uint8_t list_bytes[UTVPI_LINE_BYTES * UTVPI_MOST_LINES];
-static uint8_t model_bytes[8 * UTVPI_MODEL_ROOM(UTVPI_MOST_VARIABLES)];
-static uint8_t refutation_bytes[4 * UTVPI_REFUTATION_ROOM(UTVPI_MOST_VARIABLES)];
-
-/* Writes a number's lowest `bytes` bytes, the lowest first. */
-static void pack(uint8_t *to, uint64_t number, size_t bytes)
-{
-    for (size_t at = 0; at < bytes; at++) {
-        to[at] = (uint8_t)(number >> (8 * at) & 255);
-    }
-}
-
-static size_t pack_list(const struct list *list)
-{
-    for (size_t at = 0; at < length_of(list); at++) {
-        pack(list_bytes + 4 * at, (uint64_t)list->numbers[at], 4);
-    }
-    return UTVPI_LINE_BYTES * list->count;
-}
-
-static int disagree(const char *what)
-{
-    fprintf(stderr,
-            "utvpi: %s.\n"
-            "  This answer can't be trusted. It is a fault of the library or of this program,\n"
-            "  not of the file: report it, with the file.\n",
-            what);
-    return STATUS_DISAGREE;
-}
-
-static bool within_limits(const struct list *list)
-{
-    return list->variables <= UTVPI_MOST_VARIABLES && list->count <= UTVPI_MOST_LINES;
-}
-
-/* Whether every group is called by an event that is none after its own ones, and that
- * is called by itself, with plus. */
-static bool groups_exist(size_t n)
-{
-    for (size_t v = 0; v < n; v++) {
-        uint32_t first = groups[2 * v];
-        if (first > v || groups[2 * v + 1] > 1 || groups[2 * (size_t)first] != first ||
-            groups[2 * (size_t)first + 1] != 0) {
-            return false;
-        }
-    }
-    return true;
-}
-
-/* A number with its sign turned; of an absent bound, the one absent on the other side. */
-static int64_t turned(int64_t number)
-{
-    if (number == UTVPI_NO_LEAST || number == UTVPI_NO_GREATEST) {
-        return number == UTVPI_NO_LEAST ? UTVPI_NO_GREATEST : UTVPI_NO_LEAST;
-    }
-    return -number;
-}
-
-/* Whether all events of a group have the value, the least and the greatest of its
- * first; with a minus the opposite ones, and they are not always 0. */
-static bool groups_agree(size_t n)
-{
-    for (size_t v = 0; v < n; v++) {
-        size_t first = groups[2 * v];
-        bool minus = groups[2 * v + 1] == 1;
-        int64_t value = model[first], least = bounds[2 * first], greatest = bounds[2 * first + 1];
-        if (minus && least == 0 && greatest == 0) {
-            return false;
-        }
-        if (model[v] != (minus ? turned(value) : value) ||
-            bounds[2 * v] != (minus ? turned(greatest) : least) ||
-            bounds[2 * v + 1] != (minus ? turned(least) : greatest)) {
-            return false;
-        }
-    }
-    return true;
-}
-
-static int answer_yes(const struct list *list)
-{
-    size_t n = (size_t)list->variables, length = pack_list(list);
-    for (size_t at = 0; at < n; at++) {
-        pack(model_bytes + 8 * at, (uint64_t)model[at], 8);
-    }
-    if (!UTVPI_IS_YES(utvpi_check_model(n, list_bytes, length, model_bytes, 8 * n))) {
-        return disagree("the library answered yes, but its values fail the library's own check");
-    }
-    if (!groups_exist(n)) {
-        return disagree("the library answered yes with a group that does not exist");
-    }
-    if (!groups_agree(n)) {
-        return disagree("the library answered yes, but its groups do not agree with its values");
-    }
-    print_yes(list, model, bounds, groups);
-    return STATUS_YES;
-}
-
-/* Whether the identifiers that the library gave for so many steps of its refutation,
- * which is right, are those of their rules. */
-static bool identifiers_agree(const struct list *list, size_t steps)
-{
-    if (steps > UTVPI_IDENTIFIERS_ROOM(list->variables)) {
-        return false;
-    }
-    for (size_t at = 0; at < steps; at++) {
-        if (identifiers[at] != identifier_of(list, refutation[3 + at])) {
-            return false;
-        }
-    }
-    return true;
-}
-
-/* Prints numbers with a blank between them, after what stands there. */
-static void print_numbers(const char *before, const uint32_t *numbers, size_t count)
-{
-    fputs(before, stdout);
-    for (size_t at = 0; at < count; at++) {
-        printf(at > 0 || before[0] != '\0' ? " %" PRIu32 : "%" PRIu32, numbers[at]);
-    }
-    putchar('\n');
-}
-
-/* Prints a no in numbers: the refutation, of so many steps, and, where some rule has
- * one, the identifiers of its steps' rules. */
-static void print_no_in_numbers(size_t steps)
-{
-    bool some = false;
-    for (size_t at = 0; at < steps; at++) {
-        some = some || identifiers[at] != 0;
-    }
-    print_numbers("", refutation, 3 + steps);
-    if (some) {
-        print_numbers("identifiers", identifiers, steps);
-    }
-}
-
-/* Prints a no, in words or, to be checked later, in numbers. */
-static int answer_no(const struct list *list, bool in_numbers)
-{
-    static const char fails[] =
-        "the library answered no, but its refutation fails the library's own check";
-    size_t n = (size_t)list->variables, length = pack_list(list);
-    uint64_t count = (uint64_t)3 + refutation[1] + refutation[2];
-    if (count > UTVPI_REFUTATION_ROOM(n)) {
-        return disagree(fails);
-    }
-    for (size_t at = 0; at < count; at++) {
-        pack(refutation_bytes + 4 * at, refutation[at], 4);
-    }
-    if (!UTVPI_IS_YES(utvpi_check_refutation(n, list_bytes, length, refutation_bytes,
-                                             4 * (size_t)count))) {
-        return disagree(fails);
-    }
-    if (!identifiers_agree(list, (size_t)count - 3)) {
-        return disagree("the library answered no, but not with the identifiers of its rules");
-    }
-    if (in_numbers) {
-        print_no_in_numbers((size_t)count - 3);
-    } else {
-        print_no(list, refutation, identifiers, "No. No whole numbers meet all the rules.");
-    }
-    return STATUS_NO;
-}
-
-/* How many numbers the work area needs for this list. One with too many variables
- * is refused before its room is looked at. */
-static size_t work_room(const struct list *list)
-{
-    return UTVPI_WORK_ROOM(list->variables <= UTVPI_MOST_VARIABLES ? list->variables : 0);
-}
-
-static int short_of_memory(const struct list *list)
-{
-    fprintf(stderr,
-            "utvpi: %s: there is not enough memory to decide %" PRIu64 " events: %zu bytes are"
-            " needed.\n"
-            "  What to do: free memory, or decide parts that share no event one by one.\n",
-            list->file, list->variables, work_room(list) * sizeof(int64_t));
-    return STATUS_BAD;
-}
-
-/* Decides the list, which the library may refuse. An answer is given only to a
- * list within the limits of the buffers above. */
-static int answer(const struct list *list, bool in_numbers)
-{
-    int64_t *work = malloc(work_room(list) * sizeof *work);
-    if (work == NULL) {
-        return short_of_memory(list);
-    }
-    int64_t result = utvpi_decide(
-        list->variables, numbers_of(list), length_of(list),
-        model, UTVPI_MODEL_ROOM(UTVPI_MOST_VARIABLES),
-        bounds, UTVPI_BOUNDS_ROOM(UTVPI_MOST_VARIABLES),
-        groups, UTVPI_GROUPS_ROOM(UTVPI_MOST_VARIABLES),
-        refutation, UTVPI_REFUTATION_ROOM(UTVPI_MOST_VARIABLES),
-        identifiers, UTVPI_IDENTIFIERS_ROOM(UTVPI_MOST_VARIABLES), work, work_room(list));
-    free(work);
-    if (UTVPI_IS_REFUSAL(result)) {
-        print_refusal(list, list->file, UTVPI_REFUSAL_NUMBER(result),
-                      (size_t)UTVPI_REFUSAL_PLACE(result));
-        return STATUS_BAD;
-    }
-    if (!within_limits(list)) {
-        return disagree("the library answered a list that is beyond its limits");
-    }
-    if (UTVPI_IS_YES(result)) {
-        return answer_yes(list);
-    }
-    return UTVPI_IS_NO(result) ? answer_no(list, in_numbers)
-                               : disagree("the library gave a number that is no answer");
-}
 
 /* Prints the answer on a proposed refutation that is right: yes, unless it names
  * identifiers that are not those of its rules. */
@@ -319,6 +98,7 @@ static int run_check(const struct list *list, const char *file)
 struct command {
     bool help;
     bool in_numbers;
+    bool session;
     bool to_text;
     const char *to_records;
     const char *proposed;
@@ -340,7 +120,7 @@ static int run(const struct command *command)
         } else if (command->to_text || command->to_records != NULL) {
             status = convert(&list, command->to_records);
         } else {
-            status = answer(&list, command->in_numbers);
+            status = answer(&list, command->in_numbers ? IN_NUMBERS : IN_WORDS);
         }
     }
     free(list.numbers);
@@ -378,6 +158,8 @@ static const char *read_arguments(int argc, char **argv, struct command *command
             command->help = true;
         } else if (strcmp(argv[at], "--numbers") == 0) {
             command->in_numbers = true;
+        } else if (strcmp(argv[at], "--session") == 0) {
+            command->session = true;
         } else if (strcmp(argv[at], "--text") == 0) {
             command->to_text = true;
         } else if (strcmp(argv[at], "--write") == 0) {
@@ -389,7 +171,8 @@ static const char *read_arguments(int argc, char **argv, struct command *command
                 return "--check takes one REFUTATION: a file, or - for standard input";
             }
         } else if (argv[at][0] == '-' && argv[at][1] != '\0') {
-            return "there are only the options --check, --numbers, --text, --write and --help";
+            return "there are only the options --check, --numbers, --session, --text, --write and"
+                   " --help";
         } else if (command->file != NULL) {
             return "this takes one FILE, or none for standard input";
         } else {
@@ -402,10 +185,13 @@ static const char *read_arguments(int argc, char **argv, struct command *command
 /* Whether what is asked for fits together. Gives back what does not, or NULL. */
 static const char *suits(const struct command *command)
 {
-    int orders = command->in_numbers + command->to_text + (command->to_records != NULL) +
-                 (command->proposed != NULL);
+    int orders = command->in_numbers + command->session + command->to_text +
+                 (command->to_records != NULL) + (command->proposed != NULL);
     if (orders > 1) {
-        return "give only one of --check, --numbers, --text and --write";
+        return "give only one of --check, --numbers, --session, --text and --write";
+    }
+    if (command->session && !is_standard_input(command->file)) {
+        return "--session reads standard input and takes no FILE";
     }
     if (command->to_records != NULL && command->to_records[0] == '-' &&
         command->to_records[1] != '\0') {
@@ -429,10 +215,12 @@ static const char *read_command(int argc, char **argv, struct command *command)
 
 int main(int argc, char **argv)
 {
-    struct command command = {false, false, false, NULL, NULL, NULL};
+    struct command command = {false, false, false, false, NULL, NULL, NULL};
     const char *wrong_use = read_command(argc, argv, &command);
     if (command.help) {
         fputs(help, stdout);
+        fputs(help_of_session, stdout);
+        putchar('\n');
         fputs(help_of_check, stdout);
         return finish(0);
     }
@@ -440,5 +228,5 @@ int main(int argc, char **argv)
         fprintf(stderr, "utvpi: %s; utvpi --help explains\n", wrong_use);
         return STATUS_BAD;
     }
-    return finish(run(&command));
+    return finish(command.session ? run_session(called(command.file)) : run(&command));
 }

@@ -1,14 +1,15 @@
 /* The library's answer with something altered, for the tests: the command, built with
- * altered_decide in place of utvpi_decide, has to find it. ALTERATION is a statement. */
-#undef utvpi_decide
+ * altered_decide in place of utvpi_decide, and altered_session_add in place of
+ * utvpi_session_add, has to find it. ALTERATION is a statement. */
+#define utvpi_decide altered_decide
+#define utvpi_session_add altered_session_add
 #include "utvpi.h"
+#undef utvpi_decide
+#undef utvpi_session_add
 
-int64_t altered_decide(uint64_t n, const int32_t *list, size_t list_len,
-                       int64_t *model, size_t model_len, int64_t *bounds, size_t bounds_len,
-                       uint32_t *groups, size_t groups_len,
-                       uint32_t *refutation, size_t refutation_len,
-                       uint32_t *identifiers, size_t identifiers_len,
-                       int64_t *work, size_t work_len);
+/* The header declared those that the command calls; the library's are of their types. */
+extern __typeof__(altered_decide) utvpi_decide;
+extern __typeof__(altered_session_add) utvpi_session_add;
 
 int64_t altered_decide(uint64_t n, const int32_t *list, size_t list_len,
                        int64_t *model, size_t model_len, int64_t *bounds, size_t bounds_len,
@@ -21,5 +22,23 @@ int64_t altered_decide(uint64_t n, const int32_t *list, size_t list_len,
                                   groups, groups_len, refutation, refutation_len,
                                   identifiers, identifiers_len, work, work_len);
     ALTERATION;
+    return result;
+}
+
+int64_t altered_session_add(int64_t *state, size_t state_len, utvpi_line line,
+                            int64_t *model, size_t model_len,
+                            int64_t *bounds, size_t bounds_len,
+                            uint32_t *groups, size_t groups_len,
+                            uint32_t *refutation, size_t refutation_len,
+                            uint32_t *identifiers, size_t identifiers_len,
+                            int64_t *work, size_t work_len)
+{
+    size_t n = (size_t)state[0];
+    int64_t result = utvpi_session_add(state, state_len, line, model, model_len, bounds,
+                                       bounds_len, groups, groups_len, refutation,
+                                       refutation_len, identifiers, identifiers_len, work,
+                                       work_len);
+    ALTERATION;
+    (void)n;
     return result;
 }

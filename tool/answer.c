@@ -1,0 +1,259 @@
+/* The library's answers: decides a list, or adds a line to a session; has the answer
+ * checked by the library's two checkers, and prints it. */
+#include "list.h"
+
+#include <inttypes.h>
+#include <stdlib.h>
+
+static int64_t model[UTVPI_MODEL_ROOM(UTVPI_MOST_VARIABLES)];
+static int64_t bounds[UTVPI_BOUNDS_ROOM(UTVPI_MOST_VARIABLES)];
+static uint32_t groups[UTVPI_GROUPS_ROOM(UTVPI_MOST_VARIABLES)];
+static uint32_t refutation[UTVPI_REFUTATION_ROOM(UTVPI_MOST_VARIABLES)];
+static uint32_t identifiers[UTVPI_IDENTIFIERS_ROOM(UTVPI_MOST_VARIABLES)];
+
+/* The list, the model and the refutation as the checkers take them. */
+static uint8_t list_bytes[UTVPI_LINE_BYTES * UTVPI_MOST_LINES];
+static uint8_t model_bytes[8 * UTVPI_MODEL_ROOM(UTVPI_MOST_VARIABLES)];
+static uint8_t refutation_bytes[4 * UTVPI_REFUTATION_ROOM(UTVPI_MOST_VARIABLES)];
+
+/* Writes a number's lowest `bytes` bytes, the lowest first. */
+static void pack(uint8_t *to, uint64_t number, size_t bytes)
+{
+    for (size_t at = 0; at < bytes; at++) {
+        to[at] = (uint8_t)(number >> (8 * at) & 255);
+    }
+}
+
+static size_t pack_list(const struct list *list)
+{
+    for (size_t at = 0; at < length_of(list); at++) {
+        pack(list_bytes + 4 * at, (uint64_t)list->numbers[at], 4);
+    }
+    return UTVPI_LINE_BYTES * list->count;
+}
+
+/* Says that an answer can't be trusted, and why. Gives back the status for that. */
+int disagree(const char *what)
+{
+    fprintf(stderr,
+            "utvpi: %s.\n"
+            "  This answer can't be trusted. It is a fault of the library or of this program,\n"
+            "  not of the file: report it, with the file.\n",
+            what);
+    return STATUS_DISAGREE;
+}
+
+bool within_limits(const struct list *list)
+{
+    return list->variables <= UTVPI_MOST_VARIABLES && list->count <= UTVPI_MOST_LINES;
+}
+
+/* Whether every group is called by an event that is none after its own ones, and that
+ * is called by itself, with plus. */
+static bool groups_exist(size_t n)
+{
+    for (size_t v = 0; v < n; v++) {
+        uint32_t first = groups[2 * v];
+        if (first > v || groups[2 * v + 1] > 1 || groups[2 * (size_t)first] != first ||
+            groups[2 * (size_t)first + 1] != 0) {
+            return false;
+        }
+    }
+    return true;
+}
+
+/* A number with its sign turned; of an absent bound, the one absent on the other side. */
+static int64_t turned(int64_t number)
+{
+    if (number == UTVPI_NO_LEAST || number == UTVPI_NO_GREATEST) {
+        return number == UTVPI_NO_LEAST ? UTVPI_NO_GREATEST : UTVPI_NO_LEAST;
+    }
+    return -number;
+}
+
+/* Whether all events of a group have the value, the least and the greatest of its
+ * first; with a minus the opposite ones, and they are not always 0. */
+static bool groups_agree(size_t n)
+{
+    for (size_t v = 0; v < n; v++) {
+        size_t first = groups[2 * v];
+        bool minus = groups[2 * v + 1] == 1;
+        int64_t value = model[first], least = bounds[2 * first], greatest = bounds[2 * first + 1];
+        if (minus && least == 0 && greatest == 0) {
+            return false;
+        }
+        if (model[v] != (minus ? turned(value) : value) ||
+            bounds[2 * v] != (minus ? turned(greatest) : least) ||
+            bounds[2 * v + 1] != (minus ? turned(least) : greatest)) {
+            return false;
+        }
+    }
+    return true;
+}
+
+/* Prints a yes on the list among n variables, in full or only as such. */
+static int answer_yes(const struct list *list, size_t n, enum manner manner)
+{
+    size_t length = pack_list(list);
+    for (size_t at = 0; at < n; at++) {
+        pack(model_bytes + 8 * at, (uint64_t)model[at], 8);
+    }
+    if (!UTVPI_IS_YES(utvpi_check_model(n, list_bytes, length, model_bytes, 8 * n))) {
+        return disagree("the library answered yes, but its values fail the library's own check");
+    }
+    if (!groups_exist(n)) {
+        return disagree("the library answered yes with a group that does not exist");
+    }
+    if (!groups_agree(n)) {
+        return disagree("the library answered yes, but its groups do not agree with its values");
+    }
+    if (manner == IN_SHORT) {
+        puts("Yes. Whole numbers meet all the rules so far.");
+    } else {
+        print_yes(list, model, bounds, groups);
+    }
+    return STATUS_YES;
+}
+
+/* Whether the identifiers that the library gave for so many steps of its refutation,
+ * which is right, are those of their rules. */
+static bool identifiers_agree(const struct list *list, size_t steps)
+{
+    if (steps > UTVPI_IDENTIFIERS_ROOM(UTVPI_MOST_VARIABLES)) {
+        return false;
+    }
+    for (size_t at = 0; at < steps; at++) {
+        if (identifiers[at] != identifier_of(list, refutation[3 + at])) {
+            return false;
+        }
+    }
+    return true;
+}
+
+/* Prints numbers with a blank between them, after what stands there. */
+static void print_numbers(const char *before, const uint32_t *numbers, size_t count)
+{
+    fputs(before, stdout);
+    for (size_t at = 0; at < count; at++) {
+        printf(at > 0 || before[0] != '\0' ? " %" PRIu32 : "%" PRIu32, numbers[at]);
+    }
+    putchar('\n');
+}
+
+/* Prints a no in numbers: the refutation, of so many steps, and, where some rule has
+ * one, the identifiers of its steps' rules. */
+static void print_no_in_numbers(size_t steps)
+{
+    bool some = false;
+    for (size_t at = 0; at < steps; at++) {
+        some = some || identifiers[at] != 0;
+    }
+    print_numbers("", refutation, 3 + steps);
+    if (some) {
+        print_numbers("identifiers", identifiers, steps);
+    }
+}
+
+/* Prints a no on the list among n variables, in words or, to be checked later, in
+ * numbers. */
+static int answer_no(const struct list *list, size_t n, enum manner manner)
+{
+    static const char fails[] =
+        "the library answered no, but its refutation fails the library's own check";
+    size_t length = pack_list(list);
+    uint64_t count = (uint64_t)3 + refutation[1] + refutation[2];
+    if (count > UTVPI_REFUTATION_ROOM(n)) {
+        return disagree(fails);
+    }
+    for (size_t at = 0; at < count; at++) {
+        pack(refutation_bytes + 4 * at, refutation[at], 4);
+    }
+    if (!UTVPI_IS_YES(utvpi_check_refutation(n, list_bytes, length, refutation_bytes,
+                                             4 * (size_t)count))) {
+        return disagree(fails);
+    }
+    if (!identifiers_agree(list, (size_t)count - 3)) {
+        return disagree("the library answered no, but not with the identifiers of its rules");
+    }
+    if (manner == IN_NUMBERS) {
+        print_no_in_numbers((size_t)count - 3);
+    } else {
+        print_no(list, refutation, identifiers, "No. No whole numbers meet all the rules.");
+    }
+    return STATUS_NO;
+}
+
+/* Has the result of deciding the list among n variables checked, and prints it. An
+ * answer is given only to a list within the limits of the buffers above. */
+int give_answer(const struct list *list, uint64_t n, int64_t result, enum manner manner)
+{
+    if (UTVPI_IS_REFUSAL(result)) {
+        print_refusal(list, list->file, UTVPI_REFUSAL_NUMBER(result),
+                      (size_t)UTVPI_REFUSAL_PLACE(result));
+        return STATUS_BAD;
+    }
+    if (!within_limits(list) || n > UTVPI_MOST_VARIABLES) {
+        return disagree("the library answered a list that is beyond its limits");
+    }
+    if (UTVPI_IS_YES(result)) {
+        return answer_yes(list, (size_t)n, manner);
+    }
+    return UTVPI_IS_NO(result) ? answer_no(list, (size_t)n, manner)
+                               : disagree("the library gave a number that is no answer");
+}
+
+/* How many numbers the work area needs. A list with too many variables is refused
+ * before its room is looked at. */
+static size_t work_room(uint64_t n)
+{
+    return UTVPI_WORK_ROOM(n <= UTVPI_MOST_VARIABLES ? n : 0);
+}
+
+/* A work area for n variables, to be freed; NULL, which is said, where there is not
+ * enough memory. */
+int64_t *take_work_area(const char *file, uint64_t n)
+{
+    int64_t *work = malloc(work_room(n) * sizeof *work);
+    if (work == NULL) {
+        fprintf(stderr,
+                "utvpi: %s: there is not enough memory to decide %" PRIu64 " events: %zu bytes are"
+                " needed.\n"
+                "  What to do: free memory, or decide parts that share no event one by one.\n",
+                file, n, work_room(n) * sizeof *work);
+    }
+    return work;
+}
+
+/* Decides the list, which the library may refuse, and prints the answer. */
+int answer(const struct list *list, enum manner manner)
+{
+    int64_t *work = take_work_area(list->file, list->variables);
+    if (work == NULL) {
+        return STATUS_BAD;
+    }
+    int64_t result = utvpi_decide(
+        list->variables, numbers_of(list), length_of(list),
+        model, UTVPI_MODEL_ROOM(UTVPI_MOST_VARIABLES),
+        bounds, UTVPI_BOUNDS_ROOM(UTVPI_MOST_VARIABLES),
+        groups, UTVPI_GROUPS_ROOM(UTVPI_MOST_VARIABLES),
+        refutation, UTVPI_REFUTATION_ROOM(UTVPI_MOST_VARIABLES),
+        identifiers, UTVPI_IDENTIFIERS_ROOM(UTVPI_MOST_VARIABLES),
+        work, work_room(list->variables));
+    free(work);
+    return give_answer(list, list->variables, result, manner);
+}
+
+/* Adds a line to a session of n variables, whose state has its room and is lent with a
+ * work area for them. Gives back the library's result, for give_answer. */
+int64_t add_to_session(uint64_t n, int64_t *state, const int32_t line[UTVPI_LINE_NUMBERS],
+                       int64_t *work)
+{
+    utvpi_line added = {line[0], line[1], line[2], line[3], line[BOUND], line[IDENTIFIER]};
+    return utvpi_session_add(
+        state, UTVPI_SESSION_ROOM(n), added,
+        model, UTVPI_MODEL_ROOM(UTVPI_MOST_VARIABLES),
+        bounds, UTVPI_BOUNDS_ROOM(UTVPI_MOST_VARIABLES),
+        groups, UTVPI_GROUPS_ROOM(UTVPI_MOST_VARIABLES),
+        refutation, UTVPI_REFUTATION_ROOM(UTVPI_MOST_VARIABLES),
+        identifiers, UTVPI_IDENTIFIERS_ROOM(UTVPI_MOST_VARIABLES), work, work_room(n));
+}
