@@ -3,7 +3,8 @@
 use crate::buffers::Buffers;
 use crate::chance::Chance;
 use crate::library;
-use crate::lines::{List, IDENTIFIER, MOST_IDENTIFIER, MOST_LINES, MOST_VARIABLES};
+use crate::limits::{MOST_IDENTIFIER, MOST_LINES, MOST_VARIABLES};
+use crate::lines::{List, IDENTIFIER};
 use crate::lists::{
     all_count, chain, grid, halves_apart, hub, lone_lines, met, negative_cycle, sparse, tied,
     Hidden, Order,

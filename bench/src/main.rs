@@ -12,6 +12,7 @@ mod families;
 mod finish;
 mod johnson;
 mod library;
+mod limits;
 mod lines;
 mod lists;
 mod multiples;
