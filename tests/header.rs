@@ -41,27 +41,37 @@ pub fn link() {
 }
 
 /// Writes what the header defines under these names, given without UTVPI_, as constants,
-/// and the rooms of the buffers as a function, for src/limits.rs to take in.
+/// and the rooms of the buffers and of a session's state as functions, for src/limits.rs
+/// to take in.
 pub fn write_limits(names: &[&str]) {
     let header = root().join("include/utvpi.h");
     println!("cargo:rerun-if-changed={}", header.display());
     let text = fs::read_to_string(&header)
         .unwrap_or_else(|why| panic!("{} can't be read: {why}", header.display()));
-    let constant = |name: &&str| {
-        let formula = defined(&text, name);
-        format!("{ALLOW}pub const {name}: usize = {formula};\n")
-    };
-    let constants: String = names.iter().map(constant).collect();
-    let rooms = ROOMS.map(|name| defined(&text, &format!("{name}(n)")));
-    let (count, rooms) = (rooms.len(), rooms.join(", "));
-    let rooms =
-        format!("{ALLOW}pub const fn rooms(n: usize) -> [usize; {count}] {{\n    [{rooms}]\n}}\n");
+    let of_n = |name: &str| defined(&text, &format!("{name}(n)"));
+    let mut items: Vec<String> = Vec::new();
+    for name in names {
+        items.push(format!("const {name}: usize = {};", defined(&text, name)));
+    }
+    let (count, rooms) = (ROOMS.len(), ROOMS.map(of_n).join(", "));
+    items.push(format!(
+        "const fn rooms(n: usize) -> [usize; {count}] {{ [{rooms}] }}"
+    ));
+    let room = of_n("SESSION_ROOM");
+    items.push(format!(
+        "const fn session_room(n: usize) -> usize {{ {room} }}"
+    ));
+    let rust: String = items
+        .iter()
+        .map(|item| format!("{ALLOW}\npub {item}\n"))
+        .collect();
     let out = PathBuf::from(env::var_os("OUT_DIR").unwrap());
-    fs::write(out.join("limits.rs"), constants + &rooms).unwrap();
+    fs::write(out.join("limits.rs"), rust).unwrap();
 }
 
-/// The header has more parentheses than Rust asks for.
-const ALLOW: &str = "#[allow(unused_parens, clippy::double_parens)]\n";
+/// The header has more parentheses than Rust asks for, and the room of a state is the same
+/// for each n.
+const ALLOW: &str = "#[allow(unused_parens, unused_variables, clippy::double_parens)]";
 
 /// The formula that the header defines under a name, given without UTVPI_.
 fn defined(header: &str, name: &str) -> String {

@@ -4,8 +4,8 @@
 // MOST_VARIABLES, MOST_LINES, MOST_REFUTATION and MOST_IDENTIFIER; MOST_STACK, the most
 // bytes of stack that a call takes; LINE_NUMBERS; of files RECORD_HEAD, VARIABLES_BYTES,
 // KIND_VARIABLES, KIND_LINE, KIND_END and KIND_IDENTIFIED_LINE; of results NO and
-// REFUSAL_UNIT; and rooms(n), the room that each buffer of deciding needs, in their
-// order: build.rs reads them.
+// REFUSAL_UNIT; rooms(n), the room that each buffer of deciding needs, in their order;
+// and session_room(n), that of a session's state: build.rs reads them.
 include!(concat!(env!("OUT_DIR"), "/limits.rs"));
 
 /// The most variables, as n is given, and the number of the last of them.
