@@ -1,6 +1,6 @@
 //! Tells the linker where the static library is, and the benchmark the limits of a list,
-//! the numbers of a line, a no and the rooms of the buffers, from the header, by the same
-//! code as the tests.
+//! the numbers of a line, a no and the rooms of the buffers and of a session's state, from
+//! the header, by the same code as the tests.
 
 #[path = "../tests/header.rs"]
 mod header;

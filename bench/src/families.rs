@@ -52,6 +52,9 @@ const LARGE: Size = Size {
 /// Few variables, with the most lines.
 const FEW: [usize; 2] = [4, 32];
 
+/// Families of lists that can hold, or of which some can, to which sessions add lines.
+pub const OF_SESSIONS: [&str; 2] = [SPARSE, DENSE.0];
+
 /// A name, and a list of so many variables and lines.
 type Shape = (&'static str, fn(&mut Chance, usize, usize) -> List);
 
