@@ -1,7 +1,7 @@
 //! What the whole table comes to.
 
 use crate::families::SPARSE;
-use crate::lines::MOST_VARIABLES;
+use crate::limits::MOST_VARIABLES;
 use crate::multiples::{best, milliseconds, multiple, shown, sum};
 use crate::report::Row;
 use crate::ways::{LIBRARY, SAME_METHOD, THREE_LOOPS};

@@ -1,7 +1,6 @@
 //! The buffers that deciding is lent.
 
-// rooms(n), the room that each needs, in their order: build.rs reads it from the header.
-include!(concat!(env!("OUT_DIR"), "/rooms.rs"));
+use crate::limits::rooms;
 
 pub struct Buffers {
     pub model: Vec<i64>,

@@ -3,7 +3,8 @@
 use crate::buffers::Buffers;
 use crate::chance::Chance;
 use crate::library;
-use crate::lines::{List, IDENTIFIER, MOST_IDENTIFIER, MOST_LINES, MOST_VARIABLES};
+use crate::limits::{MOST_IDENTIFIER, MOST_LINES, MOST_VARIABLES};
+use crate::lines::{List, IDENTIFIER};
 use crate::lists::{
     all_count, chain, grid, halves_apart, hub, lone_lines, met, negative_cycle, sparse, tied,
     Hidden, Order,
@@ -50,6 +51,9 @@ const LARGE: Size = Size {
 
 /// Few variables, with the most lines.
 const FEW: [usize; 2] = [4, 32];
+
+/// Families of lists that can hold, or of which some can, to which sessions add lines.
+pub const OF_SESSIONS: [&str; 2] = [SPARSE, DENSE.0];
 
 /// A name, and a list of so many variables and lines.
 type Shape = (&'static str, fn(&mut Chance, usize, usize) -> List);

@@ -1,7 +1,8 @@
 //! From the table of least sums to an answer: what every plain way does at its end.
 
 use crate::buffers::Buffers;
-use crate::lines::{Line, NO};
+use crate::limits::NO;
+use crate::lines::Line;
 use crate::potentials::NegativeWalk;
 use crate::refutation::Refutation;
 use crate::rows::least_walk;
@@ -19,7 +20,7 @@ pub fn decide(n: usize, list: &[Line], sums: Sums, out: &mut Buffers) -> i64 {
         Ok(()) => 0,
         Err(refutation) => {
             refutation.write(list, out);
-            NO
+            NO as i64
         }
     }
 }

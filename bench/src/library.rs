@@ -3,6 +3,17 @@
 use crate::buffers::Buffers;
 use crate::lines::Line;
 
+/// A line, as a session is handed it.
+#[repr(C)]
+struct LineByValue {
+    a: i32,
+    x: i32,
+    b: i32,
+    y: i32,
+    d: i32,
+    identifier: i32,
+}
+
 extern "C" {
     fn utvpi_decide(
         n: u64,
@@ -21,6 +32,24 @@ extern "C" {
         work: *mut i64,
         work_len: usize,
     ) -> i64;
+    fn utvpi_session_add(
+        state: *mut i64,
+        state_len: usize,
+        line: LineByValue,
+        model: *mut i64,
+        model_len: usize,
+        bounds: *mut i64,
+        bounds_len: usize,
+        groups: *mut u32,
+        groups_len: usize,
+        refutation: *mut u32,
+        refutation_len: usize,
+        identifiers: *mut u32,
+        identifiers_len: usize,
+        work: *mut i64,
+        work_len: usize,
+    ) -> i64;
+    fn utvpi_session_withdraw(state: *mut i64, state_len: usize) -> i64;
     fn utvpi_check_refutation(
         n: u64,
         list: *const u8,
@@ -55,6 +84,51 @@ pub fn decide(n: usize, list: &[Line], out: &mut Buffers) -> i64 {
     };
     assert!(result >= 0, "the library refuses with {result}");
     result
+}
+
+/// Adds a line that must not be refused to the session with this state.
+pub fn add(state: &mut [i64], line: Line, out: &mut Buffers) -> i64 {
+    let [a, x, b, y, d, identifier] = line;
+    let line = LineByValue {
+        a,
+        x,
+        b,
+        y,
+        d,
+        identifier,
+    };
+    // The function stays within the lengths and keeps no pointer.
+    let result = unsafe {
+        utvpi_session_add(
+            state.as_mut_ptr(),
+            state.len(),
+            line,
+            out.model.as_mut_ptr(),
+            out.model.len(),
+            out.bounds.as_mut_ptr(),
+            out.bounds.len(),
+            out.groups.as_mut_ptr(),
+            out.groups.len(),
+            out.refutation.as_mut_ptr(),
+            out.refutation.len(),
+            out.identifiers.as_mut_ptr(),
+            out.identifiers.len(),
+            out.work.as_mut_ptr(),
+            out.work.len(),
+        )
+    };
+    assert!(result >= 0, "the library refuses a line with {result}");
+    result
+}
+
+/// Takes the last line of a session away, which must have one.
+pub fn withdraw(state: &mut [i64]) {
+    // The function stays within the length and keeps no pointer.
+    let result = unsafe { utvpi_session_withdraw(state.as_mut_ptr(), state.len()) };
+    assert!(
+        result == 0,
+        "the library withdraws no line but refuses with {result}"
+    );
 }
 
 /// Whether the checker accepts the refutation at the buffer's front.

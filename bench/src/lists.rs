@@ -1,7 +1,8 @@
 //! Lists of many shapes.
 
 use crate::chance::Chance;
-use crate::lines::{line, lone, Line, List, GREATEST_BOUND};
+use crate::limits::GREATEST_BOUND;
+use crate::lines::{line, lone, Line, List};
 
 /// The greatest bound of most lists, and the greatest hidden value.
 const HIGH: i32 = 1_000;

@@ -1,7 +1,8 @@
 //! Times deciding: the library and some ways in plain Rust, on the same lists, in
 //! one run. All of them write all outputs, the identifiers of a refutation's steps
 //! among them, and clear the work area, and each answer is compared. Multiples are of
-//! the library's time to the others'.
+//! the library's time to the others'. Then adding a line to a session, beside deciding
+//! all its lines.
 
 mod bars;
 mod buffers;
@@ -12,6 +13,7 @@ mod families;
 mod finish;
 mod johnson;
 mod library;
+mod limits;
 mod lines;
 mod lists;
 mod multiples;
@@ -23,6 +25,7 @@ mod refutation;
 mod report;
 mod rounds;
 mod rows;
+mod sessions;
 mod steps;
 mod table;
 mod three_loops;
@@ -53,15 +56,18 @@ fn most_lists() -> usize {
 fn main() {
     let most = most_lists();
     let mut bars = Bars::default();
+    let families = families(most);
     report::print_head();
-    for family in families(most) {
+    for family in &families {
         let timed = family.lists.iter().map(|list| times(family.n, list));
         let lists: Vec<_> = timed.collect();
-        for row in report::rows(&family, &lists) {
+        for row in report::rows(family, &lists) {
             row.print();
             bars.note(&row);
         }
     }
     println!();
     bars.print();
+    println!();
+    sessions::print(&families);
 }

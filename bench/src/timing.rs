@@ -12,12 +12,12 @@ use crate::ways::WAYS;
 pub type Times = [f64; WAYS.len()];
 
 /// A way is tried so often on a list, or until it has taken so many seconds.
-const TRIES: usize = 20;
-const LONG: f64 = 0.06;
+pub const TRIES: usize = 20;
+pub const LONG: f64 = 0.06;
 
 /// What must be the same from all ways.
 #[derive(Clone, PartialEq)]
-struct Answer {
+pub struct Answer {
     result: i64,
     model: Vec<i64>,
     bounds: Vec<i64>,
@@ -26,7 +26,7 @@ struct Answer {
 }
 
 /// The answer, where what need not be the same is right too.
-fn answer(name: &str, n: usize, list: &[Line], result: i64, out: &Buffers) -> Answer {
+pub fn answer(name: &str, n: usize, list: &[Line], result: i64, out: &Buffers) -> Answer {
     let cleared = out.work.iter().all(|&number| number == 0);
     assert!(cleared, "{name} leaves numbers in the work area");
     let refuted = result == 0 || refutes(n, list, &out.refutation);

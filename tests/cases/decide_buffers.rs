@@ -5,7 +5,7 @@
 
 use std::thread;
 
-use utvpi_tests::buffers::{needed, Buffers, Lengths, BUFFERS, OUTPUTS};
+use utvpi_tests::buffers::{cut_by, needed, Buffers, BUFFERS, OUTPUTS};
 use utvpi_tests::chance::Chance;
 use utvpi_tests::closure;
 use utvpi_tests::damage::{damaged_list, refused_lists};
@@ -27,12 +27,6 @@ fn some_list(chance: &mut Chance) -> (u64, Vec<Line>) {
         }
         _ => small(chance),
     }
-}
-
-/// These lengths, each one less where this number has its bit; but a buffer of no
-/// numbers can't be shorter.
-fn cut_by(full: Lengths, short: usize) -> Lengths {
-    std::array::from_fn(|at| full[at].saturating_sub(short >> at & 1))
 }
 
 /// Each set of buffers may be one too short: the first short output is named,

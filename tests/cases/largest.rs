@@ -1,6 +1,7 @@
 //! Lists of the most variables and the most lines: decided and compared with
 //! another method, written to a file and read back, their refutations taken in
-//! pieces; and every call on one of them in a thread with little stack.
+//! pieces; and every call on one of them in a thread with little stack, those of a
+//! session too.
 
 use std::thread;
 
@@ -19,6 +20,7 @@ use utvpi_tests::lines::{identify, line, lone, zero, Line};
 use utvpi_tests::make_lists::Shape;
 use utvpi_tests::records::{self, List};
 use utvpi_tests::second::Answer;
+use utvpi_tests::sessions::Session;
 
 /// The decision on a list of the most variables and lines, which both checkers
 /// have accepted, after making sure that another method answers the same, that
@@ -183,8 +185,17 @@ fn random_lists() {
 /// What a thread itself takes of its stack, beside the calls.
 const OWN_STACK: usize = 16 * 1024;
 
-/// Every call on the largest list, in a thread that has no more stack than the
-/// header asks for: a call that takes more ends the whole test.
+/// What this does, in a thread that has no more stack than the header asks for: a call
+/// that takes more ends the whole test.
+fn with_little_stack<T: Send>(calls: impl FnOnce() -> T + Send) -> T {
+    let little = thread::Builder::new().stack_size(MOST_STACK + OWN_STACK);
+    thread::scope(|scope| {
+        let calls = little.spawn_scoped(scope, calls);
+        calls.unwrap().join().unwrap()
+    })
+}
+
+/// Every call on the largest list.
 #[test]
 fn little_stack() {
     let lines = largest();
@@ -195,23 +206,40 @@ fn little_stack() {
     let mut file = vec![0; size];
     let mut again = vec![0; MOST_NUMBERS];
     let mut buffers = Buffers::new(&mut Chance::new(114), needed(MOST_N));
-    let calls = thread::Builder::new().stack_size(MOST_STACK + OWN_STACK);
-    let results = thread::scope(|scope| {
-        let calls = calls.spawn_scoped(scope, || {
-            let kept = library::refutation_take(library::refutation_begin(), &numbers, 1);
-            [
-                library::check_model(MOST_N, &packed, &values),
-                library::check_refutation(MOST_N, &packed, &proposed),
-                library::refutation_end(kept, MOST_N, &numbers),
-                library::write_list(MOST_N, &numbers, &mut file).bytes as i64,
-                library::read_list(&file, &mut again).lines as i64,
-                buffers.call(MOST_N, &numbers),
-            ]
-        });
-        calls.unwrap().join().unwrap()
+    let results = with_little_stack(|| {
+        let kept = library::refutation_take(library::refutation_begin(), &numbers, 1);
+        [
+            library::check_model(MOST_N, &packed, &values),
+            library::check_refutation(MOST_N, &packed, &proposed),
+            library::refutation_end(kept, MOST_N, &numbers),
+            library::write_list(MOST_N, &numbers, &mut file).bytes as i64,
+            library::read_list(&file, &mut again).lines as i64,
+            buffers.call(MOST_N, &numbers),
+        ]
     });
     let [at_0, at_3] = [0, 3].map(|place| Answer::No(place).code());
     let due = [0, at_3, at_0, size as i64, MOST_LINES as i64, 0];
     assert_eq!(results, due);
     assert_eq!(again, numbers);
+}
+
+/// The calls of a session: its start, and the last line that it may have.
+#[test]
+fn little_stack_in_a_session() {
+    let mut lines = largest();
+    let last = lines.pop().unwrap();
+    let mut session = Session::new(MOST_N);
+    let mut started = vec![-1; session.room()];
+    session.lines = lines;
+    let mut state = session.state();
+    let mut buffers = Buffers::new(&mut Chance::new(117), needed(MOST_N));
+    let results = with_little_stack(|| {
+        [
+            library::session_start(MOST_N, &mut started),
+            buffers.add(&mut state, last),
+            library::session_withdraw(&mut state),
+        ]
+    });
+    assert_eq!(results, [0; 3]);
+    assert!(started == Session::new(MOST_N).state() && state == session.state());
 }

@@ -4,6 +4,7 @@
 use crate::chance::Chance;
 use crate::library::{self, Lent};
 use crate::limits::rooms;
+use crate::lines::Line;
 
 /// How many numbers lie before and behind what is lent.
 const GUARD: usize = 16;
@@ -21,6 +22,12 @@ pub const GROUPS: usize = 2;
 /// The lengths that n variables, at most MOST_VARIABLES, ask for.
 pub fn needed(n: u64) -> Lengths {
     rooms(n as usize)
+}
+
+/// These lengths, each one less where this number has its bit; but a buffer of no
+/// numbers can't be shorter.
+pub fn cut_by(full: Lengths, short: usize) -> Lengths {
+    std::array::from_fn(|at| full[at].saturating_sub(short >> at & 1))
 }
 
 /// The numbers that are lent and the guards around them.
@@ -45,6 +52,16 @@ impl<T: Copy> Guarded<T> {
 
     pub fn lent_mut(&mut self) -> &mut [T] {
         &mut self.whole[GUARD..GUARD + self.length]
+    }
+
+    /// Whether what lies before and behind what is lent is the same.
+    pub fn has_guards_of(&self, other: &Guarded<T>) -> bool
+    where
+        T: PartialEq,
+    {
+        let guards =
+            |of: &Guarded<T>| [&of.whole[..GUARD], &of.whole[GUARD + of.length..]].concat();
+        guards(self) == guards(other)
     }
 }
 
@@ -102,16 +119,25 @@ impl Buffers {
         ]
     }
 
-    /// The result of deciding a list in these buffers.
-    pub fn call(&mut self, n: u64, list: &[i32]) -> i64 {
-        let lent = Lent {
+    /// All of them, for one call.
+    fn lent(&mut self) -> Lent<'_> {
+        Lent {
             model: self.model.lent_mut(),
             bounds: self.bounds.lent_mut(),
             groups: self.groups.lent_mut(),
             refutation: self.refutation.lent_mut(),
             identifiers: self.identifiers.lent_mut(),
             work: self.work.lent_mut(),
-        };
-        library::decide(n, list, lent)
+        }
+    }
+
+    /// The result of deciding a list in these buffers.
+    pub fn call(&mut self, n: u64, list: &[i32]) -> i64 {
+        library::decide(n, list, self.lent())
+    }
+
+    /// The result of adding a line to the session with this state, in these buffers.
+    pub fn add(&mut self, state: &mut [i64], line: Line) -> i64 {
+        library::session_add(state, line, self.lent())
     }
 }

@@ -1,5 +1,7 @@
 //! Damages input in all the ways in which a file or a program may get it wrong.
 
+use std::ops::Range;
+
 use crate::chance::Chance;
 use crate::limits::{EDGE_IDENTIFIERS, LAST_IDENTIFIER, NO_IDENTIFIERS};
 use crate::limits::{LARGEST_BOUND, LARGEST_VALUE, LAST_VARIABLE, LINE_BYTES, LINE_NUMBERS};
@@ -229,11 +231,14 @@ fn damage_number(chance: &mut Chance, n: u64, list: &mut [i32]) {
 /// number with a bit for each.
 const LINE_REFUSALS: [u8; 4] = [4, 5, 6, 13];
 
+/// All sets, the empty one first.
+pub fn fault_sets() -> Range<usize> {
+    0..1 << LINE_REFUSALS.len()
+}
+
 /// Every two sets.
 pub fn all_faults() -> impl Iterator<Item = (usize, usize)> {
-    let sets = 0..1 << LINE_REFUSALS.len();
-    sets.clone()
-        .flat_map(move |one| sets.clone().map(move |two| (one, two)))
+    fault_sets().flat_map(|one| fault_sets().map(move |two| (one, two)))
 }
 
 /// The first refusal of a set.

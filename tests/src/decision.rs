@@ -81,30 +81,58 @@ pub fn decide_in(buffers: &mut Buffers, n: u64, list: &[i32]) -> Decision {
     let before = buffers.clone();
     let old_list = list.to_vec();
     let result = buffers.call(n, list);
-    let shown = || format!("n: {n}\nlist: {list:?}");
-    assert!(list == old_list, "the list was written to\n{}", shown());
-    let mut allowed = before.clone();
+    assert!(list == old_list, "the list was written to: {old_list:?}");
     let due = second::decide_refusal(n, list, before.lengths());
-    let decision = match (due, result) {
-        (Some(refused), _) => {
-            assert_eq!(result, refused.code(), "{refused:?} is due\n{}", shown());
-            let Answer::Refused(number, place) = refused else {
-                unreachable!()
-            };
-            Decision::only(Verdict::Refused(number, place))
-        }
-        (None, 0) => yes(n, list, buffers, &mut allowed),
-        (None, A_NO) => no(n, list, buffers, &mut allowed),
-        (None, _) => panic!("the result is {result}\n{}", shown()),
+    let call = Call {
+        n,
+        list,
+        due,
+        result,
     };
-    if *buffers != allowed {
-        let place = first_difference(buffers, &allowed);
-        panic!(
-            "result {result}, and {place} is not as it must be\n{}",
-            shown()
-        );
+    call.decision(&before, buffers)
+}
+
+/// A call that decides a list, what it is to be refused with, if it is to, and what it
+/// returned.
+pub struct Call<'a> {
+    pub n: u64,
+    pub list: &'a [i32],
+    pub due: Option<Answer>,
+    pub result: i64,
+}
+
+impl Call<'_> {
+    /// The decision, where the buffers held this before the call and that after it.
+    pub fn decision(&self, before: &Buffers, buffers: &Buffers) -> Decision {
+        let Call {
+            n,
+            list,
+            due,
+            result,
+        } = *self;
+        let shown = || format!("n: {n}\nlist: {list:?}");
+        let mut allowed = before.clone();
+        let decision = match (due, result) {
+            (Some(refused), _) => {
+                assert_eq!(result, refused.code(), "{refused:?} is due\n{}", shown());
+                let Answer::Refused(number, place) = refused else {
+                    unreachable!()
+                };
+                Decision::only(Verdict::Refused(number, place))
+            }
+            (None, 0) => yes(n, list, buffers, &mut allowed),
+            (None, A_NO) => no(n, list, buffers, &mut allowed),
+            (None, _) => panic!("the result is {result}\n{}", shown()),
+        };
+        if *buffers != allowed {
+            let place = first_difference(buffers, &allowed);
+            panic!(
+                "result {result}, and {place} is not as it must be\n{}",
+                shown()
+            );
+        }
+        decision
     }
-    decision
 }
 
 /// Reads a yes, and lets `allowed` have what may be written with it.

@@ -19,6 +19,8 @@ pub mod make_lists;
 pub mod records;
 pub mod second;
 pub mod seen;
+pub mod session_calls;
+pub mod sessions;
 
 use limits::NUMBER_BYTES;
 use second::Answer;

@@ -1,4 +1,6 @@
-//! The library under test: its eight C functions, and safe functions over them.
+//! The library under test: its eleven C functions, and safe functions over them.
+
+use crate::lines::Line;
 
 /// What the check of a refutation keeps between two numbers. `good` is 1 as long as
 /// nothing was wrong.
@@ -36,6 +38,17 @@ pub struct FileWritten {
     pub bytes: u64,
 }
 
+/// A line, as a session is handed it.
+#[repr(C)]
+struct LineByValue {
+    a: i32,
+    x: i32,
+    b: i32,
+    y: i32,
+    d: i32,
+    identifier: i32,
+}
+
 extern "C" {
     fn utvpi_check_model(
         n: u64,
@@ -70,6 +83,28 @@ extern "C" {
         work: *mut i64,
         work_len: usize,
     ) -> i64;
+
+    fn utvpi_session_start(n: u64, state: *mut i64, state_len: usize) -> i64;
+
+    fn utvpi_session_add(
+        state: *mut i64,
+        state_len: usize,
+        line: LineByValue,
+        model: *mut i64,
+        model_len: usize,
+        bounds: *mut i64,
+        bounds_len: usize,
+        groups: *mut u32,
+        groups_len: usize,
+        refutation: *mut u32,
+        refutation_len: usize,
+        identifiers: *mut u32,
+        identifiers_len: usize,
+        work: *mut i64,
+        work_len: usize,
+    ) -> i64;
+
+    fn utvpi_session_withdraw(state: *mut i64, state_len: usize) -> i64;
 
     fn utvpi_refutation_begin() -> Progress;
 
@@ -153,6 +188,51 @@ pub fn decide(n: u64, list: &[i32], lent: Lent) -> i64 {
             lent.work.len(),
         )
     }
+}
+
+/// The result of `utvpi_session_start`.
+pub fn session_start(n: u64, state: &mut [i64]) -> i64 {
+    // The function stays within the length and keeps no pointer.
+    unsafe { utvpi_session_start(n, state.as_mut_ptr(), state.len()) }
+}
+
+/// The result of `utvpi_session_add`.
+pub fn session_add(state: &mut [i64], line: Line, lent: Lent) -> i64 {
+    let [a, x, b, y, d, identifier] = line;
+    let line = LineByValue {
+        a,
+        x,
+        b,
+        y,
+        d,
+        identifier,
+    };
+    // The function stays within the lengths and keeps no pointer.
+    unsafe {
+        utvpi_session_add(
+            state.as_mut_ptr(),
+            state.len(),
+            line,
+            lent.model.as_mut_ptr(),
+            lent.model.len(),
+            lent.bounds.as_mut_ptr(),
+            lent.bounds.len(),
+            lent.groups.as_mut_ptr(),
+            lent.groups.len(),
+            lent.refutation.as_mut_ptr(),
+            lent.refutation.len(),
+            lent.identifiers.as_mut_ptr(),
+            lent.identifiers.len(),
+            lent.work.as_mut_ptr(),
+            lent.work.len(),
+        )
+    }
+}
+
+/// The result of `utvpi_session_withdraw`.
+pub fn session_withdraw(state: &mut [i64]) -> i64 {
+    // The function stays within the length and keeps no pointer.
+    unsafe { utvpi_session_withdraw(state.as_mut_ptr(), state.len()) }
 }
 
 /// The result of `utvpi_refutation_begin`.

@@ -1,0 +1,113 @@
+//! A second implementation of sessions: the lines in a vector, from which the numbers of
+//! the state are written, and into which any numbers are read. It was written from the
+//! description alone and shares nothing with the library.
+
+use crate::buffers::Lengths;
+use crate::limits::{session_room, LINE_NUMBERS, MOST_LINES, MOST_N};
+use crate::lines::Line;
+use crate::second::{decide_refusal, Answer};
+
+/// The numbers of a state before those of its lines: n, how many lines there are, and
+/// whether the last answer was a no.
+pub const HEAD: usize = 3;
+pub const VARIABLES: usize = 0;
+pub const COUNT: usize = 1;
+pub const FLAG: usize = 2;
+
+/// What numbers that are no state, or too few for one, are refused with.
+pub const NO_STATE: Answer = Answer::Refused(7, 6);
+
+/// What a session is to hold.
+#[derive(Clone, Debug, PartialEq, Eq)]
+pub struct Session {
+    pub n: u64,
+    pub lines: Vec<Line>,
+    /// Whether the last answer was a no.
+    pub refuted: bool,
+}
+
+impl Session {
+    /// A session of n variables and no lines.
+    pub fn new(n: u64) -> Session {
+        Session {
+            n,
+            lines: Vec::new(),
+            refuted: false,
+        }
+    }
+
+    pub fn room(&self) -> usize {
+        session_room(self.n as usize)
+    }
+
+    /// The numbers of its state.
+    pub fn state(&self) -> Vec<i64> {
+        let mut numbers = vec![-1; self.room()];
+        self.write(&mut numbers);
+        numbers
+    }
+
+    /// Writes its state to the front of these numbers.
+    pub fn write(&self, numbers: &mut [i64]) {
+        let (head, rest) = numbers[..self.room()].split_at_mut(HEAD);
+        let (lines, behind) = rest.split_at_mut(LINE_NUMBERS * self.lines.len());
+        head[VARIABLES] = self.n as i64;
+        head[COUNT] = self.lines.len() as i64;
+        head[FLAG] = i64::from(self.refuted);
+        for (to, &number) in lines.iter_mut().zip(self.lines.as_flattened()) {
+            *to = i64::from(number);
+        }
+        behind.fill(0);
+    }
+
+    /// The session that these numbers are taken for, if they are taken for one.
+    pub fn read(numbers: &[i64]) -> Option<Session> {
+        let [n, count, flag] = *numbers.first_chunk::<HEAD>()?;
+        let n = u64::try_from(n).ok().filter(|&n| n <= MOST_N)?;
+        let most = MOST_LINES as i64;
+        if !(0..=most).contains(&count) || numbers.len() < session_room(n as usize) {
+            return None;
+        }
+        let refuted = match flag {
+            0 => false,
+            1 => true,
+            _ => return None,
+        };
+        let numbers = numbers[HEAD..].iter().take(LINE_NUMBERS * count as usize);
+        let numbers = numbers.map(|&number| i32::try_from(number).ok());
+        let numbers = numbers.collect::<Option<Vec<i32>>>()?;
+        let lines = numbers.chunks(LINE_NUMBERS);
+        let lines = lines.map(|line| line.try_into().unwrap()).collect();
+        Some(Session { n, lines, refuted })
+    }
+
+    /// Its lines and one more.
+    pub fn with(&self, line: Line) -> Vec<Line> {
+        [&self.lines[..], &[line]].concat()
+    }
+
+    /// What adding this line is to be refused with, if it is to, in buffers of these
+    /// lengths.
+    pub fn add_refusal(&self, line: Line, lengths: Lengths) -> Option<Answer> {
+        if self.refuted {
+            Some(Answer::Refused(30, 0))
+        } else if self.lines.len() >= MOST_LINES {
+            Some(Answer::Refused(3, 0))
+        } else {
+            decide_refusal(self.n, self.with(line).as_flattened(), lengths)
+        }
+    }
+
+    /// Adds a line, where the answer to all of them is a no or a yes.
+    pub fn add(&mut self, line: Line, refuted: bool) {
+        self.lines.push(line);
+        self.refuted = refuted;
+    }
+
+    /// Takes the last line away, or says what that is refused with.
+    pub fn withdraw(&mut self) -> Result<(), Answer> {
+        self.lines.pop().ok_or(Answer::Refused(31, 0))?;
+        self.refuted = false;
+        Ok(())
+    }
+}
