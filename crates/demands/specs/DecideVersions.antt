@@ -11,7 +11,7 @@ use Rattle.integers.specs.Laws.{never}
 use Rattle.integers.specs.Sequence.{tabulate}
 use Rattle.integers.specs.Lowest.{lowest}
 use Rattle.lines.specs.declared.Line.{Line}
-use Rattle.lines.specs.declared.Refusal.the-variants.{TooManyVariables, BrokenLength, TooManyLines, BadCoefficient, BadVariable, BadConstant, ShortOutput}
+use Rattle.lines.specs.declared.Refusal.the-variants.{TooManyVariables, BrokenLength, TooManyLines, BadCoefficient, BadVariable, BadConstant, ShortOutput, ShortWorkArea}
 use Rattle.lines.specs.declared.Validity.{Validity}
 use Rattle.lines.specs.declared.Validity.the-variants as validity
 use Rattle.lines.specs.Limits.{lineSize, maxVariables, maxLines, maxConstant}
@@ -41,7 +41,7 @@ use Rattle.theory_bounds.specs.Verdict.{hasFalse, firstFalse, distances, consis
 use Rattle.theory_bounds.specs.Answers.{modelOf, boundsOf, samePoints, groupPoint, groupsOf}
 use Rattle.theory_answers.specs.Refuted.{Due, due-refutation}
 use Rattle.theory_answers.specs.Decided.{due-accepted}
-use Rattle.decide_buffers.specs.Room.{Lent, lengthsOf, modelRoom, boundsRoom, groupsRoom, refutationRoom, identifiersRoom, workRoom, outputRooms, workRooms, firstShort, roomsValidity, decideValidity}
+use Rattle.decide_buffers.specs.Room.{Lent, lengthsOf, modelRoom, boundsRoom, groupsRoom, refutationRoom, identifiersRoom, workRoom, Room, outputRooms, workRooms, lentRooms, firstShort, roomsValidity, decideValidity}
 use Rattle.decide_identifiers.specs.Identifiers.{stepAt, identifiersOf, length-identifiers}
 use Rattle.decide.specs.declared.Answer.{Answer}
 use Rattle.decide.specs.declared.Answer.the-variants.{Yes, No, Refused}
@@ -228,6 +228,40 @@ unfolding namesLastShort decideAnswer decideValidity roomsValidity validityOf li
 names-last-short-breaks k =
     let e : Refused (ShortOutput 5) ≡ Refused (ShortOutput 1) = k 1 [] (room 0) .is in
     let p : _≡_ {A = ℕ} 5 1 = cc in absurd (omega arith)
+
+-- buffers for one variable, but for buffer number k, which has the room of none: 1 is the model, then bounds, groups, refutation, identifiers, work area
+abbrev variablesBut : ℕ → ℕ → ℕ
+variablesBut k j = cond (eqb j k) 0 1
+
+abbrev shortAt : ℕ → Lent
+shortAt k =
+    record {
+      model = replicate (modelRoom (variablesBut k 1)) (pos 0);
+      bounds = replicate (boundsRoom (variablesBut k 2)) (pos 0);
+      groups = replicate (groupsRoom (variablesBut k 3)) 0;
+      refutation = replicate (refutationRoom (variablesBut k 4)) 0;
+      identifiers = replicate (identifiersRoom (variablesBut k 5)) 0;
+      work = replicate (workRoom (variablesBut k 6)) (pos 0);
+    }
+
+-- each buffer that alone is short has its own refusal and place
+pub each-short-named : map (λ k. answerFor 1 [] (shortAt k)) (1 ∷ 2 ∷ 3 ∷ 4 ∷ 5 ∷ 6 ∷ [])
+    ≡ map Refused (ShortOutput 1 ∷ ShortOutput 2 ∷ ShortOutput 3 ∷ ShortOutput 4 ∷ ShortOutput 5 ∷ ShortWorkArea ∷ [])
+unfolding decideAnswer decideValidity roomsValidity validityOf linesValidity
+each-short-named = refl
+
+-- short groups it reports as short bounds
+abbrev groupsAsBounds : List Room
+groupsAsBounds = take 2 lentRooms ++ record { room = groupsRoom; size = λ s. s .groups; refusal = ShortOutput 2 } ∷ drop 3 lentRooms
+
+pub namesBoundsForGroups : Version
+namesBoundsForGroups = refusingBy (λ n L b. validityOf n L orElse firstShort groupsAsBounds n (lengthsOf b))
+
+pub names-bounds-for-groups-breaks : Keeps namesBoundsForGroups → ⊥
+unfolding namesBoundsForGroups decideAnswer decideValidity roomsValidity validityOf linesValidity
+names-bounds-for-groups-breaks k =
+    let e : Refused (ShortOutput 2) ≡ Refused (ShortOutput 3) = k 1 [] (shortAt 3) .is in
+    let p : _≡_ {A = ℕ} 2 3 = cc in absurd (omega arith)
 
 -- within a line it refuses 6 before 5
 abbrev constantRules : List Rule

@@ -25,8 +25,11 @@ use Rattle.c_files.specs.Files.{ReadReturns, WriteReturns, returned-read-back, 
 use Rattle.file_list.specs.Calls.{write-then-read, read-then-write}
 use Rattle.c_files.specs.declared.FileRead.{FileRead}
 use Rattle.c_files.specs.declared.FileWritten.{FileWritten}
-use Rattle.file_report.specs.Report.{Reported}
+use Rattle.file_text.specs.Text.{refusedText}
+use Rattle.file_report.specs.Report.{mostVariables, mostLines, Reported, Decided as DecidedText}
 use Rattle.file_report.specs.Input.{inputSize, front-enough}
+use Rattle.demands.specs.FileVersions.{AllRead, fileCases, all-read}
+use Rattle.demands.specs.Program.{within-decided, beyond-refused}
 use Rattle.demands.specs.Demands.{ValidFor}
 
 -- ---- files
@@ -78,6 +81,10 @@ pub returned-list-is-written-again : (bytes : List ℕ) (r : FileRead) (before a
     → (w ≡ record { refusal = 0; place = 0; bytes = length bytes }) × (a ≡ bytes ++ drop (length bytes) b)
 returned-list-is-written-again = returned-written-again
 
+-- The refusals of files, each at named bytes, in the specification's order: one table, one statement over it.
+pub file-cases : AllRead fileCases
+file-cases = all-read
+
 -- A file is bytes: each is below 256.
 pub a-file-is-bytes : (n : ℕ) (L : List ℤ) → AreBytes (fileOf n L)
 a-file-is-bytes n L = file-bytes n L
@@ -103,3 +110,11 @@ the-file-with-an-identifier = refl
 -- It judges every input as if it had read it whole: what it prints depends on no more than the first `inputSize` bytes.
 pub reads-enough : (k : ℕ) → inputSize ≤ k → (b T : List ℕ) → Reported (take k b) T ↔ Reported b T
 reads-enough k h b T = front-enough k h b T
+
+-- For the file of a valid list within its limits it prints what deciding that list gives.
+pub decides-within-its-limits : (n : ℕ) (L : List ℤ) → ValidFor n L → lineCount L ≤ mostLines → n ≤ mostVariables → (T : List ℕ) → Reported (fileOf n L) T ↔ DecidedText n L T
+decides-within-its-limits n L v lines few = within-decided n L v lines few
+
+-- For one of more variables it prints that it is refused as 1.
+pub refuses-more-variables : (n : ℕ) (L : List ℤ) → ValidFor n L → lineCount L ≤ mostLines → mostVariables < n → (T : List ℕ) → Reported (fileOf n L) T → T ≡ refusedText 1 0
+refuses-more-variables n L v lines many T = beyond-refused n L v lines many

@@ -4,10 +4,12 @@ pub mod Refusals
 pub mod Refused
 pub mod Versions
 pub mod DecideVersions
+pub mod FileVersions
 pub mod Exists
 pub mod Shown
 pub mod Accepted
 pub mod Pieces
+pub mod Program
 pub mod Demands
 pub mod Exported
 pub mod Files
