@@ -15,7 +15,6 @@ use lib.ListN.{length, set, take, drop, length-append, length-drop}
 use lib.Seq.{getD-set-same, getD-set-other, getD-drop, drop-drop, take-at, drop-at, length-take-le}
 use Rattle.integers.specs.Integer.{_⩽_, _⋖_, Within}
 use Rattle.integers.specs.Linear.{ints, zs}
-use Rattle.steps.specs.Step.{maxWeight}
 use Rattle.lines.specs.Limits.{maxVariables}
 use Rattle.lines.specs.Line.{number}
 use Rattle.steps.specs.declared.Step.{Step}
@@ -24,7 +23,7 @@ use Rattle.steps.specs.Walk.{total, total-append}
 use Rattle.theory_walks.specs.Row.{In}
 use Rattle.theory_walks.specs.Reach.{Walk, walk-one, walk-append}
 use Rattle.theory_walks.specs.Mirror.{Mirrored, mirrorSteps, mirror-walk, mirror-total, opposite-lt}
-use Rattle.engine_packed_steps.specs.Steps.{stepIn, stepsIn, StepsReady, ReadReady, read-ready}
+use Rattle.engine_packed_steps.specs.Steps.{stepsIn, StepsReady}
 use Rattle.engine_packed_steps.specs.Layout.{rowWidth}
 use Rattle.engine_packed_steps.specs.Scratch.{Scratch, scratch-none, scratch-trans, scratch-set, scratch-at, scratch-ready, scratch-steps}
 
@@ -361,28 +360,3 @@ pub copied-kept : {count pot size : ℕ} {w : List ℤ} → Reduced count pot si
 copied-kept {count} {pot} {size} {w} r from room w′ len e =
     let i : pot + size + size ≡ pot + 2 * size = omega arith in
     kept-copy r w′ (subst (λ (k : ℕ). Scratch (pot + size) k w w′) i (copied-scratch from (pot + size) size w w′ (omega (arith, r .room)) room len e))
-
--- ---- a step of the front, read, and its reduced weight
-module _ {count pot size : ℕ} {w : List ℤ} (r : Reduced count pot size w) (i : ℕ) (h : i < count) where
-  pub step-read : ReadReady i w
-  step-read = read-ready (r .steps) i h
-
-  -- the step as it was read
-  module _ (t : Step) (e : t ≡ stepIn w i) where
-    pub from-lt : t .from < size
-    from-lt = rw e (r .steps .ok i h .from-lt)
-
-    pub to-lt : t .to < size
-    to-lt = rw e (r .steps .ok i h .to-lt)
-
-    pub light : Within maxWeight (t .weight)
-    light = rw e (r .steps .ok i h .light)
-
-pub twice-fits : (v : ℤ) → Within maxWeight v → SFits w64 (v +ℤ v)
-twice-fits v h = simp ints (omega zs)
-
-pub plus-fits : (v a : ℤ) → Within maxWeight v → Within maxPotential a → SFits w64 ((v +ℤ v) +ℤ a)
-plus-fits v a h k = simp ints (omega zs)
-
-pub whole-fits : (v a b : ℤ) → Within maxWeight v → Within maxPotential a → Within maxPotential b → SFits w64 (((v +ℤ v) +ℤ a) -ℤ b)
-whole-fits v a b h k l = simp ints (omega zs)
