@@ -15,8 +15,8 @@ use Rattle.engine_packed_steps.specs.Scratch.{Scratch, scratch-at, scratch-set,
 use Rattle.engine_packed_steps.specs.Layout.{rowAt, placesAt}
 use Rattle.engine_closed_walk.specs.Filled.{Filled}
 use Rattle.engine_closed_walk.specs.Passes.{maxMark, Passed, PassReady}
-use Rattle.engine_halves_walks.specs.declared.Followed.{Followed}
-use Rattle.engine_halves_walks.specs.Back.{stepsEnd, FollowReady, WalkAt, FollowedBack}
+use Rattle.engine_closed_walk.specs.declared.Followed.{Followed}
+use Rattle.engine_closed_walk.specs.Follow.{FollowReady, WalkAt, FollowedBack}
 
 -- ---- the row of a source
 far-small : Within maxMark (pos maxMark)
@@ -47,8 +47,13 @@ pub passed-after : {row size : ℕ} {w w₁ w₂ : List ℤ} {p q : ℕ} → Pas
 passed-after a b = record { scratch = scratch-trans (a .scratch) (b .scratch); small = b .small; within = omega arith }
 
 -- ---- the walk
+-- the steps stand before this
+abbrev pub stepsEnd : ℕ → ℕ
+stepsEnd n = 2 * n * (2 * n)
+
 pub record BetweenReady (n : ℕ) (L : List ℤ) (count : ℕ) (w : List ℤ) (u v end : ℕ) : Type 0 where
   pub ready : FollowReady n L w v end
+  pub behind : stepsEnd n + 2 * n ≤ end
   pub source : u < 2 * n
   pub steps : StepsReady count (stepsEnd n) (2 * n) w
 
@@ -91,7 +96,7 @@ module _ {n : ℕ} {L : List ℤ} {count : ℕ} {w : List ℤ} {u v end : ℕ} (
 
     pub walked-between : {w₂ : List ℤ} {r : Followed} → FollowedBack n L w₁ u v end w₂ r → WalkedBetween n L w u v end w₂ r
     walked-between f = record {
-      scratch = scratch-trans (scratch-wider (omega (arith, is)) (omega (arith, is)) (m .scratch)) (scratch-wider (omega arith) (omega (arith, a .ready .high)) (f .scratch));
+      scratch = scratch-trans (scratch-wider (omega (arith, is)) (omega (arith, is)) (m .scratch)) (scratch-wider (omega (arith, a .behind)) (omega (arith, a .ready .high)) (f .scratch));
       kept = λ i h l. scratch-behind (f .scratch) i h ∙ scratch-at (m .scratch) i (omega (arith, is, l));
       walk = f .walk;
     }
