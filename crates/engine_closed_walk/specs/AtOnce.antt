@@ -6,13 +6,12 @@ use Prim.Native.Nat.{ℕ, _+_, _*_, _-_, _<_, _≤_}
 use native.Mathlib.Omega.{arith}
 use lib.IntN.{ℤ, pos}
 use lib.ListN.{length, drop}
-use lib.Seq.{getD-drop}
 use lib.Signed.{leZ}
 use Rattle.integers.specs.Integer.{_⩽_, _⋖_, Within}
 use Rattle.integers.specs.Laws.{never}
 use Rattle.integers.specs.Linear.{ints}
 use Rattle.lines.specs.Limits.{maxVariables, maxLines}
-use Rattle.lines.specs.Line.{number, lineCount, linesOf}
+use Rattle.lines.specs.Line.{lineCount, linesOf}
 use Rattle.lines.specs.Valid.{LinesOk, all-ok}
 use Rattle.steps.specs.declared.Step.{Step}
 use Rattle.steps.specs.Step.{stepsOf}
@@ -26,7 +25,7 @@ use Rattle.theory_walks.specs.Graph.{ends-points, named-steps}
 use Rattle.check_refutation.specs.Progress.{headSize}
 use Rattle.check_soundness.specs.Refutes.{kind-1}
 use Rattle.engine_packed_steps.specs.Steps.{StepsReady}
-use Rattle.engine_packed_steps.specs.Scratch.{Scratch, scratch-at, scratch-ready, scratch-wider, scratch-trans}
+use Rattle.engine_packed_steps.specs.Scratch.{Scratch, scratch-at, scratch-ready, scratch-wider, scratch-trans, scratch-behind}
 use Rattle.engine_packed_steps.specs.Layout.{walksAt, rowAt, placesAt}
 use Rattle.decide_written_walks.specs.Copy.{StepNumbers, copiedTo}
 use Rattle.decide_written_walks.specs.Refutation.{RefutationWritten}
@@ -79,10 +78,6 @@ pub record OnTheWay (n : ℕ) (w w′ : List ℤ) : Type 0 where
   pub scratch : Scratch (walksAt n) (placesAt n) w w′
   pub small : SmallRow (rowAt n) (2 * n) w′
 
--- what lies behind the end is kept
-scratch-behind : {place end : ℕ} {w w′ : List ℤ} → Scratch place end w w′ → (p : ℕ) → number w′ (end + p) ≡ number w (end + p)
-scratch-behind {end} {w} {w′} s p = sym (getD-drop end w′ p (pos 0)) ∙ ap (λ (l : List ℤ). number l p) (s .behind) ∙ getD-drop end w p (pos 0)
-
 zero-small : (z : ℤ) → z ≡ pos 0 → Within maxMark z
 zero-small z e = rw e (record { low = simp ints (omega arith); high = simp ints (omega arith) })
 
@@ -112,7 +107,7 @@ module _ {n : ℕ} {w w₁ : List ℤ} where
 
     -- a walk was followed back: before the row
     pub way-kept : {w₂ : List ℤ} → Scratch (walksAt n) (rowAt n) w₁ w₂ → OnTheWay n w w₂
-    way-kept s = record { scratch = scratch-trans (a .scratch) (scratch-wider (omega arith) (omega arith) s); small = λ p l. rw (scratch-behind s p) (a .small p l) }
+    way-kept s = record { scratch = scratch-trans (a .scratch) (scratch-wider (omega arith) (omega arith) s); small = λ p l. rw (scratch-behind s (rowAt n + p) (omega arith)) (a .small p l) }
 
     pub way-none : (L : List ℤ) (R R′ : List ℕ) → R′ ≡ R → AtOnce n L R w R′ w₁ false
     way-none L R R′ e = record { scratch = a .scratch; on-yes = λ z. never (cc); on-no = λ _. (e, a .small) }

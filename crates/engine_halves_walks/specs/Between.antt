@@ -1,17 +1,17 @@
 -- A walk between two points: the row of its start, passes over it, and the marks followed back.
-use mathlib.Core.Path.{_≡_, sym, ap, _∙_}
+use mathlib.Core.Path.{_≡_, _∙_}
 use mathlib.Core.List.{List}
-use Prim.Native.Nat.{ℕ, _+_, _*_, _-_, _<_, _≤_}
+use Prim.Native.Nat.{ℕ, _+_, _*_, _<_, _≤_}
 use native.Mathlib.Decide.{ℕ-discrete}
 use native.Mathlib.Omega.{arith}
 use lib.IntN.{ℤ, pos}
 use lib.ListN.{length, set}
-use lib.Seq.{getD-drop, getD-set-same, getD-set-other}
+use lib.Seq.{getD-set-same, getD-set-other}
 use Rattle.integers.specs.Integer.{Within}
 use Rattle.integers.specs.Linear.{ints}
 use Rattle.lines.specs.Line.{number}
 use Rattle.engine_packed_steps.specs.Steps.{StepsReady}
-use Rattle.engine_packed_steps.specs.Scratch.{Scratch, scratch-at, scratch-set, scratch-trans, scratch-wider}
+use Rattle.engine_packed_steps.specs.Scratch.{Scratch, scratch-at, scratch-set, scratch-trans, scratch-wider, scratch-behind}
 use Rattle.engine_packed_steps.specs.Layout.{rowAt, placesAt}
 use Rattle.engine_closed_walk.specs.Filled.{Filled}
 use Rattle.engine_closed_walk.specs.Passes.{maxMark, Passed, PassReady}
@@ -62,12 +62,6 @@ pub record WalkedBetween (n : ℕ) (L w : List ℤ) (u v end : ℕ) (w′ : List
   pub scratch : Scratch (stepsEnd n) (placesAt n) w w′
   pub kept : (i : ℕ) → end ≤ i → i < rowAt n → number w′ i ≡ number w i
   pub walk : WalkAt n L u v end w′ r
-
--- what lies behind is kept
-scratch-behind : {place end : ℕ} {w w′ : List ℤ} → Scratch place end w w′ → (i : ℕ) → end ≤ i → number w′ i ≡ number w i
-scratch-behind {end} {w} {w′} s i h =
-    let e : i ≡ end + (i - end) = omega (arith, h) in
-    ap (number w′) e ∙ sym (getD-drop end w′ (i - end) (pos 0)) ∙ ap (λ (l : List ℤ). number l (i - end)) (s .behind) ∙ getD-drop end w (i - end) (pos 0) ∙ ap (number w) (sym e)
 
 module _ {n : ℕ} {L : List ℤ} {count : ℕ} {w : List ℤ} {u v end : ℕ} (a : BetweenReady n L count w u v end) {row : ℕ} (is : row ≡ rowAt n) where
   module _ {w₁ : List ℤ} {last : ℕ} (m : Passed row (2 * n) w w₁ last) where

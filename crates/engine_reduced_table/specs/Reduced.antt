@@ -12,7 +12,7 @@ use lib.IntN.{ℤ, pos, negℤ, _+ℤ_, _-ℤ_}
 use mir.Syntax.{w64}
 use mir.Val.{SFits}
 use lib.ListN.{length, set, take, drop, length-append, length-drop}
-use lib.Seq.{getD-set-same, getD-set-other, getD-drop, drop-drop, take-at, drop-at, length-take-le}
+use lib.Seq.{getD-set-same, getD-set-other, take-at, drop-at, length-take-le}
 use Rattle.integers.specs.Integer.{_⩽_, _⋖_, Within}
 use Rattle.integers.specs.Linear.{ints, zs}
 use Rattle.lines.specs.Limits.{maxVariables}
@@ -25,7 +25,7 @@ use Rattle.theory_walks.specs.Reach.{Walk, walk-one, walk-append}
 use Rattle.theory_walks.specs.Mirror.{Mirrored, mirrorSteps, mirror-walk, mirror-total, opposite-lt}
 use Rattle.engine_packed_steps.specs.Steps.{stepsIn, StepsReady}
 use Rattle.engine_packed_steps.specs.Layout.{rowWidth}
-use Rattle.engine_packed_steps.specs.Scratch.{Scratch, scratch-none, scratch-trans, scratch-set, scratch-at, scratch-ready, scratch-steps}
+use Rattle.engine_packed_steps.specs.Scratch.{Scratch, scratch-none, scratch-trans, scratch-set, scratch-at, scratch-ready, scratch-steps, scratch-wider, scratch-behind}
 
 -- stands for no walk
 abbrev pub far : ℕ
@@ -206,19 +206,10 @@ module _ {count pot size : ℕ} {w : List ℤ} (r : Reduced count pot size w) wh
 
   -- the row for copies is written
   kept-copy : (w′ : List ℤ) → Scratch (pot + size) (pot + 2 * size) w w′ → Kept count pot size w w′
-  kept-copy w′ s = reduced-again w′ (record { same-length = s .same-length; front = s .front; behind = behind }) (λ i j hi hj. rw (same-cell i j) (r .entry i j hi hj))
+  kept-copy w′ s = reduced-again w′ (scratch-wider (omega arith) (omega arith) s) (λ i j hi hj. rw (same-cell i j) (r .entry i j hi hj))
     where
-      behind : drop (tableEnd pot size) w′ ≡ drop (tableEnd pot size) w
-      behind = sym (drop-drop (size * rowWidth size) (pot + 2 * size) w′) ∙ ap (drop (size * rowWidth size)) (s .behind) ∙ drop-drop (size * rowWidth size) (pot + 2 * size) w
-
       same-cell : (i j : ℕ) → number w′ (cell pot size i j) ≡ number w (cell pot size i j)
-      same-cell i j =
-          let e : cell pot size i j ≡ (pot + 2 * size) + (i * rowWidth size + j) = omega arith in
-          ap (number w′) e
-          ∙ sym (getD-drop (pot + 2 * size) w′ (i * rowWidth size + j) (pos 0))
-          ∙ ap (λ (l : List ℤ). number l (i * rowWidth size + j)) (s .behind)
-          ∙ getD-drop (pot + 2 * size) w (i * rowWidth size + j) (pos 0)
-          ∙ ap (number w) (sym e)
+      same-cell i j = scratch-behind s (cell pot size i j) (omega arith)
 
 pub kept-trans : {count pot size : ℕ} {w w′ w″ : List ℤ} → Kept count pot size w w′ → Kept count pot size w′ w″ → Kept count pot size w w″
 kept-trans a b = record { reduced = b .reduced; scratch = scratch-trans (a .scratch) (b .scratch) }
