@@ -17,7 +17,7 @@ use Rattle.integers.specs.Laws.{and-true, both-true}
 use Rattle.lines.specs.Line.{lineAt, lineCount, isFalse}
 use Rattle.steps.specs.declared.Step.{Step}
 use Rattle.steps.specs.Point.{opposite}
-use Rattle.steps.specs.Walk.{Path, total, Names, path-append, names-append}
+use Rattle.steps.specs.Walk.{Path, total, Names, path-append, names-append, names-length}
 use Rattle.check_refutation.specs.declared.Progress.{Progress}
 use Rattle.check_refutation.specs.Progress.{headSize, start, countsOk, isFalseStep, headOn, onlyIf, advance, run, closes, accepted, accepts}
 use Rattle.check_refutation.specs.Small.{run-read}
@@ -31,12 +31,6 @@ path-cut : (n u v : ℕ) (ts : List Step) → Path u ts v → Path u (take n ts)
 path-cut zero u v ts p = (refl, p)
 path-cut (suc n) u v [] p = (refl, p)
 path-cut (suc n) u v (t ∷ ts) p = let r = path-cut n (t .to) v ts (p .1) in ((p .0, r .0), r .1)
-
-names-length : (L : List ℤ) (ks : List ℕ) (ts : List Step) → Names L ks ts → length ts ≡ length ks
-names-length L [] [] n = refl
-names-length L [] (t ∷ ts) n = absurd n
-names-length L (k ∷ ks) [] n = absurd n
-names-length L (k ∷ ks) (t ∷ ts) n = ap suc (names-length L ks ts (n .1))
 
 names-cut : (L : List ℤ) (n : ℕ) (ks : List ℕ) (ts : List Step) → Names L ks ts → Names L (take n ks) (take n ts) × Names L (drop n ks) (drop n ts)
 names-cut L zero ks ts h = (tt, h)

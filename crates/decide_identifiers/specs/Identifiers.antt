@@ -59,17 +59,17 @@ step-line L R (kind-3 c) i h =
     rw (c .is, z) n
 
 module _ (n : ℕ) (L : List ℤ) (R rest : List ℕ) (r : Refutes L R) where
-  same-counts : stepsIn (R ++ rest) ≡ stepsIn R
-  same-counts = omega (arith, stated-length L R r rest, stated-length L R r [], ap stepsIn (append-nil R))
+  pub counts-front : stepsIn (R ++ rest) ≡ stepsIn R
+  counts-front = omega (arith, stated-length L R r rest, stated-length L R r [], ap stepsIn (append-nil R))
 
   same-step : (i : ℕ) → i < stepsIn R → stepAt (R ++ rest) i ≡ stepAt R i
-  same-step i h = List·getD-append R rest 0 (headSize + i) (omega (arith, stated-length L R r rest, same-counts))
+  same-step i h = List·getD-append R rest 0 (headSize + i) (omega (arith, stated-length L R r rest, counts-front))
 
   pub steps-named : LinesOk n L → StepsNamed L (R ++ rest)
   steps-named ok =
       record {
         whole = omega (arith, stated-length L R r rest, length-append R rest);
-        named = λ i h. let k : i < stepsIn R = omega (arith, h, same-counts) in rw (same-step i k) (step-line L R r i k);
+        named = λ i h. let k : i < stepsIn R = omega (arith, h, counts-front) in rw (same-step i k) (step-line L R r i k);
         identifiers = λ k h. ok k h .identifier;
       }
 
@@ -77,11 +77,8 @@ module _ (n : ℕ) (L : List ℤ) (R rest : List ℕ) (r : Refutes L R) where
   pub identifiers-front : identifiersOf L (R ++ rest) ≡ identifiersOf L R
   unfolding identifiersOf
   identifiers-front =
-      ap (λ (c : ℕ). tabulate c (λ i. identifierOf L (stepAt (R ++ rest) i))) same-counts
+      ap (λ (c : ℕ). tabulate c (λ i. identifierOf L (stepAt (R ++ rest) i))) counts-front
       ∙ tabulate-cong (stepsIn R) _ _ (λ i h. ap (identifierOf L) (same-step i h))
-
-  pub counts-front : stepsIn (R ++ rest) ≡ stepsIn R
-  counts-front = same-counts
 
 -- ---- an identifier comes back whole
 pub identifier-whole : (n : ℕ) (L : List ℤ) (R : List ℕ) → LinesOk n L → Refutes L R → (i : ℕ) → i < stepsIn R

@@ -16,7 +16,7 @@ use Rattle.lines.specs.Valid.{LinesOk}
 use Rattle.steps.specs.declared.Step.{Step}
 use Rattle.steps.specs.Point.{opposite}
 use Rattle.steps.specs.Step.{stepsOf}
-use Rattle.steps.specs.Walk.{Path, total, Names}
+use Rattle.steps.specs.Walk.{Path, total, Names, names-length}
 use Rattle.theory_walks.specs.Distance.{some}
 use Rattle.theory_walks.specs.Row.{best, some-is}
 use Rattle.theory_walks.specs.Negative.{noNegative, no-negative-at}
@@ -40,9 +40,7 @@ pub record RefutationWritten (n : ℕ) (L : List ℤ) (kind : ℕ) (R : List ℕ
 
 -- ---- walks have steps
 named-some : (L : List ℤ) (ks : List ℕ) (ts : List Step) → Names L ks ts → 0 < length ts → 0 < length ks
-named-some L [] [] a h = h
-named-some L [] (t ∷ ts) a h = absurd a
-named-some L (k ∷ ks) ts a h = omega arith
+named-some L ks ts a h = omega (arith, names-length L ks ts a, h)
 
 negative-some : (ts : List Step) → total ts ⋖ pos 0 → 0 < length ts
 negative-some [] h = absurd (clash h)

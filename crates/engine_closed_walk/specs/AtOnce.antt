@@ -1,23 +1,21 @@
--- A refutation at once: what is asked and promised, and the refutation that a collected walk makes.
-use mathlib.Core.Path.{_≡_, refl, sym, ap, subst, _∙_}
-use mathlib.Core.Logic.{inl}
+-- A refutation at once: what is asked and promised, and the refutation that a walk followed back makes.
+use mathlib.Core.Path.{_≡_, refl, sym, ap, ap₂, subst, _∙_}
 use mathlib.Core.Bool.{Bool, true, false}
-use mathlib.Core.List.{List, _∷_}
+use mathlib.Core.List.{List, _∷_, _++_}
 use Prim.Native.Nat.{ℕ, _+_, _*_, _-_, _<_, _≤_}
 use native.Mathlib.Omega.{arith}
 use lib.IntN.{ℤ, pos}
 use lib.ListN.{length, drop}
-use lib.Seq.{getD-drop}
 use lib.Signed.{leZ}
 use Rattle.integers.specs.Integer.{_⩽_, _⋖_, Within}
 use Rattle.integers.specs.Laws.{never}
 use Rattle.integers.specs.Linear.{ints}
 use Rattle.lines.specs.Limits.{maxVariables, maxLines}
-use Rattle.lines.specs.Line.{number, lineCount, linesOf}
+use Rattle.lines.specs.Line.{lineCount, linesOf}
 use Rattle.lines.specs.Valid.{LinesOk, all-ok}
 use Rattle.steps.specs.declared.Step.{Step}
 use Rattle.steps.specs.Step.{stepsOf}
-use Rattle.steps.specs.Walk.{total}
+use Rattle.steps.specs.Walk.{total, names-length}
 use Rattle.theory_walks.specs.Distance.{Distance, none, some, _⊑_, le-some}
 use Rattle.theory_walks.specs.Row.{WithinPoints, best}
 use Rattle.theory_walks.specs.Reach.{Walk}
@@ -25,15 +23,17 @@ use Rattle.theory_walks.specs.Least.{best-short}
 use Rattle.theory_walks.specs.Negative.{notBelow0, noNegative, is-below, no-negative-false}
 use Rattle.theory_walks.specs.Graph.{ends-points, named-steps}
 use Rattle.check_refutation.specs.Progress.{headSize}
+use Rattle.check_soundness.specs.Refutes.{kind-1}
 use Rattle.engine_packed_steps.specs.Steps.{StepsReady}
-use Rattle.engine_packed_steps.specs.Scratch.{Scratch, scratch-at, scratch-ready, scratch-wider, scratch-trans}
+use Rattle.engine_packed_steps.specs.Scratch.{Scratch, scratch-at, scratch-ready, scratch-wider, scratch-trans, scratch-behind}
 use Rattle.engine_packed_steps.specs.Layout.{walksAt, rowAt, placesAt}
 use Rattle.decide_written_walks.specs.Copy.{StepNumbers, copiedTo}
-use Rattle.decide_written_walks.specs.Written.{numbers-fit, numbers-small, walk-written}
-use Rattle.decide_written_walks.specs.Refutation.{ClosedReady, RefutationWritten, closed-written}
+use Rattle.decide_written_walks.specs.Refutation.{RefutationWritten}
 use Rattle.engine_closed_walk.specs.Filled.{Filled}
 use Rattle.engine_closed_walk.specs.Passes.{maxMark, SmallRow, Passed, PassReady}
-use Rattle.engine_closed_walk.specs.Collected.{ClosedFound}
+use Rattle.engine_closed_walk.specs.declared.Followed.{Followed}
+use Rattle.engine_closed_walk.specs.Stretch.{Stretch, stand-numbers, stand-behind}
+use Rattle.engine_closed_walk.specs.Follow.{FollowReady, FollowedBack}
 
 -- what is asked where marks stand: they end at `placesAt`
 pub record FromReady (n : ℕ) (L : List ℤ) (R : List ℕ) (w : List ℤ) : Type 0 where
@@ -78,10 +78,6 @@ pub record OnTheWay (n : ℕ) (w w′ : List ℤ) : Type 0 where
   pub scratch : Scratch (walksAt n) (placesAt n) w w′
   pub small : SmallRow (rowAt n) (2 * n) w′
 
--- what lies behind the end is kept
-scratch-behind : {place end : ℕ} {w w′ : List ℤ} → Scratch place end w w′ → (p : ℕ) → number w′ (end + p) ≡ number w (end + p)
-scratch-behind {end} {w} {w′} s p = sym (getD-drop end w′ p (pos 0)) ∙ ap (λ (l : List ℤ). number l p) (s .behind) ∙ getD-drop end w p (pos 0)
-
 zero-small : (z : ℤ) → z ≡ pos 0 → Within maxMark z
 zero-small z e = rw e (record { low = simp ints (omega arith); high = simp ints (omega arith) })
 
@@ -109,9 +105,9 @@ module _ {n : ℕ} {w w₁ : List ℤ} where
     pub way-more : {row last : ℕ} {w₂ : List ℤ} → row ≡ rowAt n → Passed row (2 * n) w₁ w₂ last → OnTheWay n w w₂
     way-more q m = record { scratch = scratch-trans (a .scratch) (scratch-wider (omega (arith, q)) (omega (arith, q)) (m .scratch)); small = rw q at (m .small) }
 
-    -- a walk was collected: before the row
+    -- a walk was followed back: before the row
     pub way-kept : {w₂ : List ℤ} → Scratch (walksAt n) (rowAt n) w₁ w₂ → OnTheWay n w w₂
-    way-kept s = record { scratch = scratch-trans (a .scratch) (scratch-wider (omega arith) (omega arith) s); small = λ p l. rw (scratch-behind s p) (a .small p l) }
+    way-kept s = record { scratch = scratch-trans (a .scratch) (scratch-wider (omega arith) (omega arith) s); small = λ p l. rw (scratch-behind s (rowAt n + p) (omega arith)) (a .small p l) }
 
     pub way-none : (L : List ℤ) (R R′ : List ℕ) → R′ ≡ R → AtOnce n L R w R′ w₁ false
     way-none L R R′ e = record { scratch = a .scratch; on-yes = λ z. never (cc); on-no = λ _. (e, a .small) }
@@ -159,36 +155,71 @@ short-negative E N within p low path walk few negative = go (best E N p p) refl
     go none q = absurd ((rw q at least) .le)
     go (some z) q = below z (total path) (le-some (rw q at least)) negative
 
--- ---- a walk collected
-module _ (n : ℕ) (L : List ℤ) (R : List ℕ) (w : List ℤ) (a : FromReady n L R w) (p : ℕ) (within : p < 2 * n) (w′ : List ℤ) (r : ℕ) (f : ClosedFound n L w p w′ r) where
-  abbrev E : List Step
-  E = stepsOf (linesOf L)
+-- ---- a walk followed back from a point to itself
+module _ (n : ℕ) (L : List ℤ) (R : List ℕ) (w : List ℤ) (a : FromReady n L R w) (p : ℕ) (within : p < 2 * n) (row : ℕ) (is : row ≡ rowAt n) where
+  pub follow-ready : FollowReady n L w p row
+  follow-ready = record { few = a .few; valid = a .valid; lines = a .lines; low = omega (arith, is); high = omega (arith, is); room = a .work-room; within = within }
 
-  lowest : (z : ℤ) × (best E (2 * n) p p ≡ some z) × (z ⋖ pos 0)
-  lowest =
-      let g = f .found in
-      is-below (best E (2 * n) p p)
-      (short-negative E (2 * n) (ends-points n (linesOf L) (all-ok n L (a .valid))) p within (g .steps) (record { path = g .path; steps = named-steps L (g .numbers) (g .steps) (g .named) }) (f .short) (f .low))
+  module _ (w′ : List ℤ) (r : Followed) (f : FollowedBack n L w p p row w′ r) where
+    pub followed-scratch : Scratch (walksAt n) (rowAt n) w w′
+    followed-scratch = scratch-wider (omega (arith, is)) (omega (arith, is)) (f .scratch)
 
-  ready : ClosedReady n L p R w
-  ready =
-      record {
-        ready = record { ready = record { few = a .few; valid = a .valid; within = within; room = omega (arith, a .work-room); value = lowest .0; reached = lowest .1; wanted = inl refl }; lines = a .lines; room = a .room };
-        negative = lowest .2;
-      }
+    -- it was found
+    module _ (found : r .start ≡ row → ⊥) where
+      abbrev E : List Step
+      E = stepsOf (linesOf L)
 
-  module _ (row : ℕ) (q : row ≡ rowAt n) where
-    pub copy-fits : (row - r + r ≤ length w′) × (headSize + r ≤ length R) × StepNumbers w′ (row - r) r
-    copy-fits = rw q (numbers-fit _ _ _ _ _ _ _ _ _ (ready .ready) (f .found), omega (arith, a .room, f .found .few), numbers-small _ _ _ _ _ _ _ _ _ (ready .ready) (f .found))
+      abbrev size : ℕ
+      size = row - r .start
 
-    pub at-once-from : Scratch (walksAt n) (rowAt n) w w′ → (R₁ : List ℕ) → R₁ ≡ copiedTo R headSize w′ (row - r) r → (R′ : List ℕ) → R′ ≡ 1 ∷ r ∷ 0 ∷ drop headSize R₁ → AtOnceFrom n L R w R′ w′ true
-    at-once-from s R₁ c R′ e =
-        record {
-          scratch = s;
-          on-yes = λ _. record {
-            between = w;
-            written = closed-written n L p R w ready R₁ w′ r (walk-written _ _ _ _ _ _ _ _ _ (ready .ready) (f .found) R₁ (rw q at c)) R′ e;
-            negative = no-negative-false E (2 * n) (record { point = p; low = within; sum = lowest .0; is = lowest .1; negative = lowest .2 });
-          };
-          on-no = λ z. never (cc);
-        }
+      walk : Stretch L p p w′ (r .start) row (r .sum)
+      walk = f .walk .found found
+
+      size-is : length (walk .numbers) ≡ size
+      size-is = omega (arith, walk .count)
+
+      at-most : size ≤ 2 * n
+      at-most = omega (arith, f .walk .low)
+
+      in-area : r .start + size ≤ length w′
+      in-area = omega (arith, is, a .work-room, followed-scratch .same-length, f .walk .high)
+
+      pub copy-fits : (r .start + size ≤ length w′) × (headSize + size ≤ length R) × StepNumbers w′ (r .start) size
+      copy-fits = (in-area, omega (arith, a .room, at-most), stand-numbers w′ (r .start) (walk .numbers) (walk .stand) size size-is)
+
+      -- and its sum is below 0
+      module _ (low : r .sum ⋖ pos 0) where
+        negative : total (walk .steps) ⋖ pos 0
+        negative = rw (walk .sum-is) low
+
+        lowest : (z : ℤ) × (best E (2 * n) p p ≡ some z) × (z ⋖ pos 0)
+        lowest =
+            is-below (best E (2 * n) p p)
+            (short-negative E (2 * n) (ends-points n (linesOf L) (all-ok n L (a .valid))) p within (walk .steps) (record { path = walk .path; steps = named-steps L (walk .numbers) (walk .steps) (walk .named) })
+            (omega (arith, names-length L (walk .numbers) (walk .steps) (walk .named), size-is, at-most)) negative)
+
+        written : (R₁ : List ℕ) → R₁ ≡ copiedTo R headSize w′ (r .start) size → (R′ : List ℕ) → R′ ≡ 1 ∷ size ∷ 0 ∷ drop headSize R₁ → RefutationWritten n L 1 R w R′ w′
+        written R₁ c R′ e =
+            record {
+              numbers = 1 ∷ length (walk .numbers) ∷ 0 ∷ walk .numbers;
+              refutes = kind-1 (record { numbers = walk .numbers; point = p; is = refl; walk = record { steps = walk .steps; some = omega (arith, walk .count, found, f .walk .high); named = walk .named; path = walk .path }; low = negative });
+              kind-is = refl;
+              few = omega (arith, size-is, at-most);
+              size = omega (arith, size-is, at-most);
+              is =
+                  e ∙ ap₂ (λ (i : ℕ) (l : List ℕ). 1 ∷ i ∷ 0 ∷ l) (sym size-is) (stand-behind w′ (r .start) (walk .numbers) (omega (arith, size-is, in-area)) (walk .stand) size size-is R R₁ (omega (arith, a .room)) c)
+                  ∙ ap (λ (i : ℕ). 1 ∷ length (walk .numbers) ∷ 0 ∷ (walk .numbers ++ drop i R)) last;
+              same-length = followed-scratch .same-length;
+              behind = followed-scratch .behind;
+            }
+          where
+            last : headSize + size ≡ length (1 ∷ length (walk .numbers) ∷ 0 ∷ walk .numbers)
+            last = omega (arith, size-is)
+
+        pub at-once-from : (R₁ : List ℕ) → R₁ ≡ copiedTo R headSize w′ (r .start) size → (R′ : List ℕ) → R′ ≡ 1 ∷ size ∷ 0 ∷ drop headSize R₁ → AtOnceFrom n L R w R′ w′ true
+        at-once-from R₁ c R′ e =
+            record {
+              scratch = followed-scratch;
+              on-yes = λ _. record { between = w; written = written R₁ c R′ e; negative = no-negative-false E (2 * n) (record { point = p; low = within; sum = lowest .0; is = lowest .1; negative = lowest .2 }) };
+              on-no = λ z. never (cc);
+            }

@@ -2,5 +2,6 @@ pub mod Filled
 pub mod Passes
 pub mod Potential
 pub mod Back
-pub mod Collected
+pub mod Stretch
+pub mod Follow
 pub mod AtOnce

@@ -23,13 +23,19 @@ ghost use Rattle.engine_closed_walk.specs.Filled.{Filled};
 ghost use Rattle.engine_closed_walk.specs.Passes.{SmallRow, MarkReady, PassReady, Passed};
 ghost use Rattle.engine_closed_walk.specs.Potential.{PotentialReady};
 ghost use Rattle.engine_closed_walk.specs.Back.{BackReady, EndsAt};
-ghost use Rattle.engine_closed_walk.specs.Collected.{CollectReady, Collected};
+ghost use Rattle.engine_closed_walk.specs.Follow.{FollowReady, FollowedBack};
 ghost use Rattle.engine_closed_walk.specs.AtOnce.{FromReady, AtOnceFrom, AtOnceReady, AtOnce};
 
 // Numbers of a row stay above this.
 pub const LOWEST_MARK: i64 = -1_000_000_000_000_000;
 // Each step in one number is below this.
 pub const ALL: i64 = 9223372036854775807;
+
+// A walk followed back: the place of its first step number in the work area, and its sum.
+pub struct Followed {
+    pub start: usize,
+    pub sum: i64,
+}
 
 // A value to each number from a place on, before another.
 pub fn fill(work: &mut [i64], from: usize, end: usize, value: i64)
@@ -157,7 +163,7 @@ fn far_back(work: &[i64], marks: usize, size: usize, p: usize) -> usize
 
 // The number in the list of the step that is the mark at a point, if the list's step ends there, or else the number
 // behind the last.
-pub fn number_back(list: &[i32], n: usize, work: &[i64], marks: usize, at: usize) -> usize
+fn number_back(list: &[i32], n: usize, work: &[i64], marks: usize, at: usize) -> usize
     requires { ⌜ BackReady n (now list) marks at (now work) ⌝ }
     ensures { λ r. ⌜ EndsAt (now (list .entry)) at r ⌝ }
 {
@@ -175,23 +181,29 @@ pub fn number_back(list: &[i32], n: usize, work: &[i64], marks: usize, at: usize
     count
 }
 
-// How many steps the walk has round which the marks lead from p back to p, if its sum is below 0, or else 0. Their
-// numbers stand where those of walks do, before the row.
-fn collect(list: &[i32], n: usize, work: &mut [i64], p: usize) -> usize
-    requires { ⌜ CollectReady n (now list) (now work) p ⌝ }
-    ensures { λ r. ⌜ Collected n (now (list .entry)) (now (work .entry)) p (now (work .exit)) r ⌝ }
+// The walk from u to v along which the marks lead back, of at most as many steps as points: their numbers stand before
+// `end`. Where u is not reached, `end` itself is answered.
+pub fn follow_back(
+    list: &[i32],
+    n: usize,
+    work: &mut [i64],
+    u: usize,
+    v: usize,
+    end: usize,
+) -> Followed
+    requires { ⌜ FollowReady n (now list) (now work) v end ⌝ }
+    ensures { λ r. ⌜ FollowedBack n (now (list .entry)) (now (work .entry)) u v end (now (work .exit)) r ⌝ }
 {
-    let size = 2 * n;
-    let row = row_at(n);
-    let start = row - size;
-    let mut slot = row;
-    let mut at = p;
+    let marks = row_at(n) + 2 * n;
+    let lowest = end - 2 * n;
+    let mut slot = end;
+    let mut at = v;
     let mut sum: i64 = 0;
-    while start < slot {
-        let number = number_back(list, n, work, row + size, at);
+    while lowest < slot {
+        let number = number_back(list, n, work, marks, at);
         match step_numbered(list, number) {
             NamedStep::Nothing => {
-                return 0;
+                return Followed { start: end, sum: 0 };
             }
             NamedStep::Found(t) => {
                 slot -= 1;
@@ -200,14 +212,11 @@ fn collect(list: &[i32], n: usize, work: &mut [i64], p: usize) -> usize
                 at = t.from;
             }
         }
-        if at == p {
-            if sum < 0 {
-                return row - slot;
-            }
-            return 0;
+        if at == u {
+            return Followed { start: slot, sum };
         }
     }
-    0
+    Followed { start: end, sum: 0 }
 }
 
 // Whether the marks lead from p back to a closed walk of negative sum: then its refutation is written.
@@ -221,13 +230,17 @@ fn refuted_from(list: &[i32], n: usize, p: usize, refutation: &mut [u32], work: 
     if size <= q {
         return false;
     }
-    let count = collect(list, n, work, q);
-    if count == 0 {
+    let walk = follow_back(list, n, work, q, q, row);
+    let start = walk.start;
+    if start == row {
         return false;
     }
-    copy_numbers(work, row - count, count, refutation, HEAD_SIZE);
-    write_head(refutation, 1, count, 0);
-    true
+    if walk.sum < 0 {
+        copy_numbers(work, start, row - start, refutation, HEAD_SIZE);
+        write_head(refutation, 1, row - start, 0);
+        return true;
+    }
+    false
 }
 
 // Whether the list is refuted so, after any of at most one pass more than there are points, over the steps below `most`

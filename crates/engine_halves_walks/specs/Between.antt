@@ -1,22 +1,22 @@
 -- A walk between two points: the row of its start, passes over it, and the marks followed back.
-use mathlib.Core.Path.{_≡_, sym, ap, _∙_}
+use mathlib.Core.Path.{_≡_, _∙_}
 use mathlib.Core.List.{List}
-use Prim.Native.Nat.{ℕ, _+_, _*_, _-_, _<_, _≤_}
+use Prim.Native.Nat.{ℕ, _+_, _*_, _<_, _≤_}
 use native.Mathlib.Decide.{ℕ-discrete}
 use native.Mathlib.Omega.{arith}
 use lib.IntN.{ℤ, pos}
 use lib.ListN.{length, set}
-use lib.Seq.{getD-drop, getD-set-same, getD-set-other}
+use lib.Seq.{getD-set-same, getD-set-other}
 use Rattle.integers.specs.Integer.{Within}
 use Rattle.integers.specs.Linear.{ints}
 use Rattle.lines.specs.Line.{number}
 use Rattle.engine_packed_steps.specs.Steps.{StepsReady}
-use Rattle.engine_packed_steps.specs.Scratch.{Scratch, scratch-at, scratch-set, scratch-trans, scratch-wider}
+use Rattle.engine_packed_steps.specs.Scratch.{Scratch, scratch-at, scratch-set, scratch-trans, scratch-wider, scratch-behind}
 use Rattle.engine_packed_steps.specs.Layout.{rowAt, placesAt}
 use Rattle.engine_closed_walk.specs.Filled.{Filled}
 use Rattle.engine_closed_walk.specs.Passes.{maxMark, Passed, PassReady}
-use Rattle.engine_halves_walks.specs.declared.Followed.{Followed}
-use Rattle.engine_halves_walks.specs.Back.{stepsEnd, FollowReady, WalkAt, FollowedBack}
+use Rattle.engine_closed_walk.specs.declared.Followed.{Followed}
+use Rattle.engine_closed_walk.specs.Follow.{FollowReady, WalkAt, FollowedBack}
 
 -- ---- the row of a source
 far-small : Within maxMark (pos maxMark)
@@ -47,8 +47,13 @@ pub passed-after : {row size : ℕ} {w w₁ w₂ : List ℤ} {p q : ℕ} → Pas
 passed-after a b = record { scratch = scratch-trans (a .scratch) (b .scratch); small = b .small; within = omega arith }
 
 -- ---- the walk
+-- the steps stand before this
+abbrev pub stepsEnd : ℕ → ℕ
+stepsEnd n = 2 * n * (2 * n)
+
 pub record BetweenReady (n : ℕ) (L : List ℤ) (count : ℕ) (w : List ℤ) (u v end : ℕ) : Type 0 where
   pub ready : FollowReady n L w v end
+  pub behind : stepsEnd n + 2 * n ≤ end
   pub source : u < 2 * n
   pub steps : StepsReady count (stepsEnd n) (2 * n) w
 
@@ -57,12 +62,6 @@ pub record WalkedBetween (n : ℕ) (L w : List ℤ) (u v end : ℕ) (w′ : List
   pub scratch : Scratch (stepsEnd n) (placesAt n) w w′
   pub kept : (i : ℕ) → end ≤ i → i < rowAt n → number w′ i ≡ number w i
   pub walk : WalkAt n L u v end w′ r
-
--- what lies behind is kept
-scratch-behind : {place end : ℕ} {w w′ : List ℤ} → Scratch place end w w′ → (i : ℕ) → end ≤ i → number w′ i ≡ number w i
-scratch-behind {end} {w} {w′} s i h =
-    let e : i ≡ end + (i - end) = omega (arith, h) in
-    ap (number w′) e ∙ sym (getD-drop end w′ (i - end) (pos 0)) ∙ ap (λ (l : List ℤ). number l (i - end)) (s .behind) ∙ getD-drop end w (i - end) (pos 0) ∙ ap (number w) (sym e)
 
 module _ {n : ℕ} {L : List ℤ} {count : ℕ} {w : List ℤ} {u v end : ℕ} (a : BetweenReady n L count w u v end) {row : ℕ} (is : row ≡ rowAt n) where
   module _ {w₁ : List ℤ} {last : ℕ} (m : Passed row (2 * n) w w₁ last) where
@@ -91,7 +90,7 @@ module _ {n : ℕ} {L : List ℤ} {count : ℕ} {w : List ℤ} {u v end : ℕ} (
 
     pub walked-between : {w₂ : List ℤ} {r : Followed} → FollowedBack n L w₁ u v end w₂ r → WalkedBetween n L w u v end w₂ r
     walked-between f = record {
-      scratch = scratch-trans (scratch-wider (omega (arith, is)) (omega (arith, is)) (m .scratch)) (scratch-wider (omega arith) (omega (arith, a .ready .high)) (f .scratch));
+      scratch = scratch-trans (scratch-wider (omega (arith, is)) (omega (arith, is)) (m .scratch)) (scratch-wider (omega (arith, a .behind)) (omega (arith, a .ready .high)) (f .scratch));
       kept = λ i h l. scratch-behind (f .scratch) i h ∙ scratch-at (m .scratch) i (omega (arith, is, l));
       walk = f .walk;
     }

@@ -1,11 +1,11 @@
 -- A refutation of kind 2 at once: what is promised, and the refutation that two walks make.
 use mathlib.Core.Path.{_≡_, refl, ap, ap₂, subst, _∙_}
 use mathlib.Core.Bool.{Bool, true, false}
-use mathlib.Core.List.{List, _∷_, _++_, map}
+use mathlib.Core.List.{List, _∷_, _++_}
 use Prim.Native.Nat.{ℕ, _+_, _*_, _-_, _<_, _≤_}
 use native.Mathlib.Omega.{arith}
-use lib.IntN.{ℤ, pos, _+ℤ_, natAbs}
-use lib.ListN.{length, take, drop, length-append}
+use lib.IntN.{ℤ, pos, _+ℤ_}
+use lib.ListN.{length, drop, length-append}
 use mir.Syntax.{w64}
 use mir.Val.{SFits}
 use Rattle.integers.specs.Integer.{_⋖_, half, Within}
@@ -22,16 +22,12 @@ use Rattle.engine_packed_steps.specs.Scratch.{Scratch, scratch-trans, scratch-w
 use Rattle.engine_packed_steps.specs.Layout.{rowAt, placesAt, square-small}
 use Rattle.engine_packed_steps.specs.Laid.{Laid}
 use Rattle.decide_written_walks.specs.Copy.{StepNumbers, copiedTo}
-use Rattle.decide_written_walks.specs.Refutation.{HalvesReady, RefutationWritten, behind-place}
-use Rattle.engine_halves_walks.specs.declared.Followed.{Followed}
-use Rattle.engine_halves_walks.specs.Stretch.{Stand, Stretch, stretch-kept, stand-append, stand-numbers, stand-copied}
-use Rattle.engine_halves_walks.specs.Back.{stepsEnd}
-use Rattle.engine_halves_walks.specs.Between.{BetweenReady, WalkedBetween}
+use Rattle.decide_written_walks.specs.Refutation.{HalvesReady, RefutationWritten}
+use Rattle.engine_closed_walk.specs.declared.Followed.{Followed}
+use Rattle.engine_closed_walk.specs.Stretch.{Stand, Stretch, stretch-kept, stand-append, stand-numbers, stand-behind}
+use Rattle.engine_halves_walks.specs.Between.{stepsEnd, BetweenReady, WalkedBetween}
 
 -- halves of two small sums have a sum
-pub small-fits : (z : ℤ) → Within maxEntry z → SFits w64 z
-small-fits z a = simp ints (omega zs)
-
 pub halves-fit : (x y : ℤ) → Within maxEntry x → Within maxEntry y → SFits w64 (half x +ℤ half y)
 halves-fit x y a b = simp ints (omega zs)
 
@@ -61,6 +57,7 @@ module _ {n : ℕ} {L : List ℤ} {p : ℕ} {R : List ℕ} {w : List ℤ} (a : H
     pub back-ready : BetweenReady n L count w₁ q p (row)
     back-ready = record {
       ready = record { few = a .few; valid = a .valid; lines = a .lines; low = omega (arith, is); high = omega (arith, is); room = omega (arith, room, d .scratch .same-length); within = a .within };
+      behind = omega (arith, is);
       source = q-lt;
       steps = steps-ready;
     }
@@ -81,6 +78,7 @@ module _ {n : ℕ} {L : List ℤ} {p : ℕ} {R : List ℕ} {w : List ℤ} (a : H
           room = omega (arith, room, first-kept .same-length);
           within = q-lt;
         };
+        behind = omega (arith, is, f .walk .low);
         source = a .within;
         steps = scratch-ready steps-ready (f .scratch);
       }
@@ -117,7 +115,7 @@ module _ {n : ℕ} {L : List ℤ} {p : ℕ} {R : List ℕ} {w : List ℤ} (a : H
           at-most = omega (arith, g .walk .low, f .walk .low)
 
           pub copy-fits : (there .start + size ≤ length w₃) × (headSize + size ≤ length R) × StepNumbers w₃ (there .start) size
-          copy-fits = (in-area, omega (arith, a .room, at-most), subst (StepNumbers w₃ (there .start)) size-is (stand-numbers w₃ (there .start) ks stand))
+          copy-fits = (in-area, omega (arith, a .room, at-most), stand-numbers w₃ (there .start) ks stand size size-is)
 
           pub both-written : half (there .sum) +ℤ half (back .sum) ⋖ pos 0 → (R₁ : List ℕ) → R₁ ≡ copiedTo R headSize w₃ (there .start) size → (R′ : List ℕ)
               → R′ ≡ 2 ∷ (back .start - there .start) ∷ (row - back .start) ∷ drop headSize R₁ → HalvesAtOnce n L R w R′ w₃ true
@@ -155,17 +153,11 @@ module _ {n : ℕ} {L : List ℤ} {p : ℕ} {R : List ℕ} {w : List ℤ} (a : H
               second : row - back .start ≡ length (two .numbers)
               second = omega (arith, two .count)
 
-              copied : take size (map natAbs (drop (there .start) w₃)) ≡ ks
-              copied = subst (λ (j : ℕ). take j (map natAbs (drop (there .start) w₃)) ≡ ks) size-is (stand-copied w₃ (there .start) ks (omega (arith, size-is, in-area)) stand)
-
               last : headSize + size ≡ length (2 ∷ length (one .numbers) ∷ length (two .numbers) ∷ ks)
               last = omega (arith, size-is)
 
               body : drop headSize R₁ ≡ ks ++ drop (length (2 ∷ length (one .numbers) ∷ length (two .numbers) ∷ ks)) R
-              body =
-                  ap (drop headSize) (c ∙ ap (λ (l : List ℕ). (take headSize R ++ l) ++ drop (headSize + size) R) copied)
-                  ∙ behind-place R headSize size ks (omega (arith, a .room))
-                  ∙ ap (λ (i : ℕ). ks ++ drop i R) last
+              body = stand-behind w₃ (there .start) ks (omega (arith, size-is, in-area)) stand size size-is R R₁ (omega (arith, a .room)) c ∙ ap (λ (i : ℕ). ks ++ drop i R) last
 
 -- ---- not at once: what is asked is still so, and what is written then serves
 module _ {n : ℕ} {L : List ℤ} {R R₁ : List ℕ} {w w₁ : List ℤ} (k : HalvesAtOnce n L R w R₁ w₁ false) where

@@ -1,4 +1,2 @@
-pub mod Stretch
-pub mod Back
 pub mod Between
 pub mod Halves

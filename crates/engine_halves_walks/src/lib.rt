@@ -5,33 +5,25 @@ use check_refutation::HEAD_SIZE;
 use decide_written_walks::copy_numbers;
 use decide_written_walks::write_head;
 use engine_closed_walk::ALL;
+use engine_closed_walk::Followed;
 use engine_closed_walk::LOWEST_MARK;
 use engine_closed_walk::fill;
+use engine_closed_walk::follow_back;
 use engine_closed_walk::mark_turn;
-use engine_closed_walk::number_back;
 use engine_merged_steps::lay_steps;
 use engine_packed_steps::layout::row_at;
 use integers::halved;
-use steps::NamedStep;
 use steps::opposite_of;
-use steps::step_numbered;
 ghost use Prim.Native.Nat.{_+_, _*_, _<_, _≤_};
 ghost use lib.ListN.{length};
 ghost use Rattle.decide_written_walks.specs.Refutation.{HalvesReady};
 ghost use Rattle.engine_closed_walk.specs.Passes.{PassReady, Passed};
 ghost use Rattle.engine_packed_steps.specs.Layout.{placesAt};
-ghost use Rattle.engine_halves_walks.specs.Back.{FollowReady, FollowedBack};
 ghost use Rattle.engine_halves_walks.specs.Between.{BetweenReady, WalkedBetween};
 ghost use Rattle.engine_halves_walks.specs.Halves.{HalvesAtOnce};
 
 // Stands in a row for no walk.
 const FAR: i64 = -LOWEST_MARK;
-
-// A walk followed back: the place of its first step number in the work area, and its sum.
-pub struct Followed {
-    pub start: usize,
-    pub sum: i64,
-}
 
 // A row in which only its source is reached, with no mark behind it.
 fn start_row(work: &mut [i64], row: usize, size: usize, source: usize)
@@ -57,37 +49,6 @@ fn pass_all(work: &mut [i64], count: usize, row: usize, size: usize)
         }
         turn += 1;
     }
-}
-
-// The walk from u to v along which the marks lead back, of at most as many steps as points: their numbers stand before
-// `end`. Where u is not reached, `end` itself is answered.
-fn follow_back(list: &[i32], n: usize, work: &mut [i64], u: usize, v: usize, end: usize) -> Followed
-    requires { ⌜ FollowReady n (now list) (now work) v end ⌝ }
-    ensures { λ r. ⌜ FollowedBack n (now (list .entry)) (now (work .entry)) u v end (now (work .exit)) r ⌝ }
-{
-    let marks = row_at(n) + 2 * n;
-    let lowest = end - 2 * n;
-    let mut slot = end;
-    let mut at = v;
-    let mut sum: i64 = 0;
-    while lowest < slot {
-        let number = number_back(list, n, work, marks, at);
-        match step_numbered(list, number) {
-            NamedStep::Nothing => {
-                return Followed { start: end, sum: 0 };
-            }
-            NamedStep::Found(t) => {
-                slot -= 1;
-                work[slot] = number as i64;
-                sum += t.weight;
-                at = t.from;
-            }
-        }
-        if at == u {
-            return Followed { start: slot, sum };
-        }
-    }
-    Followed { start: end, sum: 0 }
 }
 
 // A walk from u to v over the steps at the front, followed back after passes from u.

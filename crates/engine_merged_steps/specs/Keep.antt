@@ -1,17 +1,16 @@
 -- What stands in the cells is kept: one cell after another, each number below that of no step is written behind the others at the front.
-use mathlib.Core.Path.{_≡_, sym, ap, _∙_}
+use mathlib.Core.Path.{_≡_, _∙_}
 use mathlib.Core.List.{List}
-use Prim.Native.Nat.{ℕ, _+_, _-_, _≤_, _<_}
+use Prim.Native.Nat.{ℕ, _+_, _≤_, _<_}
 use native.Mathlib.Decide.{ℕ-discrete, decLt}
 use native.Mathlib.Omega.{arith}
 use lib.IntN.{ℤ, pos}
-use lib.ListN.{length, set, drop}
-use lib.Seq.{getD-drop}
+use lib.ListN.{length, set}
 use Rattle.integers.specs.Integer.{_⩽_, _⋖_}
 use Rattle.integers.specs.Linear.{ints}
 use Rattle.lines.specs.Line.{number}
 use Rattle.engine_packed_steps.specs.Steps.{stored-same, stored-last}
-use Rattle.engine_packed_steps.specs.Scratch.{Scratch, scratch-none, scratch-trans, scratch-set}
+use Rattle.engine_packed_steps.specs.Scratch.{Scratch, scratch-none, scratch-trans, scratch-set, scratch-behind}
 use Rattle.engine_merged_steps.specs.Cells.{noStep}
 
 -- the cells stand behind the front
@@ -40,14 +39,6 @@ pub record Keeping (start cells : ℕ) (w₀ w : List ℤ) (c kept : ℕ) : Type
   pub from : (i : ℕ) → i < kept → FromCell start c w₀ (number w i)
   pub all : (d : ℕ) → d < c → number w₀ (start + d) ⋖ pos noStep → AtFront kept w (number w₀ (start + d))
 
-scratch-beyond : {place end : ℕ} {w w′ : List ℤ} → Scratch place end w w′ → (i : ℕ) → end ≤ i → number w′ i ≡ number w i
-scratch-beyond {end} {w} {w′} s i h = sym (at w′) ∙ ap (λ (l : List ℤ). number l (i - end)) (s .behind) ∙ at w
-  where
-    at : (l : List ℤ) → number (drop end l) (i - end) ≡ number l i
-    at l =
-        let e : end + (i - end) ≡ i = omega arith in
-        getD-drop end l (i - end) (pos 0) ∙ ap (number l) e
-
 pub keeping-start : (start cells : ℕ) (w : List ℤ) → Keeping start cells w w 0 0
 keeping-start start cells w = record {
   at-most = omega arith;
@@ -65,7 +56,7 @@ module _ {start cells c kept : ℕ} {w₀ w : List ℤ} (r : KeepReady start cel
   w′ = set w kept z
 
   z-is : z ≡ number w₀ (start + c)
-  z-is = scratch-beyond (p .scratch) (start + c) (omega (arith, r .before))
+  z-is = scratch-behind (p .scratch) (start + c) (omega (arith, r .before))
 
   room : kept < length w
   room = omega (arith, p .no-more, p .scratch .same-length, r .room)

@@ -6,7 +6,7 @@ use Prim.Native.Nat.{ℕ, _+_, _≤_, _<_, _-_}
 use native.Mathlib.Omega.{arith}
 use lib.IntN.{ℤ, pos}
 use lib.ListN.{length, set, take, drop, length-set}
-use lib.Seq.{take-set-le, drop-set-lt, getD-take, drop-drop, take-take}
+use lib.Seq.{take-set-le, drop-set-lt, getD-take, getD-drop, drop-drop, take-take}
 use Rattle.lines.specs.Line.{number}
 use Rattle.engine_packed_steps.specs.Steps.{stepsIn, StepsReady, steps-same}
 
@@ -27,6 +27,14 @@ scratch-set place end w i z h l = record { same-length = length-set w i z; front
 
 pub scratch-at : {place end : ℕ} {w w′ : List ℤ} → Scratch place end w w′ → (i : ℕ) → i < place → number w′ i ≡ number w i
 scratch-at {place} {w} {w′} s i h = sym (getD-take place w′ i (pos 0) h) ∙ ap (λ (l : List ℤ). number l i) (s .front) ∙ getD-take place w i (pos 0) h
+
+pub scratch-behind : {place end : ℕ} {w w′ : List ℤ} → Scratch place end w w′ → (i : ℕ) → end ≤ i → number w′ i ≡ number w i
+scratch-behind {end} {w} {w′} s i h = sym (at w′) ∙ ap (λ (l : List ℤ). number l (i - end)) (s .behind) ∙ at w
+  where
+    at : (l : List ℤ) → number (drop end l) (i - end) ≡ number l i
+    at l =
+        let e : end + (i - end) ≡ i = omega arith in
+        getD-drop end l (i - end) (pos 0) ∙ ap (number l) e
 
 -- ---- a wider part
 pub scratch-wider : {a b c d : ℕ} {w w′ : List ℤ} → c ≤ a → b ≤ d → Scratch a b w w′ → Scratch c d w w′

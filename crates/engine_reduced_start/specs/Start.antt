@@ -10,18 +10,16 @@ use lib.ListN.{length, set, length-set}
 use lib.Seq.{getD-set-same, getD-set-other}
 use mir.Syntax.{w64}
 use mir.Val.{SFits}
-use Rattle.integers.specs.Integer.{_⩽_, _⋖_, Within}
+use Rattle.integers.specs.Integer.{_⩽_, Within}
 use Rattle.integers.specs.Linear.{ints, zs}
 use Rattle.lines.specs.Limits.{maxVariables}
 use Rattle.lines.specs.Line.{number}
-use Rattle.steps.specs.declared.Step.{Step}
 use Rattle.steps.specs.Point.{opposite}
-use Rattle.theory_walks.specs.Row.{In}
 use Rattle.theory_walks.specs.Mirror.{Mirrored, opposite-lt}
-use Rattle.engine_packed_steps.specs.Steps.{stepIn, stepsIn, StepsReady, step-in}
+use Rattle.engine_packed_steps.specs.Steps.{stepsIn, StepsReady}
 use Rattle.engine_packed_steps.specs.Layout.{rowWidth}
 use Rattle.engine_packed_steps.specs.Scratch.{Scratch, scratch-none, scratch-trans, scratch-set, scratch-at, scratch-ready, scratch-steps, scratch-wider}
-use Rattle.engine_reduced_table.specs.Reduced.{far, maxPotential, cell, tableEnd, Reduced, asked, LowerReady, entry-far, entry-step, cell-lt, from-lt, to-lt, Kept, reduced-again}
+use Rattle.engine_reduced_table.specs.Reduced.{far, maxPotential, cell, tableEnd, Reduced, asked, LowerReady, entry-far, cell-lt, Kept, reduced-again}
 use Rattle.theory_walks.specs.Reach.{walk-none}
 
 -- a potential that is larger is not used
@@ -217,17 +215,6 @@ far-kept {count} {pot} {size} {w} r w′ f =
     is-far i j hi hj =
         let e : cell pot size i j ≡ pot + 2 * size + (i * rowWidth size + j) = omega arith in
         ap (number w′) e ∙ f .all (i * rowWidth size + j) (cell-lt size i j hi hj)
-
--- ---- a step is put: its reduced weight is an entry
-module _ {count pot size : ℕ} {w : List ℤ} (r : Reduced count pot size w) (i : ℕ) (h : i < count) (t : Step) (e : t ≡ stepIn w i) where
-  pub put-ready : (a b z : ℤ) → a ≡ number w (pot + t .from) → b ≡ number w (pot + t .to) → z ≡ ((t .weight +ℤ t .weight) +ℤ a) -ℤ b → pos 0 ⩽ z → z ⋖ pos far → LowerReady count pot size (t .from) (t .to) z w
-  put-ready a b z p q f l g = record {
-    ask = asked r (t .from) (t .to) (from-lt r i h t e) (to-lt r i h t e);
-    by = entry-step t (subst (λ (x : Step). In x (stepsIn count w)) (sym e) (step-in count w i h)) (rw (sym p, sym q) (back z (t .weight) a b f)) l g;
-  }
-    where
-      back : (z v a b : ℤ) → z ≡ ((v +ℤ v) +ℤ a) -ℤ b → z +ℤ b ≡ (v +ℤ v) +ℤ a
-      back z v a b = simp ints (omega arith)
 
 -- 0 on the diagonal: the walk of no steps
 pub diagonal-ready : {count pot size : ℕ} {w : List ℤ} → Reduced count pot size w → (t : ℕ) → t < size → LowerReady count pot size t t (pos 0) w

@@ -1,8 +1,9 @@
 // The table before anything leaves: the numbers of points, FAR everywhere, 0 on the diagonal, and the reduced weights of the steps.
-use engine_packed_steps::read_step;
 use engine_reduced_table::FAR;
+use engine_reduced_table::ReducedStep;
 use engine_reduced_table::SPARE;
 use engine_reduced_table::lower_entry;
+use engine_reduced_table::reduced_step;
 ghost use Prim.Native.Nat.{_<_, _≤_, _+_, _*_};
 ghost use lib.ListN.{length};
 ghost use Rattle.integers.specs.Integer.{Within};
@@ -91,19 +92,8 @@ fn put_step(work: &mut [i64], count: usize, pot: usize, size: usize, i: usize)
     requires { ⌜ Reduced count pot size (now work) × (i < count) ⌝ }
     ensures { λ _. ⌜ Kept count pot size (now (work .entry)) (now (work .exit)) ⌝ }
 {
-    let step = read_step(work, i);
-    let from = step.from;
-    let to = step.to;
-    let weight = step.weight;
-    let a = work[pot + from];
-    let b = work[pot + to];
-    let z = weight + weight + a - b;
-    let negative = z < 0;
-    if negative {
-        return;
-    }
-    if z < FAR {
-        lower_entry(work, count, pot, size, from, to, z);
+    if let ReducedStep::Entry(s) = reduced_step(work, count, pot, size, i) {
+        lower_entry(work, count, pot, size, s.from, s.to, s.weight);
     }
 }
 

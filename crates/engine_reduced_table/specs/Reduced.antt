@@ -12,10 +12,9 @@ use lib.IntN.{ℤ, pos, negℤ, _+ℤ_, _-ℤ_}
 use mir.Syntax.{w64}
 use mir.Val.{SFits}
 use lib.ListN.{length, set, take, drop, length-append, length-drop}
-use lib.Seq.{getD-set-same, getD-set-other, getD-drop, drop-drop, take-at, drop-at, length-take-le}
+use lib.Seq.{getD-set-same, getD-set-other, take-at, drop-at, length-take-le}
 use Rattle.integers.specs.Integer.{_⩽_, _⋖_, Within}
 use Rattle.integers.specs.Linear.{ints, zs}
-use Rattle.steps.specs.Step.{maxWeight}
 use Rattle.lines.specs.Limits.{maxVariables}
 use Rattle.lines.specs.Line.{number}
 use Rattle.steps.specs.declared.Step.{Step}
@@ -24,9 +23,9 @@ use Rattle.steps.specs.Walk.{total, total-append}
 use Rattle.theory_walks.specs.Row.{In}
 use Rattle.theory_walks.specs.Reach.{Walk, walk-one, walk-append}
 use Rattle.theory_walks.specs.Mirror.{Mirrored, mirrorSteps, mirror-walk, mirror-total, opposite-lt}
-use Rattle.engine_packed_steps.specs.Steps.{stepIn, stepsIn, StepsReady, ReadReady, read-ready}
+use Rattle.engine_packed_steps.specs.Steps.{stepsIn, StepsReady}
 use Rattle.engine_packed_steps.specs.Layout.{rowWidth}
-use Rattle.engine_packed_steps.specs.Scratch.{Scratch, scratch-none, scratch-trans, scratch-set, scratch-at, scratch-ready, scratch-steps}
+use Rattle.engine_packed_steps.specs.Scratch.{Scratch, scratch-none, scratch-trans, scratch-set, scratch-at, scratch-ready, scratch-steps, scratch-wider, scratch-behind}
 
 -- stands for no walk
 abbrev pub far : ℕ
@@ -207,19 +206,10 @@ module _ {count pot size : ℕ} {w : List ℤ} (r : Reduced count pot size w) wh
 
   -- the row for copies is written
   kept-copy : (w′ : List ℤ) → Scratch (pot + size) (pot + 2 * size) w w′ → Kept count pot size w w′
-  kept-copy w′ s = reduced-again w′ (record { same-length = s .same-length; front = s .front; behind = behind }) (λ i j hi hj. rw (same-cell i j) (r .entry i j hi hj))
+  kept-copy w′ s = reduced-again w′ (scratch-wider (omega arith) (omega arith) s) (λ i j hi hj. rw (same-cell i j) (r .entry i j hi hj))
     where
-      behind : drop (tableEnd pot size) w′ ≡ drop (tableEnd pot size) w
-      behind = sym (drop-drop (size * rowWidth size) (pot + 2 * size) w′) ∙ ap (drop (size * rowWidth size)) (s .behind) ∙ drop-drop (size * rowWidth size) (pot + 2 * size) w
-
       same-cell : (i j : ℕ) → number w′ (cell pot size i j) ≡ number w (cell pot size i j)
-      same-cell i j =
-          let e : cell pot size i j ≡ (pot + 2 * size) + (i * rowWidth size + j) = omega arith in
-          ap (number w′) e
-          ∙ sym (getD-drop (pot + 2 * size) w′ (i * rowWidth size + j) (pos 0))
-          ∙ ap (λ (l : List ℤ). number l (i * rowWidth size + j)) (s .behind)
-          ∙ getD-drop (pot + 2 * size) w (i * rowWidth size + j) (pos 0)
-          ∙ ap (number w) (sym e)
+      same-cell i j = scratch-behind s (cell pot size i j) (omega arith)
 
 pub kept-trans : {count pot size : ℕ} {w w′ w″ : List ℤ} → Kept count pot size w w′ → Kept count pot size w′ w″ → Kept count pot size w w″
 kept-trans a b = record { reduced = b .reduced; scratch = scratch-trans (a .scratch) (b .scratch) }
@@ -361,28 +351,3 @@ pub copied-kept : {count pot size : ℕ} {w : List ℤ} → Reduced count pot si
 copied-kept {count} {pot} {size} {w} r from room w′ len e =
     let i : pot + size + size ≡ pot + 2 * size = omega arith in
     kept-copy r w′ (subst (λ (k : ℕ). Scratch (pot + size) k w w′) i (copied-scratch from (pot + size) size w w′ (omega (arith, r .room)) room len e))
-
--- ---- a step of the front, read, and its reduced weight
-module _ {count pot size : ℕ} {w : List ℤ} (r : Reduced count pot size w) (i : ℕ) (h : i < count) where
-  pub step-read : ReadReady i w
-  step-read = read-ready (r .steps) i h
-
-  -- the step as it was read
-  module _ (t : Step) (e : t ≡ stepIn w i) where
-    pub from-lt : t .from < size
-    from-lt = rw e (r .steps .ok i h .from-lt)
-
-    pub to-lt : t .to < size
-    to-lt = rw e (r .steps .ok i h .to-lt)
-
-    pub light : Within maxWeight (t .weight)
-    light = rw e (r .steps .ok i h .light)
-
-pub twice-fits : (v : ℤ) → Within maxWeight v → SFits w64 (v +ℤ v)
-twice-fits v h = simp ints (omega zs)
-
-pub plus-fits : (v a : ℤ) → Within maxWeight v → Within maxPotential a → SFits w64 ((v +ℤ v) +ℤ a)
-plus-fits v a h k = simp ints (omega zs)
-
-pub whole-fits : (v a b : ℤ) → Within maxWeight v → Within maxPotential a → Within maxPotential b → SFits w64 (((v +ℤ v) +ℤ a) -ℤ b)
-whole-fits v a b h k l = simp ints (omega zs)

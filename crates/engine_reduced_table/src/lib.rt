@@ -1,9 +1,13 @@
 // The table while it is made, on reduced weights. Behind the steps stand a number of each point (its potential) at
 // `pot`, a row to copy to, and the table: an entry is twice the sum of a walk, and the number of its start less that of
 // its end; or FAR. Each function only lowers an entry by a sum of two.
+use engine_packed_steps::read_step;
+use steps::Step;
 ghost use mathlib.Core.Path.{_≡_};
+ghost use Prim.Native.Nat.{_<_};
 ghost use Rattle.lines.specs.Line.{number};
-ghost use Rattle.engine_reduced_table.specs.Reduced.{cell, Kept, Asked, LowerReady, NegativePart};
+ghost use Rattle.engine_reduced_table.specs.Reduced.{cell, Reduced, Kept, Asked, LowerReady, NegativePart};
+ghost use Rattle.engine_reduced_table.specs.Weight.{ReducedIf};
 
 // Stands for no walk while the table is made.
 pub const FAR: i64 = 100_000_000_000_000;
@@ -71,4 +75,36 @@ pub fn lower_entry(
     if z < old {
         work[at + j] = z;
     }
+}
+
+// A step with its reduced weight in place of its own, where that can be an entry: it is not below 0, and below FAR.
+pub enum ReducedStep {
+    Entry(Step),
+    NoEntry,
+}
+
+// Step i of those at the front on reduced weights: twice its weight, and the number of its start less that of its end.
+pub fn reduced_step(work: &[i64], count: usize, pot: usize, size: usize, i: usize) -> ReducedStep
+    requires { ⌜ Reduced count pot size (now work) × (i < count) ⌝ }
+    ensures { λ r. ⌜ ReducedIf count pot size (now (work .entry)) i r ⌝ }
+{
+    let step = read_step(work, i);
+    let from = step.from;
+    let to = step.to;
+    let weight = step.weight;
+    let a = work[pot + from];
+    let b = work[pot + to];
+    let z = weight + weight + a - b;
+    let negative = z < 0;
+    if negative {
+        return ReducedStep::NoEntry;
+    }
+    if z < FAR {
+        return ReducedStep::Entry(Step {
+            from,
+            to,
+            weight: z,
+        });
+    }
+    ReducedStep::NoEntry
 }

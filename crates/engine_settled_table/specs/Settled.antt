@@ -18,6 +18,7 @@ use Rattle.steps.specs.declared.Step.{Step}
 use Rattle.theory_walks.specs.Distance.{none}
 use Rattle.engine_packed_steps.specs.Steps.{stepIn, stepsIn}
 use Rattle.engine_reduced_table.specs.Reduced.{far, cell, Entry, Asked, NegativePart}
+use Rattle.engine_reduced_table.specs.Weight.{reducedWeight, OnReduced}
 
 -- ---- the sum of what row s is above row u and a weight, over the first t columns
 pub record Summed (pot size s u : ℕ) (r : ℤ) (w : List ℤ) (t : ℕ) (z : ℤ) : Type 0 where
@@ -141,7 +142,7 @@ module _ {count pot size s u : ℕ} {r : ℤ} {w : List ℤ} (q : SumReady count
 -- ---- the whole table
 pub record StepSettled (count pot size : ℕ) (w : List ℤ) (i : ℕ) : Type 0 where
   pub all : (t : ℕ) → t < size → number w (cell pot size (stepIn w i .from) t)
-      ⩽ number w (cell pot size (stepIn w i .to) t) +ℤ (((stepIn w i .weight +ℤ stepIn w i .weight) +ℤ number w (pot + stepIn w i .from)) -ℤ number w (pot + stepIn w i .to))
+      ⩽ number w (cell pot size (stepIn w i .to) t) +ℤ reducedWeight pot w (stepIn w i)
 
 -- of the first points, and the first steps
 abbrev pub DiagonalTo : ℕ → ℕ → List ℤ → ℕ → Type 0
@@ -169,13 +170,10 @@ pub record TableIf (count pot size : ℕ) (w : List ℤ) (b : Bool) : Type 0 whe
 pub step-no : (count pot size : ℕ) (w : List ℤ) (i : ℕ) → StepIf count pot size w i false
 step-no count pot size w i = record { yes = λ e. never (cc) }
 
--- a step that was read, and its rows
-pub step-if : {count pot size i : ℕ} {w : List ℤ} (t : Step) → t ≡ stepIn w i → (b : Bool)
-    → SettledIf pot size (t .from) (t .to) (((t .weight +ℤ t .weight) +ℤ number w (pot + t .from)) -ℤ number w (pot + t .to)) w b → StepIf count pot size w i b
-step-if {count} {pot} {size} {i} {w} t e b s = record {
-  yes = λ f. record {
-    all = subst (λ (x : Step). (j : ℕ) → j < size → number w (cell pot size (x .from) j) ⩽ number w (cell pot size (x .to) j) +ℤ (((x .weight +ℤ x .weight) +ℤ number w (pot + x .from)) -ℤ number w (pot + x .to))) e (s .all f);
-  };
+-- a step on reduced weights, and its rows
+pub step-if : {count pot size i : ℕ} {w : List ℤ} (s : Step) → OnReduced count pot size w i s → (b : Bool) → SettledIf pot size (s .from) (s .to) (s .weight) w b → StepIf count pot size w i b
+step-if {pot} {size} {w} s o b settled = record {
+  yes = λ f. record { all = subst (λ (x : Step). (j : ℕ) → j < size → number w (cell pot size (x .from) j) ⩽ number w (cell pot size (x .to) j) +ℤ x .weight) (o .is) (settled .all f) };
 }
 
 -- ---- the two loops over the table

@@ -1,11 +1,12 @@
 // Whether the table is settled: the diagonal is 0, and no step lowers an entry. Then it holds the distances, each turned
 // back by the numbers of its two points.
 use decide_rows::NO_WALK;
-use engine_packed_steps::read_step;
 use engine_reduced_table::FAR;
+use engine_reduced_table::ReducedStep;
 use engine_reduced_table::SPARE;
 use engine_reduced_table::entry_at;
 use engine_reduced_table::negative_part;
+use engine_reduced_table::reduced_step;
 use integers::halved;
 ghost use mathlib.Core.Path.{_≡_};
 ghost use Prim.Native.Nat.{_<_};
@@ -46,19 +47,8 @@ fn step_settled(work: &[i64], count: usize, pot: usize, size: usize, i: usize) -
     requires { ⌜ Reduced count pot size (now work) × (i < count) ⌝ }
     ensures { λ b. ⌜ StepIf count pot size (now (work .entry)) i b ⌝ }
 {
-    let step = read_step(work, i);
-    let from = step.from;
-    let to = step.to;
-    let weight = step.weight;
-    let a = work[pot + from];
-    let b = work[pot + to];
-    let z = weight + weight + a - b;
-    let below = z < 0;
-    if below {
-        return false;
-    }
-    if z < FAR {
-        return row_settled(work, count, pot, size, from, to, z);
+    if let ReducedStep::Entry(s) = reduced_step(work, count, pot, size, i) {
+        return row_settled(work, count, pot, size, s.from, s.to, s.weight);
     }
     false
 }

@@ -36,9 +36,6 @@ unfoldable pub stateOf : ℕ → List Line → Bool → List ℤ
 stateOf n ls refused = pos n ∷ pos (length ls) ∷ flagOf refused ∷ (numbersOf ls ++ zeros (behind (length ls)))
 
 -- ---- any numbers, read as a state
-abbrev pub headOf : List ℤ → Head
-headOf s = record { n = natAbs (number s 0); count = natAbs (number s 1); refused = not (eqZ (number s 2) (pos 0)) }
-
 abbrev pub variablesIn : List ℤ → ℕ
 variablesIn s = natAbs (number s 0)
 
@@ -47,6 +44,9 @@ countIn s = natAbs (number s 1)
 
 abbrev pub refusedIn : List ℤ → Bool
 refusedIn s = not (eqZ (number s 2) (pos 0))
+
+abbrev pub headOf : List ℤ → Head
+headOf s = record { n = variablesIn s; count = countIn s; refused = refusedIn s }
 
 -- the numbers of its lines
 abbrev pub numbersIn : List ℤ → List ℤ

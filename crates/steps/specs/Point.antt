@@ -12,7 +12,8 @@ point x sign = 2 * x + sign
 unfoldable pub opposite : ℕ → ℕ
 opposite p = (p + 1) - 2 * (p % 2)
 
-abbrev signed : ℕ → ℤ → ℤ
+-- a value with a sign: 0 is plus, 1 is minus
+abbrev pub signed : ℕ → ℤ → ℤ
 signed zero z = z
 signed (suc k) z = negℤ z
 

@@ -1,9 +1,10 @@
 -- Walks: steps that follow each other end to start (the field's term: paths), their sums, and what a walk says of its two ends.
-use mathlib.Core.Path.{_≡_, ap, _∙_}
+use mathlib.Core.Path.{_≡_, refl, ap, _∙_}
 use mathlib.Core.List.{List, [], _∷_, _++_}
-use Prim.Native.Nat.{ℕ}
+use Prim.Native.Nat.{ℕ, suc}
 use native.Mathlib.Omega.{arith}
 use lib.IntN.{ℤ, pos, _+ℤ_, _-ℤ_}
+use lib.ListN.{length}
 use Rattle.integers.specs.Integer.{_⩽_}
 use Rattle.integers.specs.Linear.{ints}
 use Rattle.lines.specs.Line.{Assignment}
@@ -33,6 +34,12 @@ names-append L [] ls [] ts a b = b
 names-append L [] ls (s ∷ ss) ts a b = absurd a
 names-append L (k ∷ ks) ls [] ts a b = absurd a
 names-append L (k ∷ ks) ls (s ∷ ss) ts a b = (a .0, names-append L ks ls ss ts (a .1) b)
+
+pub names-length : (L : List ℤ) (ks : List ℕ) (ts : List Step) → Names L ks ts → length ts ≡ length ks
+names-length L [] [] n = refl
+names-length L [] (t ∷ ts) n = absurd n
+names-length L (k ∷ ks) [] n = absurd n
+names-length L (k ∷ ks) (t ∷ ts) n = ap suc (names-length L ks ts (n .1))
 
 -- each of the steps holds
 abbrev pub AllSay : Assignment → List Step → Type 0

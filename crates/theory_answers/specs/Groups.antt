@@ -8,7 +8,8 @@ use native.Mathlib.Decide.{ℕ-discrete, decLt}
 use lib.IntN.{ℤ, pos, negℤ, negℤ-negℤ}
 use Rattle.integers.specs.Linear.{ints}
 use Rattle.lines.specs.declared.Line.{Line}
-use Rattle.theory_answers.specs.Semantics.{Equal, Mirrored, AlwaysZero, signed, Together, IsGroup, groupSign, SameVariable, SameSign, Written}
+use Rattle.steps.specs.Point.{signed}
+use Rattle.theory_answers.specs.Semantics.{Equal, Mirrored, AlwaysZero, Together, IsGroup, groupSign, SameVariable, SameSign, Written}
 use Rattle.theory_answers.specs.Unique.{one-group}
 
 -- ---- signs

@@ -15,12 +15,12 @@ use Rattle.integers.specs.Sequence.{length-tabulate, getD-tabulate}
 use Rattle.lines.specs.declared.Line.{Line}
 use Rattle.lines.specs.Line.{Assignment, assignmentOf, Solves}
 use Rattle.lines.specs.Valid.{AllOk}
-use Rattle.steps.specs.Point.{point, value, value-plus, value-minus}
+use Rattle.steps.specs.Point.{point, signed, value, value-plus, value-minus}
 use Rattle.theory_walks.specs.Distance.{Distance, none, some, _⊑_, some-le, le-some}
 use Rattle.theory_bounds.specs.Points.{variableOf, value-cong, variable-below}
 use Rattle.theory_bounds.specs.Tight.{Table, halves, tight}
 use Rattle.theory_bounds.specs.Table.{ClosedTable, Solution, tableModel, model-solves, model-nearest, model-unique, consecutive, greatest, no-greatest, least, no-least, equal-points}
-use Rattle.theory_answers.specs.Semantics.{Agrees, IsModel, signed, Together, IsGroup, groupVariable, groupSign, LeastWritten, GreatestWritten, Written, NoGreatest, NoLeast}
+use Rattle.theory_answers.specs.Semantics.{Agrees, IsModel, Together, IsGroup, groupVariable, groupSign, LeastWritten, GreatestWritten, Written, NoGreatest, NoLeast}
 use Rattle.theory_bounds.specs.Verdict.{distances, verdictOf}
 use Rattle.theory_bounds.specs.Answers.{modelOf, greatestOf, leastOf, boundAt, bound-least, bound-greatest, boundsOf, notAbove0, samePoints, groupPoint, groupAt, group-variable, group-sign, groupsOf}
 use Rattle.integers.specs.Lowest.{Passed, NonePassed, lowest-known}
@@ -38,11 +38,8 @@ not-above (some z) = ((λ e. some-le (to z e)), (λ h. back z (le-some h)))
 
 -- what a point stands for: its variable with its sign
 value-signed : (t : Assignment) (p : ℕ) → value t p ≡ signed (p % 2) (t (p / 2))
-value-signed t p = go (p % 2) refl
-  where
-    go : (s : ℕ) → p % 2 ≡ s → value t p ≡ signed s (t (p / 2))
-    go zero e = let q : p ≡ point (p / 2) 0 = omega arith in ap (value t) q ∙ value-plus t (p / 2)
-    go (suc s) e = let q : p ≡ point (p / 2) 1 = omega arith in ap (value t) q ∙ value-minus t (p / 2)
+unfolding value
+value-signed t p = refl
 
 value-even : (t : Assignment) (x : ℕ) → value t (2 * x) ≡ t x
 value-even t x = let q : 2 * x ≡ point x 0 = omega arith in ap (value t) q ∙ value-plus t x

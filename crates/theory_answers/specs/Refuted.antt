@@ -2,7 +2,7 @@
 use mathlib.Core.Path.{_≡_, refl, sym, ap, _∙_}
 use mathlib.Core.Bool.{Bool, true, false, not, _&&_}
 use mathlib.Core.List.{List, [], _∷_, _++_}
-use Prim.Native.Nat.{ℕ, _+_, _*_, _<_, _≤_}
+use Prim.Native.Nat.{ℕ, _*_, _<_, _≤_}
 use native.Mathlib.Omega.{arith}
 use lib.IntN.{ℤ}
 use lib.ListN.{length, length-append}
@@ -13,6 +13,7 @@ use Rattle.steps.specs.declared.Step.{Step}
 use Rattle.steps.specs.Point.{opposite}
 use Rattle.steps.specs.Step.{stepsOf}
 use Rattle.steps.specs.Walk.{Path}
+use Rattle.decide_buffers.specs.Room.{refutationRoom}
 use Rattle.theory_walks.specs.Distance.{some}
 use Rattle.theory_walks.specs.Least.{best-attained}
 use Rattle.theory_walks.specs.Negative.{noNegative, negative-point, negative-walk}
@@ -27,7 +28,7 @@ pub record Due (n : ℕ) (L : List ℤ) (R : List ℕ) : Type 0 where
   pub kind : kindOf R ≡ dueKind n (linesOf L)
   pub lowest : dueKind n (linesOf L) ≡ 3 → R ≡ 3 ∷ 1 ∷ 0 ∷ 2 * firstFalse 0 (linesOf L) ∷ []
   pub few : (dueKind n (linesOf L) ≡ 3 → ⊥) → stepsIn R ≤ 4 * n
-  pub size : length R ≤ 4 + 4 * n
+  pub size : length R ≤ refutationRoom n
 
 pub kind-false : (n : ℕ) (ls : List Line) → hasFalse ls ≡ true → dueKind n ls ≡ 3
 unfolding dueKind

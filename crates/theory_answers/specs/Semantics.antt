@@ -2,13 +2,14 @@
 use mathlib.Core.Path.{_≡_}
 use mathlib.Core.Logic.{_⊎_}
 use mathlib.Core.List.{List}
-use Prim.Native.Nat.{ℕ, zero, suc, _+_, _*_, _≤_, _<_}
+use Prim.Native.Nat.{ℕ, _+_, _*_, _≤_, _<_}
 use lib.IntN.{ℤ, pos, negℤ, natAbs}
 use lib.ListN.{length, getD}
 use Rattle.integers.specs.Integer.{_⩽_}
 use Rattle.lines.specs.declared.Line.{Line}
 use Rattle.lines.specs.Limits.{absentLeast, absentGreatest}
 use Rattle.lines.specs.Line.{Assignment, assignmentOf, Solves}
+use Rattle.steps.specs.Point.{signed}
 
 -- t agrees with s on all variables before k
 abbrev pub Agrees : ℕ → Assignment → Assignment → Type 0
@@ -52,12 +53,7 @@ Mirrored ls x y = (t : Assignment) → Solves ls t → t x ≡ negℤ (t y)
 abbrev pub AlwaysZero : List Line → ℕ → Type 0
 AlwaysZero ls x = (t : Assignment) → Solves ls t → t x ≡ pos 0
 
--- a value with a sign: 0 is plus, 1 is minus
-abbrev pub signed : ℕ → ℤ → ℤ
-signed zero z = z
-signed (suc k) z = negℤ z
-
--- x is r with this sign in every integer solution: with plus that is `Equal`, with minus `Mirrored`
+-- x is r with this sign (0 is plus, 1 is minus) in every integer solution: with plus that is `Equal`, with minus `Mirrored`
 abbrev pub Together : List Line → ℕ → ℕ → ℕ → Type 0
 Together ls x r sign = (t : Assignment) → Solves ls t → t x ≡ signed sign (t r)
 

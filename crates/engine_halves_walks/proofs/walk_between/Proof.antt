@@ -8,32 +8,32 @@ use Rattle.engine_halves_walks.proofs.walk_between.Statement.{statement
 use Rattle.engine_halves_walks.proofs.walk_between.Tie as tie
 
 -- the row of the source stands
-module _ (c : tie.After-start-row) where
-  abbrev a : tie.After-row-at
-  a = c .before .before
+module _ (started : tie.After-start-row) where
+  abbrev placed : tie.After-row-at
+  placed = started .before .before
 
-  abbrev s : tie.Start
-  s = a .before
+  abbrev start : tie.Start
+  start = placed .before
 
 pass-all-requires : tie.Need-pass-all-requires
-pass-all-requires c κs = let r = c .before .before in between-pass (s r .pre) (a r .row-at .ensures) (r .start-row .ensures)
+pass-all-requires call κs = let started = call .before .before in between-pass (start started .pre) (placed started .row-at .ensures) (started .start-row .ensures)
 
 -- all passes were made
-module _ (c : tie.After-pass-all) where
-  abbrev r : tie.After-start-row
-  r = c .before .before .before
+module _ (after : tie.After-pass-all) where
+  abbrev started : tie.After-start-row
+  started = after .before .before .before
 
-  passed : Passed (a r .row-at .result) (2 * s r .args .n) (now (s r .args .work)) (c .pass-all .last .0) (2 * s r .args .n)
-  passed = passed-after (r .start-row .ensures) (c .pass-all .ensures)
+  passed : Passed (placed started .row-at .result) (2 * start started .args .n) (now (start started .args .work)) (after .pass-all .last .0) (2 * start started .args .n)
+  passed = passed-after (started .start-row .ensures) (after .pass-all .ensures)
 
 follow-back-requires : tie.Need-follow-back-requires
-follow-back-requires c κs = let d = c .before .before in between-follow (s (r d) .pre) (a (r d) .row-at .ensures) (passed d)
+follow-back-requires call κs = let after = call .before .before in between-follow (start (started after) .pre) (placed (started after) .row-at .ensures) (passed after)
 
 returns : tie.Need-returns
-returns c =
-    let f = c .before in
-    let d = f .before .before .before in
-    walked-between (s (r d) .pre) (a (r d) .row-at .ensures) (passed d) (f .follow-back .ensures)
+returns exit =
+    let followed = exit .before in
+    let after = followed .before .before .before in
+    walked-between (start (started after) .pre) (placed (started after) .row-at .ensures) (passed after) (followed .follow-back .ensures)
 
 pub walk-between-spec : {M : Type 1} → statement M
 walk-between-spec =

@@ -1,154 +1,42 @@
--- `engine_settled_table::step_settled` meets its contract.
-use mathlib.Core.Path.{_≡_}
-use mathlib.Core.List.{List}
-use Prim.Native.Nat.{_+_, _<_}
-use native.Mathlib.Omega.{arith}
+-- `engine_settled_table::step_settled` meets its contract: the step on reduced weights, and the rows of its points.
 use denote.Ref.{now}
-use lib.IntN.{ℤ, pos, _+ℤ_, _-ℤ_}
-use mir.Syntax.{w64}
-use mir.Val.{toZ, ofZ}
 use mir.Facts.{toZ-ofZ}
-use Rattle.integers.specs.Integer.{_⩽_, _⋖_, Within}
-use Rattle.integers.specs.Linear.{ints}
-use Rattle.integers.specs.Laws.{test-yes, test-no}
-use Rattle.lines.specs.Line.{number}
 use Rattle.steps.specs.declared.Step.{Step}
-use Rattle.steps.specs.Step.{maxWeight}
-use Rattle.decide_rows.specs.Read.{weight-fits}
-use Rattle.engine_reduced_table.specs.Reduced.{far, maxPotential, asked}
+use Rattle.engine_reduced_table.specs.Weight.{OnReduced, reduced-found, reduced-fits}
 use Rattle.engine_settled_table.specs.Settled.{step-no, step-if}
-use Rattle.engine_reduced_table.specs.Reduced.{step-read, from-lt, to-lt, light, twice-fits, plus-fits, whole-fits}
 use borrow.Author.Needs.{needs}
 use Rattle.engine_settled_table.proofs.step_settled.Statement.{statement}
 use Rattle.engine_settled_table.proofs.step_settled.Tie as tie
 
--- the step that was read
-module _ (f : tie.After-read-step) where
-  abbrev s : tie.Start
-  s = f .before
+-- the step on reduced weights
+module _ (found : tie.After-s) where
+  abbrev read : tie.After-reduced-step
+  read = found .before .before
 
-  abbrev w : List ℤ
-  w = now (s .args .work)
+  abbrev start : tie.Start
+  start = read .before
 
-  abbrev t : Step
-  t = f .read-step .result
+  abbrev step : Step
+  step = found .s .given .0 .0
 
-  from-low : t .from < s .args .size
-  from-low = from-lt (s .pre .0) (s .args .i) (s .pre .1) t (f .read-step .ensures)
+  on : OnReduced (start .args .count) (start .args .pot) (start .args .size) (now (start .args .work)) (start .args .i) step
+  on = reduced-found (read .reduced-step .ensures) (found .s .given .1)
 
-  to-low : t .to < s .args .size
-  to-low = to-lt (s .pre .0) (s .args .i) (s .pre .1) t (f .read-step .ensures)
-
-  small : Within maxWeight (t .weight)
-  small = light (s .pre .0) (s .args .i) (s .pre .1) t (f .read-step .ensures)
-
-  weight-is : toZ w64 (ofZ w64 (t .weight)) ≡ t .weight
-  weight-is = toZ-ofZ (weight-fits _ small)
-
--- and the numbers of its points
-module _ (c : tie.After-b) where
-  abbrev f : tie.After-read-step
-  f = c .before .before .before
-
-  abbrev a : ℤ
-  a = number (w f) (s f .args .pot + t f .from)
-
-  abbrev b : ℤ
-  b = number (w f) (s f .args .pot + t f .to)
-
-  a-is : toZ w64 (ofZ w64 a) ≡ a
-  a-is = toZ-ofZ (record { sfits = c .before .a .given })
-
-  b-is : toZ w64 (ofZ w64 b) ≡ b
-  b-is = toZ-ofZ (record { sfits = c .b .given })
-
-  a-small : Within maxPotential a
-  a-small = s f .pre .0 .small (t f .from) (from-low f)
-
-  b-small : Within maxPotential b
-  b-small = s f .pre .0 .small (t f .to) (to-low f)
-
-  twice-is : toZ w64 (ofZ w64 (t f .weight +ℤ t f .weight)) ≡ t f .weight +ℤ t f .weight
-  twice-is = toZ-ofZ (twice-fits (t f .weight) (small f))
-
-  plus-is : toZ w64 (ofZ w64 ((t f .weight +ℤ t f .weight) +ℤ a)) ≡ (t f .weight +ℤ t f .weight) +ℤ a
-  plus-is = toZ-ofZ (plus-fits (t f .weight) a (small f) a-small)
-
-  whole-is : toZ w64 (ofZ w64 (((t f .weight +ℤ t f .weight) +ℤ a) -ℤ b)) ≡ ((t f .weight +ℤ t f .weight) +ℤ a) -ℤ b
-  whole-is = toZ-ofZ (whole-fits (t f .weight) a b (small f) a-small b-small)
-
-read-step-requires : tie.Need-read-step-requires
-read-step-requires c κs = step-read (c .pre .0) _ (c .pre .1)
-
-add-a : tie.Need-add-a
-add-a c = let h = from-low (c .before) in search needs
-
-mul-a : tie.Need-mul-a
-mul-a c = let h = from-low (c .before) in search needs
-
-out-a : tie.Need-shared-slice-copy-out-a
-out-a c = let h = from-low (c .before) in search needs
-
-add-b : tie.Need-add-b
-add-b c = let h = to-low (c .before .before) in search needs
-
-mul-b : tie.Need-mul-b
-mul-b c = let h = to-low (c .before .before) in search needs
-
-out-b : tie.Need-shared-slice-copy-out-b
-out-b c = let h = to-low (c .before .before) in search needs
-
-add-z : tie.Need-add-z
-add-z c = rw (weight-is (f c)) (twice-fits _ (small (f c)))
-
-add-z-2 : tie.Need-add-z-2
-add-z-2 c = rw (weight-is (f c), twice-is c, a-is c) (plus-fits _ _ (small (f c)) (a-small c))
-
-sub-z : tie.Need-sub-z
-sub-z c = rw (weight-is (f c), twice-is c, a-is c, plus-is c, b-is c) (whole-fits _ _ _ (small (f c)) (a-small c) (b-small c))
-
-returns : tie.Need-returns
-returns c = step-no _ _ _ _ _
-
-below-far : (z : ℤ) → z ⋖ pos far → z ⩽ pos far
-below-far z = simp ints (omega arith)
+reduced-step-requires : tie.Need-reduced-step-requires
+reduced-step-requires start κs = search needs
 
 row-settled-requires : tie.Need-row-settled-requires
-row-settled-requires c κs =
-    let n = c .before in
-    let d = n .before in
-    let g = f d in
-    rw (weight-is g, twice-is d, a-is d, plus-is d, b-is d, whole-is d)
-    (record {
-      ask = asked (s g .pre .0) _ _ (from-low g) (to-low g);
-      low = test-no _ _ (rw (weight-is g, twice-is d, a-is d, plus-is d, b-is d, whole-is d) at (n .if1 .left));
-      high = below-far _ (test-yes _ _ (rw (weight-is g, twice-is d, a-is d, plus-is d, b-is d, whole-is d) at (c .if2 .taken)));
-    })
+row-settled-requires call κs =
+    let o = on (call .before .before) in
+    rw (toZ-ofZ (reduced-fits o)) (record { ask = o .ready .ask; low = o .ready .by .low; high = o .ready .by .high })
+
+returns : tie.Need-returns
+returns exit =
+    let found = exit .before .before .before in
+    step-if (step found) (on found) (exit .row-settled .result) (rw (toZ-ofZ (reduced-fits (on found))) at (exit .row-settled .ensures))
 
 returns-2 : tie.Need-returns-2
-returns-2 c =
-    let d = c .before .before .before in
-    let g = f d in
-    step-if (t g) (g .read-step .ensures) (c .row-settled .result) (rw (weight-is g, twice-is d, a-is d, plus-is d, b-is d, whole-is d) at (c .row-settled .ensures))
-
-returns-3 : tie.Need-returns-3
-returns-3 c = step-no _ _ _ _ _
+returns-2 exit = step-no _ _ _ _ _
 
 pub step-settled-spec : {M : Type 1} → statement M
-step-settled-spec =
-    tie.close
-    (tie.spec
-    read-step-requires
-    add-a
-    mul-a
-    out-a
-    add-b
-    mul-b
-    out-b
-    add-z
-    add-z-2
-    sub-z
-    returns
-    row-settled-requires
-    returns-2
-    returns-3)
+step-settled-spec = tie.close (tie.spec reduced-step-requires (search needs) row-settled-requires returns (search needs) returns-2)

@@ -1,5 +1,5 @@
 -- Step numbers that stand in the work area and name a walk between two points.
-use mathlib.Core.Path.{_≡_, refl, ap, ap₂, _∙_}
+use mathlib.Core.Path.{_≡_, refl, ap, ap₂, subst, _∙_}
 use mathlib.Core.List.{List, [], _∷_, _++_, map}
 use Prim.Native.Nat.{ℕ, zero, suc, _+_, _*_, _-_, _<_, _≤_}
 use native.Mathlib.Decide.{decLt}
@@ -11,7 +11,9 @@ use Rattle.lines.specs.Limits.{maxLines}
 use Rattle.lines.specs.Line.{number}
 use Rattle.steps.specs.declared.Step.{Step}
 use Rattle.steps.specs.Walk.{Path, total, Names}
-use Rattle.decide_written_walks.specs.Copy.{StepNumbers}
+use Rattle.check_refutation.specs.Progress.{headSize}
+use Rattle.decide_written_walks.specs.Copy.{StepNumbers, copiedTo}
+use Rattle.decide_written_walks.specs.Refutation.{behind-place}
 
 -- these numbers stand from a place on, and could be steps
 abbrev pub Stand : List ℤ → ℕ → List ℕ → Type 0
@@ -65,10 +67,10 @@ stand-append w from ks ls a b i h = go (decLt i (length ks))
         rw y (ap (number w) x ∙ b (i - length ks) j .0, b (i - length ks) j .1)
 
 -- ---- what is copied of them
-pub stand-numbers : (w : List ℤ) (from : ℕ) (ks : List ℕ) → Stand w from ks → StepNumbers w from (length ks)
-stand-numbers w from ks s i h = (getD ks i 0, s i h .0, s i h .1)
+pub stand-numbers : (w : List ℤ) (from : ℕ) (ks : List ℕ) → Stand w from ks → (size : ℕ) → length ks ≡ size → StepNumbers w from size
+stand-numbers w from ks s size e i h = let l : i < length ks = omega (arith, h, e) in (getD ks i 0, s i l .0, s i l .1)
 
-pub stand-copied : (w : List ℤ) (from : ℕ) (ks : List ℕ) → from + length ks ≤ length w → Stand w from ks → take (length ks) (map natAbs (drop from w)) ≡ ks
+stand-copied : (w : List ℤ) (from : ℕ) (ks : List ℕ) → from + length ks ≤ length w → Stand w from ks → take (length ks) (map natAbs (drop from w)) ≡ ks
 stand-copied w from [] room s = refl
 stand-copied w from (k ∷ ks) room s =
     ap (λ (l : List ℤ). take (suc (length ks)) (map natAbs l)) (drop-cons w from (pos 0) (omega (arith, room)))
@@ -79,3 +81,13 @@ stand-copied w from (k ∷ ks) room s =
 
     rest : Stand w (suc from) ks
     rest i h = let e : suc from + i ≡ from + suc i = omega arith in (ap (number w) e ∙ s (suc i) (omega (arith, h)) .0, s (suc i) (omega (arith, h)) .1)
+
+-- and stands behind a refutation's head then
+pub stand-behind : (w : List ℤ) (from : ℕ) (ks : List ℕ) → from + length ks ≤ length w → Stand w from ks → (size : ℕ) → length ks ≡ size → (R R₁ : List ℕ) → headSize ≤ length R → R₁ ≡ copiedTo R headSize w from size
+    → drop headSize R₁ ≡ ks ++ drop (headSize + size) R
+stand-behind w from ks room s size e R R₁ head c =
+    ap (drop headSize) (c ∙ ap (λ (l : List ℕ). (take headSize R ++ l) ++ drop (headSize + size) R) copied)
+    ∙ behind-place R headSize size ks head
+  where
+    copied : take size (map natAbs (drop from w)) ≡ ks
+    copied = subst (λ (j : ℕ). take j (map natAbs (drop from w)) ≡ ks) e (stand-copied w from ks room s)

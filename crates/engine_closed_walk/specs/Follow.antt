@@ -22,18 +22,14 @@ use Rattle.decide_walkback.specs.Makes.{maxEntry}
 use Rattle.steps.specs.Laws.{number-below}
 use Rattle.engine_packed_steps.specs.Scratch.{Scratch, scratch-none, scratch-set, scratch-trans}
 use Rattle.engine_packed_steps.specs.Layout.{rowAt, placesAt}
-use Rattle.engine_halves_walks.specs.declared.Followed.{Followed}
-use Rattle.engine_halves_walks.specs.Stretch.{Stretch, stand-before}
-
--- the steps stand before this
-abbrev pub stepsEnd : ℕ → ℕ
-stepsEnd n = 2 * n * (2 * n)
+use Rattle.engine_closed_walk.specs.declared.Followed.{Followed}
+use Rattle.engine_closed_walk.specs.Stretch.{Stretch, stand-before}
 
 pub record FollowReady (n : ℕ) (L w : List ℤ) (v end : ℕ) : Type 0 where
   pub few : n ≤ maxVariables
   pub valid : LinesOk n L
   pub lines : lineCount L ≤ maxLines
-  pub low : stepsEnd n + 2 * n ≤ end
+  pub low : 2 * n ≤ end
   pub high : end ≤ rowAt n
   pub room : placesAt n ≤ length w
   pub within : v < 2 * n
@@ -46,13 +42,16 @@ pub record WalkAt (n : ℕ) (L : List ℤ) (u v end : ℕ) (w : List ℤ) (r : F
   pub found : (r .start ≡ end → ⊥) → Stretch L u v w (r .start) end (r .sum)
 
 pub record FollowedBack (n : ℕ) (L w : List ℤ) (u v end : ℕ) (w′ : List ℤ) (r : Followed) : Type 0 where
-  pub scratch : Scratch (stepsEnd n) end w w′
+  pub scratch : Scratch (end - 2 * n) end w w′
   pub walk : WalkAt n L u v end w′ r
+
+pub small-fits : (z : ℤ) → Within maxEntry z → SFits w64 z
+small-fits z h = simp ints (omega zs)
 
 -- ---- the loop: the numbers from the slot on name a walk from `at` to v of this sum
 pub record Following (n : ℕ) (L w₀ : List ℤ) (v end : ℕ) (w : List ℤ) (slot at : ℕ) (sum : ℤ) : Type 0 where
   pub free : end ≤ slot + 2 * n
-  pub scratch : Scratch (stepsEnd n) end w₀ w
+  pub scratch : Scratch (end - 2 * n) end w₀ w
   pub stretch : Stretch L at v w slot end sum
   pub at-lt : at < 2 * n
   pub small : Within (length (stretch .numbers) * maxWeight) sum
@@ -62,13 +61,13 @@ module _ (n : ℕ) (L w₀ : List ℤ) (v end : ℕ) (a : FollowReady n L w₀ v
   following-start =
       record {
         free = omega arith;
-        scratch = scratch-none (stepsEnd n) end w₀;
+        scratch = scratch-none (end - 2 * n) end w₀;
         stretch = record { numbers = []; count = omega arith; stand = λ i h. absurd (omega arith); steps = []; named = tt; path = refl; sum-is = refl };
         at-lt = a .within;
         small = record { low = simp ints (omega arith); high = simp ints (omega arith) };
       }
 
-  pub followed-nowhere : (u : ℕ) (w : List ℤ) → Scratch (stepsEnd n) end w₀ w → FollowedBack n L w₀ u v end w (record { start = end; sum = pos 0 })
+  pub followed-nowhere : (u : ℕ) (w : List ℤ) → Scratch (end - 2 * n) end w₀ w → FollowedBack n L w₀ u v end w (record { start = end; sum = pos 0 })
   followed-nowhere u w s = record {
     scratch = s;
     walk = record { high = omega arith; low = omega arith; small = record { low = simp ints (omega arith); high = simp ints (omega arith) }; found = λ f. absurd (f refl) };
@@ -108,7 +107,7 @@ module _ (n : ℕ) (L w₀ : List ℤ) (v end : ℕ) (a : FollowReady n L w₀ v
       following-more e =
           record {
             free = omega (arith, h);
-            scratch = scratch-trans (b .scratch) (scratch-set (stepsEnd n) end w (slot - 1) (pos k) (omega (arith, h, a .low)) (omega (arith, h, b .stretch .count)));
+            scratch = scratch-trans (b .scratch) (scratch-set (end - 2 * n) end w (slot - 1) (pos k) (omega (arith, h)) (omega (arith, h, b .stretch .count)));
             stretch =
                 record {
                   numbers = k ∷ b .stretch .numbers;
