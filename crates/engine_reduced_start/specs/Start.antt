@@ -1,5 +1,5 @@
 -- The table before anything leaves: numbers of points from a row of potentials, whatever that holds; far everywhere;
--- then the steps.
+-- then 0 on the diagonal.
 use mathlib.Core.Path.{_≡_, refl, sym, ap, subst, _∙_}
 use mathlib.Core.List.{List, []}
 use Prim.Native.Nat.{ℕ, _+_, _*_, _/_, _%_, _≤_, _<_}

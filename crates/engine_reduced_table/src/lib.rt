@@ -1,6 +1,6 @@
 // The table while it is made, on reduced weights. Behind the steps stand a number of each point (its potential) at
 // `pot`, a row to copy to, and the table: an entry is twice the sum of a walk, and the number of its start less that of
-// its end; or FAR. Each function only lowers an entry by a sum of two.
+// its end; or FAR. A function that stores only lowers an entry by a sum of two.
 use engine_packed_steps::read_step;
 use steps::Step;
 ghost use mathlib.Core.Path.{_≡_};

@@ -25,7 +25,7 @@ use Rattle.decide_table_by_rounds.specs.Made.{TableMade}
 use Rattle.engine_packed_steps.specs.Steps.{StepOk, stepsIn, steps-same, maxSteps}
 use Rattle.engine_packed_steps.specs.Scratch.{Scratch, scratch-at, scratch-wider, scratch-trans}
 use Rattle.engine_packed_steps.specs.Layout.{walksAt, rowAt, engineEnd}
-use Rattle.engine_packed_steps.specs.Laid.{LayReady, Laid}
+use Rattle.engine_packed_steps.specs.Laid.{Laid}
 use Rattle.engine_renaming.specs.Inverse.{same-behind}
 use Rattle.engine_closed_walk.specs.Passes.{SmallRow}
 use Rattle.engine_table.specs.Made.{MadeReady, Made}
@@ -80,9 +80,6 @@ pub record TableFound (n : ℕ) (L w w′ : List ℤ) (r : ℕ) : Type 0 where
 module _ {n count : ℕ} {L w : List ℤ} (a : TableAsked n L count w) where
   abbrev E : List Step
   E = stepsOf (linesOf L)
-
-  pub lay-ready : LayReady n L w
-  lay-ready = record { few = a .few; valid = a .valid; few-lines = a .few-lines; room = omega (arith, a .room) }
 
   module _ (w₁ : List ℤ) (kept : ℕ) (s : StandingAgain n L w w₁ kept) where
     most : kept ≤ maxSteps

@@ -21,16 +21,6 @@ half-greatest z k = (fore z k, back z k)
     back : (z k : ℤ) → k +ℤ k ⩽ z → k ⩽ half z
     back z k = simp ints (omega arith)
 
--- exact at odd negatives and at zero
-pub half-examples : (half (negℤ (pos 7)) ≡ negℤ (pos 4)) × (half (negℤ (pos 1)) ≡ negℤ (pos 1)) × (half (pos 0) ≡ pos 0) × (half (pos 7) ≡ pos 3)
-half-examples = (refl, refl, refl, refl)
-
-pub nearest-low : (lo hi : ℤ) → lo ⩽ nearestZero lo hi
-nearest-low lo hi = simp ints (omega arith)
-
-pub nearest-high : (lo hi : ℤ) → lo ⩽ hi → nearestZero lo hi ⩽ hi
-nearest-high lo hi = simp ints (omega arith)
-
 -- no number from lo to hi is nearer zero
 pub nearest-least : (lo hi z : ℤ) → lo ⩽ z → z ⩽ hi → natAbs (nearestZero lo hi) ≤ natAbs z
 nearest-least lo hi z = simp ints (omega arith)

@@ -9,7 +9,7 @@ use Rattle.integers.specs.Integer.{_⩽_, half}
 use Rattle.integers.specs.Linear.{ints}
 use Rattle.lines.specs.Line.{Assignment}
 use Rattle.steps.specs.Point.{opposite, value, value-opposite, opposite-twice}
-use Rattle.theory_walks.specs.Distance.{Distance, some, _⊑_, minD, _⊞_, halfD, Up, up, up-le, up-mono, up-eq, up-plus, up-plus-e, up-min-l, up-min-r, up-min-e, half-double, double-half, le-of-up, eq-of-up}
+use Rattle.theory_walks.specs.Distance.{Distance, some, minD, _⊞_, halfD, Up, up, up-le, up-mono, up-eq, up-plus, up-plus-e, up-min-l, up-min-r, up-min-e, half-double, double-half, eq-of-up}
 
 -- the distance from each point to each
 abbrev pub Table : Type 0
@@ -160,13 +160,6 @@ module _ (D T : Table) (h : ℕ → Distance)
 
     pub strong : Strong T h
     strong = record { diagonal = t-diagonal; triangle = t-triangle; mirrored = t-mirrored; twice = t-twice; joined = join; consistent = c .consistent }
-
--- the triangle inequality, as an order of distances
-pub triangle-le : {T : Table} {h : ℕ → Distance} → Strong T h → (i j k : ℕ) → T i k ⊑ T i j ⊞ T j k
-triangle-le {T} c i j k = le-of-up _ _ (λ z u. go z (up-plus-e _ _ z u))
-  where
-    go : (z : ℤ) → ((x : ℤ) × (y : ℤ) × Up (T i j) x × Up (T j k) y × (x +ℤ y ⩽ z)) → Up (T i k) z
-    go z (x, y, u, v, le) = up-mono (c .triangle u v) le
 
 -- the same of the definitions
 pub tight-strong : (D : Table) → Closed D (halves D) → Strong (tight D) (halves D)
