@@ -9,7 +9,7 @@ use crate::families::{Family, OF_SESSIONS};
 use crate::library;
 use crate::limits::{session_room, MOST_VARIABLES};
 use crate::lines::Line;
-use crate::multiples::{milliseconds, shown};
+use crate::multiples::{microseconds, milliseconds, shown};
 use crate::timing::{answer, LONG, TRIES};
 
 /// What is timed, and the seconds that each takes.
@@ -54,7 +54,7 @@ fn print_row(family: &Family) {
         milliseconds(decided),
         milliseconds(added),
         shown(added / decided),
-        milliseconds(withdrawn),
+        microseconds(withdrawn),
     );
 }
 
