@@ -13,5 +13,5 @@ pub mod Program
 pub mod Demands
 pub mod Exported
 pub mod Files
-pub mod Sessions
 pub mod SessionVersions
+pub mod Sessions

@@ -10,7 +10,6 @@ use lib.ListN.{length, drop, length-replicate}
 use Rattle.integers.specs.Laws.{never}
 use Rattle.integers.specs.Linear.{ints}
 use Rattle.lines.specs.declared.Line.{Line}
-use Rattle.lines.specs.declared.Refusal.{Refusal}
 use Rattle.lines.specs.declared.Refusal.the-variants.{BadCoefficient}
 use Rattle.lines.specs.declared.Validity.{Validity}
 use Rattle.lines.specs.declared.Validity.the-variants as validity
@@ -29,7 +28,7 @@ use Rattle.decide.specs.declared.Answer.the-variants as decide
 use Rattle.decide.specs.Decided.{unlessRefused, decideAnswer, answerFor, Leaves}
 use Rattle.session_state.specs.State.{sessionRoom, zeros, behind, stateOf, variablesIn, countIn, refusedIn, numbersWith, lineStart, putAt, headed, pushed}
 use Rattle.session_state.specs.Session.{pushed-is}
-use Rattle.session.specs.Promise.{startAnswer, startState, addValidity, addAnswer, addState, withdrawAnswer, withdrawState, Starts, Adds, Withdraws}
+use Rattle.session.specs.Promise.{startAnswer, startState, addValidity, addAnswer, addState, withdrawAnswer, Starts, Adds, Withdraws}
 use Rattle.session.specs.Sequence.{stands, variables, state-validity, all-numbers, add-answer, withdraws-from}
 use Rattle.demands.specs.DecideVersions.{right, right-keeps, roomWith, list-8-no}
 

@@ -12,7 +12,7 @@ use lib.IntN.{ℤ}
 use lib.ListN.{length, drop}
 use Rattle.lines.specs.declared.Line.{Line}
 use Rattle.lines.specs.declared.Refusal.{Refusal}
-use Rattle.lines.specs.declared.Refusal.the-variants.{TooManyVariables, TooManyLines, ShortOutput, AfterNo, NoLines}
+use Rattle.lines.specs.declared.Refusal.the-variants.{TooManyVariables, TooManyLines, ShortOutput, AfterNo}
 use Rattle.lines.specs.declared.Validity.{Validity}
 use Rattle.lines.specs.declared.Validity.the-variants as validity
 use Rattle.lines.specs.Limits.{maxVariables, maxLines}
@@ -25,26 +25,27 @@ use Rattle.decide.specs.declared.Answer.the-variants as decide
 use Rattle.decide.specs.Decided.{NotRefused, unlessRefused, answerFor, validityFor, Decided}
 use Rattle.session_state.specs.State.{sessionRoom, stateOf}
 use Rattle.session.specs.Promise.{statePlace, startAnswer, addAnswer, withdrawAnswer, Starts, Adds, Withdraws}
-use Rattle.session.specs.Sequence.{Reached, Grown, AddsTo, WithdrawsFrom, add-validity, add-answer, went-on, adds-to, withdraws-from, reached-stands, reached-more, grown-reached, add-withdraw}
+use Rattle.session.specs.Sequence.{Reached, Grown, Stands, AddsTo, WithdrawsFrom, add-validity, add-answer, went-on, adds-to, withdraws-from, reached-stands, reached-more, grown-reached, add-withdraw}
 use Rattle.c_deciding.specs.Calls.{decideCode}
 use Rattle.c_deciding.specs.Laws.{decisions-apart}
 use Rattle.c_session.specs.Calls.{doneCode, StartReturns, AddReturns, WithdrawReturns}
 use Rattle.c_session.specs.Laws.{start-placed, withdraw-placed, add-below, done-apart}
 use Rattle.demands.specs.Calls.{Call}
-use Rattle.demands.specs.Demands.{ValidFor, NothingUnlearned, nothing-unlearned}
+use Rattle.demands.specs.Demands.{NothingUnlearned, nothing-unlearned}
 use Rattle.demands.specs.Refusals.{Row, _when_, lineTable, roomsTable, FirstApplies}
 use Rattle.demands.specs.Refused.{gives-row, gives-last, gives-or, gives-refused, less-test, true-test, line-gives, rooms-give, decision-refused}
+use Rattle.demands.specs.SessionVersions.{rightAdd, right-add-keeps}
 
 -- ---- what a session holds
 
 -- After any sequence of calls from a start, each handed the state that the call before left, the state is `stateOf` n, the lines and the last answer, every
 -- number of its room, with what lay beyond it; and its lines are a valid list.
-pub record Holds (n : ℕ) (ls : List Line) (refused : Bool) (s : List ℤ) : Type 0 where
-  pub state : s ≡ stateOf n ls refused ++ drop (sessionRoom n) s
-  pub valid : ValidFor n (numbersOf ls)
+pub session-holds : (n : ℕ) (ls : List Line) (refused : Bool) (s : List ℤ) → Reached n ls refused s → Stands n ls refused s
+session-holds n ls refused s p = reached-stands p
 
-pub session-holds : (n : ℕ) (ls : List Line) (refused : Bool) (s : List ℤ) → Reached n ls refused s → Holds n ls refused s
-session-holds n ls refused s p = let k = reached-stands p in record { state = k .is; valid = k .valid }
+-- Every add is answered or refused, whatever stands in the state and in the buffers: what is stated here is of something.
+pub adds-exist : (s : List ℤ) (l : Line) (b : Lent) → (x : Answer) × (t : List ℤ) × (a : Lent) × Adds s l x b t a
+adds-exist s l b = let o = rightAdd s l b in (o .answer, o .state, o .after, right-add-keeps s l b)
 
 -- ---- a start
 

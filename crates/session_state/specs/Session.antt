@@ -1,25 +1,19 @@
 -- What is read from a session's state, and what it becomes: the state of its n, its lines and its last answer, with any numbers behind it.
 use mathlib.Core.Path.{_≡_, refl, sym, ap, _∙_}
-use mathlib.Core.Bool.{Bool, true, false, not, _&&_}
+use mathlib.Core.Bool.{Bool, true, false, not}
 use mathlib.Core.List.{List, [], _∷_, _++_, append-assoc, append-nil}
-use Prim.Native.Nat.{ℕ, zero, suc, _+_, _*_, _-_, _<_, _≤_}
-use native.Mathlib.Nat.{zero-add, suc-add}
-use native.Mathlib.Numerals.{add-one}
+use Prim.Native.Nat.{ℕ, suc, _+_, _*_, _-_, _<_, _≤_}
 use native.Mathlib.Omega.{arith}
 use borrow.Author.Tests.{le-leb}
 use lib.Dec.{leb}
 use lib.IntN.{ℤ, pos}
-use lib.ListN.{length, take, drop, set, replicate, length-append, length-replicate, replicate-append-replicate}
+use lib.ListN.{length, take, drop, set, length-append, length-replicate, replicate-append-replicate}
 use lib.Seq.{take-at, drop-at}
-use lib.Signed.{leZ}
-use mir.Syntax.{w32}
-use mir.Val.{SFits}
 use Rattle.integers.specs.Integer.{eqZ, isBetween}
-use Rattle.integers.specs.Linear.{ints}
 use Rattle.integers.specs.Laws.{both-true}
 use Rattle.lines.specs.declared.Line.{Line}
 use Rattle.lines.specs.Limits.{lineSize, maxVariables, maxLines}
-use Rattle.lines.specs.Line.{number, lineNumbers, numbersOf}
+use Rattle.lines.specs.Line.{lineNumbers, numbersOf}
 use Rattle.lines.specs.LineNumbers.{length-numbers, length-numbersOf}
 use Rattle.session_state.specs.State.{headSize, sessionRoom, flagOf, zeros, behind, stateOf, variablesIn, countIn, refusedIn, numbersIn, headOk, fitAll, isState, lineStart, putAt, headed, started, pushed, popped}
 use Rattle.session_state.specs.Laws.{room-split}

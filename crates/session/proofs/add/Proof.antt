@@ -14,7 +14,7 @@ use Rattle.decide_buffers.specs.Room.{Lent}
 use Rattle.lines.specs.declared.Line.{Line}
 use Rattle.lines.specs.Limits.{maxLines}
 use Rattle.session_state.specs.declared.Head.{Head}
-use Rattle.session_state.specs.State.{variablesIn, countIn, refusedIn, numbersWith, isState}
+use Rattle.session_state.specs.State.{countIn, refusedIn, isState}
 use Rattle.session_state.specs.Laws.{state-head-ok}
 use Rattle.session.specs.Promise.{no-state, after-no, decided-adds, answered-room}
 use Rattle.session.proofs.add.Statement.{statement}

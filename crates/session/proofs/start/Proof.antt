@@ -1,6 +1,5 @@
 -- `session::start` meets its contract: each way out has the tests that led there.
-use mathlib.Core.Path.{_≡_, refl, sym, ap, _∙_}
-use native.Mathlib.Omega.{arith}
+use mathlib.Core.Path.{refl, _∙_}
 use borrow.Author.Needs.{needs}
 use borrow.Author.Tests.{lt-ltb, le-ltb}
 use Rattle.session_state.specs.Session.{started-is}

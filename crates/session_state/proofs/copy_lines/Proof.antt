@@ -1,6 +1,5 @@
 -- `session_state::copy_lines` meets its contract.
-use mathlib.Core.Path.{_≡_, sym, ap, subst, _∙_}
-use mathlib.Core.Bool.{true}
+use mathlib.Core.Path.{_≡_, ap, _∙_}
 use mathlib.Core.List.{List, _++_}
 use Prim.Native.Nat.{ℕ}
 use native.Mathlib.Omega.{arith}
@@ -8,7 +7,7 @@ use borrow.Author.Needs.{needs}
 use lib.IntN.{ℤ}
 use lib.ListN.{length, drop}
 use Rattle.session_state.specs.declared.Head.{Head}
-use Rattle.session_state.specs.State.{countIn, numbersIn, fitAll}
+use Rattle.session_state.specs.State.{countIn, numbersIn}
 use Rattle.session_state.specs.Laws.{HeadOk, state-head, state-head-ok, state-fits, lines-end, lines-part, length-numbersIn}
 use Rattle.session_state.proofs.copy_lines.Statement.{statement}
 use Rattle.session_state.proofs.copy_lines.Tie as tie

@@ -6,11 +6,11 @@ use native.Mathlib.Omega.{arith}
 use borrow.Author.Needs.{needs}
 use lib.IntN.{ℤ}
 use lib.ListN.{length, drop, length-append, length-drop}
-use Rattle.lines.specs.Limits.{lineSize, maxLines}
+use Rattle.lines.specs.Limits.{lineSize}
 use Rattle.lines.specs.Line.{lineNumbers}
 use Rattle.lines.specs.LineNumbers.{length-numbers}
 use Rattle.session_state.specs.declared.Head.{Head}
-use Rattle.session_state.specs.State.{countIn, numbersIn, mostNumbers, putAt}
+use Rattle.session_state.specs.State.{countIn, numbersIn, putAt}
 use Rattle.session_state.specs.Laws.{HeadOk, state-head, state-head-ok, length-numbersIn, part-long, put-back, put-behind}
 use Rattle.session_state.proofs.copy_with.Statement.{statement}
 use Rattle.session_state.proofs.copy_with.Tie as tie

@@ -1,5 +1,4 @@
 -- `session_state::unsigned` meets its contract.
-use native.Mathlib.Omega.{arith}
 use lib.Signed.{yes-nonNeg}
 use mir.Facts.{toZ-ofZ}
 use Rattle.session_state.specs.Laws.{abs-fits}
