@@ -12,7 +12,7 @@ ghost use mathlib.Core.Path.{_≡_};
 ghost use lib.IntN.{natAbs, _*ℤ_};
 ghost use lib.ListN.{length};
 ghost use Rattle.lines.specs.Line.{linesOf, leftSide, meets, assignmentOf};
-ghost use Rattle.lines.specs.Valid.{LineOk, LinesOk};
+ghost use Rattle.lines.specs.Valid.{LineWorks, LinesOk};
 ghost use Rattle.check_model.specs.Model.{valuesValidity, modelValidity, firstFailing, modelAnswer};
 ghost use Rattle.check_model.specs.Laws.{ValuesOk, TermOk};
 
@@ -31,7 +31,7 @@ fn term(coefficient: i32, variable: i32, model: &[i64]) -> i64
 
 // a·x + b·y.
 fn left_side(line: Line, model: &[i64]) -> i64
-    requires { ⌜ LineOk (length (now model)) line × ValuesOk (now model) ⌝ }
+    requires { ⌜ LineWorks (length (now model)) line × ValuesOk (now model) ⌝ }
     ensures { λ r. ⌜ r ≡ leftSide (assignmentOf (now (model .entry))) line ⌝ }
 {
     term(line.a, line.x, model) + term(line.b, line.y, model)
@@ -39,7 +39,7 @@ fn left_side(line: Line, model: &[i64]) -> i64
 
 // Whether the values meet a line.
 fn is_met(line: Line, model: &[i64]) -> bool
-    requires { ⌜ LineOk (length (now model)) line × ValuesOk (now model) ⌝ }
+    requires { ⌜ LineWorks (length (now model)) line × ValuesOk (now model) ⌝ }
     ensures { λ r. ⌜ r ≡ meets (assignmentOf (now (model .entry))) line ⌝ }
 {
     left_side(line, model) <= line.d as i64

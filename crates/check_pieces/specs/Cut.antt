@@ -11,7 +11,7 @@ use lib.ListN.{length}
 use Rattle.lines.specs.declared.Refusal.the-variants.{LongRefutation}
 use Rattle.lines.specs.declared.Validity.{Validity}
 use Rattle.lines.specs.declared.Validity.the-variants.{Valid, Refused}
-use Rattle.lines.specs.Limits.{maxVariables, maxRefutation}
+use Rattle.lines.specs.Limits.{maxRefutation}
 use Rattle.lines.specs.Refusal.{_orElse_, refuseIf, validityOf}
 use Rattle.check_answers.specs.declared.CheckAnswer.the-variants.{No}
 use Rattle.check_answers.specs.Answer.{unlessRefused}
@@ -19,7 +19,7 @@ use Rattle.check_refutation.specs.declared.Progress.{Progress}
 use Rattle.check_refutation.specs.Progress.{start, advance, run}
 use Rattle.check_refutation.specs.Small.{Small, start-small, advance-small, advance-read}
 use Rattle.check_refutation.specs.Answer.{verdict, refutationValidity, refutationAnswer}
-use Rattle.check_pieces.specs.Taken.{isSmall, takeOn, takeAll, endAnswer, names-ok, valid-names, test-small}
+use Rattle.check_pieces.specs.Taken.{validWeight, isSmall, takeOn, takeAll, endAnswer, valid-names, named-light, test-small}
 
 -- ---- pieces, of any list and from any state
 pub take-append : (L : List ℤ) (s : Progress) (A B : List ℕ) → takeAll L s (A ++ B) ≡ takeAll L (takeAll L s A) B
@@ -57,15 +57,15 @@ words-snoc (x ∷ R) r w h = (w .0, words-snoc R r (w .1) h)
 
 module _ (n : ℕ) (L : List ℤ) (v : validityOf n L ≡ Valid) where
   -- where there is room, the checker's own step is taken
-  take-is : (s : Progress) (r : ℕ) → Small s → s .read < maxRefutation → takeOn L s r ≡ advance L s r
+  take-is : (s : Progress) (r : ℕ) → Small validWeight s → s .read < maxRefutation → takeOn L s r ≡ advance L s r
   unfolding takeOn
   take-is s r h l = rw (lt-ltb _ _ l, test-small s h, valid-names n L v r)
 
-  next-small : (s : Progress) (r : ℕ) → Small s → s .read < maxRefutation → r < 2 ^ 32 → Small (advance L s r)
-  next-small s r h l w = advance-small s h l maxVariables L r (names-ok L r (valid-names n L v r)) w
+  next-small : (s : Progress) (r : ℕ) → Small validWeight s → s .read < maxRefutation → r < 2 ^ 32 → Small validWeight (advance L s r)
+  next-small s r h l w = advance-small validWeight s h l L r (named-light n L v r) w
 
   -- up to the limit, all numbers are taken by the checker's rule
-  pub within-limit : (s : Progress) (R : List ℕ) → Small s → s .read + length R ≤ maxRefutation → Words R → (takeAll L s R ≡ run L s R) × Small (takeAll L s R)
+  pub within-limit : (s : Progress) (R : List ℕ) → Small validWeight s → s .read + length R ≤ maxRefutation → Words R → (takeAll L s R ≡ run L s R) × Small validWeight (takeAll L s R)
   unfolding takeAll run
   within-limit s [] h l w = (refl, h)
   within-limit s (r ∷ R) h l w =
@@ -79,7 +79,7 @@ module _ (n : ℕ) (L : List ℤ) (v : validityOf n L ≡ Valid) where
   stays-long s [] h = h
   stays-long s (r ∷ R) h = stays-long (takeOn L s r) R (rw (le-ltb (s .read) maxRefutation (omega arith)) (omega arith))
 
-  pub past-limit : (s : Progress) (R : List ℕ) → Small s → maxRefutation < s .read + length R → Words R → maxRefutation < (takeAll L s R) .read
+  pub past-limit : (s : Progress) (R : List ℕ) → Small validWeight s → maxRefutation < s .read + length R → Words R → maxRefutation < (takeAll L s R) .read
   unfolding takeAll takeOn
   past-limit s [] h l w = absurd (omega (arith, h .read))
   past-limit s (r ∷ R) h l w =
@@ -107,9 +107,9 @@ whole n L R w = go (validityOf n L) refl
         long : (b : Bool) → ltb maxRefutation (length R) ≡ b
             → unlessRefused (refuseIf (ltb maxRefutation (takeAll L start R .read)) LongRefutation) (cond (isSmall (takeAll L start R)) (verdict (takeAll L start R)) (No 0))
             ≡ unlessRefused (refuseIf b LongRefutation) (verdict (run L start R))
-        long true z = rw (lt-ltb _ _ (past-limit n L e start R start-small (omega (arith, ltb-true maxRefutation (length R) z)) w))
+        long true z = rw (lt-ltb _ _ (past-limit n L e start R (start-small validWeight) (omega (arith, ltb-true maxRefutation (length R) z)) w))
         long false z =
-            let k = within-limit n L e start R start-small (omega (arith, ltb-false maxRefutation (length R) z)) w in
+            let k = within-limit n L e start R (start-small validWeight) (omega (arith, ltb-false maxRefutation (length R) z)) w in
             rw (le-ltb _ _ (k .1 .read), test-small _ (k .1), ← k .0)
 
 -- for every cut

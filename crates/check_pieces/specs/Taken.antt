@@ -3,25 +3,29 @@ use mathlib.Core.Path.{_≡_, refl, ap}
 use mathlib.Core.Bool.{Bool, true, false, not, cond, _&&_}
 use mathlib.Core.List.{List, [], _∷_}
 use Prim.Native.Nat.{ℕ, _+_, _*_, _/_, _^_}
+use native.Mathlib.Omega.{arith}
 use borrow.Author.Tests.{lt-ltb, le-ltb, ltb-true, ltb-false, not-true}
 use lib.Dec.{ltb}
 use lib.IntN.{ℤ}
-use Rattle.integers.specs.Integer.{isWithin}
+use Rattle.integers.specs.Integer.{isWithin, Within}
 use Rattle.integers.specs.Laws.{never, and-true, is-within, within-is}
 use Rattle.lines.specs.declared.Refusal.the-variants.{LongRefutation}
 use Rattle.lines.specs.declared.Validity.{Validity}
 use Rattle.lines.specs.declared.Validity.the-variants.{Valid, Refused}
-use Rattle.lines.specs.Limits.{maxVariables, maxRefutation}
+use Rattle.lines.specs.Limits.{maxVariables, maxConstant, maxRefutation}
 use Rattle.lines.specs.Line.{lineAt, lineCount}
 use Rattle.lines.specs.Refusal.{_orElse_, refuseIf, lineValidity, validityOf}
-use Rattle.lines.specs.Valid.{ListOk, line-ok, valid-list, line-valid-more}
-use Rattle.steps.specs.Step.{maxWeight, NamedOk}
+use Rattle.lines.specs.Valid.{ListOk, line-ok, line-works, valid-list, line-valid-more}
+use Rattle.steps.specs.declared.Step.{Step}
+use Rattle.steps.specs.declared.NamedStep.the-variants.{Found}
+use Rattle.steps.specs.Step.{heaviest, maxWeight, stepNumbered, NamedOk}
+use Rattle.steps.specs.Laws.{numbered-within}
 use Rattle.check_answers.specs.declared.CheckAnswer.{CheckAnswer}
 use Rattle.check_answers.specs.declared.CheckAnswer.the-variants.{No}
 use Rattle.check_answers.specs.Answer.{unlessRefused}
 use Rattle.check_refutation.specs.declared.Progress.{Progress}
 use Rattle.check_refutation.specs.Progress.{onlyIf, advance}
-use Rattle.check_refutation.specs.Small.{Small}
+use Rattle.check_refutation.specs.Small.{Small, small-wider}
 use Rattle.check_refutation.specs.Answer.{verdict}
 
 -- ---- what can be taken on
@@ -33,11 +37,15 @@ isValid (Refused r) = false
 unfoldable pub namesValid : List ℤ → ℕ → Bool
 namesValid L k = cond (ltb (k / 2) (lineCount L)) (isValid (lineValidity maxVariables 0 (lineAt L (k / 2)))) true
 
+-- the weight of a step of a valid line lies within plus and minus this
+abbrev pub validWeight : ℕ
+validWeight = heaviest maxConstant
+
 -- no more was read than may be, and the numbers kept are as small as that many steps can make them
 unfoldable pub isSmall : Progress → Bool
 isSmall s =
     not (ltb maxRefutation (s .read))
-    && (isWithin (s .read * maxWeight) (s .first) && (isWithin (s .read * maxWeight) (s .second) && (ltb (s .p) (2 ^ 32) && (ltb (s .q) (2 ^ 32) && not (ltb (s .read) (s .wrong))))))
+    && (isWithin (s .read * validWeight) (s .first) && (isWithin (s .read * validWeight) (s .second) && (ltb (s .p) (2 ^ 32) && (ltb (s .q) (2 ^ 32) && not (ltb (s .read) (s .wrong))))))
 
 -- ---- one number, and all numbers of a piece
 -- more numbers than a refutation may have: that is all that is known from here on
@@ -61,7 +69,8 @@ endAnswer n L s = unlessRefused (validityOf n L orElse refuseIf (ltb maxRefutati
 -- ---- what the tests grant
 pub names-ok : (L : List ℤ) (k : ℕ) → namesValid L k ≡ true → NamedOk maxVariables L k
 unfolding namesValid
-names-ok L k e h = line-ok maxVariables 0 (lineAt L (k / 2)) (go (lineValidity maxVariables 0 (lineAt L (k / 2))) (rw (lt-ltb (k / 2) (lineCount L) h) at e))
+names-ok L k e h =
+    line-works maxVariables (lineAt L (k / 2)) (line-ok maxVariables 0 (lineAt L (k / 2)) (go (lineValidity maxVariables 0 (lineAt L (k / 2))) (rw (lt-ltb (k / 2) (lineCount L) h) at e)))
   where
     go : (v : Validity) → isValid v ≡ true → v ≡ Valid
     go Valid z = refl
@@ -78,9 +87,12 @@ valid-names n L v k = go (ltb (k / 2) (lineCount L)) refl
     go true e = ap isValid (line-valid-more n maxVariables (k / 2) 0 (lineAt L (k / 2)) (o .variables) (o .each (k / 2) (ltb-true _ _ e)))
     go false e = refl
 
-pub small-test : (s : Progress) → isSmall s ≡ true → Small s
+pub named-light : (n : ℕ) (L : List ℤ) → validityOf n L ≡ Valid → (k : ℕ) (t : Step) → stepNumbered L k ≡ Found t → Within validWeight (t .weight)
+named-light n L v k t = numbered-within maxConstant L k t (λ h. line-ok n (k / 2) (lineAt L (k / 2)) (valid-list n L v .each (k / 2) h) .constant)
+
+test-told : (s : Progress) → isSmall s ≡ true → Small validWeight s
 unfolding isSmall
-small-test s e =
+test-told s e =
     let a = and-true _ _ e in
     let b = and-true _ _ (a .1) in
     let c = and-true _ _ (b .1) in
@@ -95,6 +107,9 @@ small-test s e =
       wrong = ltb-false _ _ (not-true _ (e .1));
     }
 
-pub test-small : (s : Progress) → Small s → isSmall s ≡ true
+pub small-test : (s : Progress) → isSmall s ≡ true → Small maxWeight s
+small-test s e = small-wider validWeight maxWeight s (omega arith) (test-told s e)
+
+pub test-small : (s : Progress) → Small validWeight s → isSmall s ≡ true
 unfolding isSmall
 test-small s h = rw (le-ltb maxRefutation (s .read) (h .read), within-is _ _ (h .first), within-is _ _ (h .second), lt-ltb (s .p) (2 ^ 32) (h .p), lt-ltb (s .q) (2 ^ 32) (h .q), le-ltb (s .read) (s .wrong) (h .wrong))

@@ -16,21 +16,20 @@ ghost use mathlib.Core.Path.{_≡_};
 ghost use Prim.Native.Nat.{_*_, _≤_};
 ghost use Rattle.integers.specs.Integer.{isWithin};
 ghost use Rattle.lines.specs.Limits.{maxRefutation};
-ghost use Rattle.steps.specs.Step.{maxWeight};
 ghost use Rattle.check_refutation.specs.Progress.{start};
-ghost use Rattle.check_pieces.specs.Taken.{isSmall, namesValid, takeOn, endAnswer};
+ghost use Rattle.check_pieces.specs.Taken.{validWeight, isSmall, namesValid, takeOn, endAnswer};
 
-// A step's weight lies within plus and minus this.
-const MAX_WEIGHT: usize = 2 * MAX_CONSTANT as usize;
+// The weight of a valid line's step lies within plus and minus this.
+const VALID_WEIGHT: usize = 2 * MAX_CONSTANT as usize;
 // The numbers of a refutation are below this.
 const NUMBERS: usize = u32::MAX as usize + 1;
 
 // Whether a sum is one that so many steps can have.
 fn is_sum(count: usize, sum: i64) -> bool
     requires { ⌜ count ≤ maxRefutation ⌝ }
-    ensures { λ r. ⌜ r ≡ isWithin (count * maxWeight) sum ⌝ }
+    ensures { λ r. ⌜ r ≡ isWithin (count * validWeight) sum ⌝ }
 {
-    let most = (count * MAX_WEIGHT) as i64;
+    let most = (count * VALID_WEIGHT) as i64;
     between(-most, most, sum)
 }
 

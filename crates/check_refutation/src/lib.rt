@@ -157,7 +157,7 @@ impl Progress {
 
     // Whether the walk is where it has to be after a step: at the opposite of u where the first of two walks ends.
     fn turns_at(self, u: usize, to: usize) -> bool
-        requires { ⌜ Small self ⌝ }
+        requires { ⌜ Small maxWeight self ⌝ }
         ensures { λ r. ⌜ r ≡ turns self u to ⌝ }
     {
         let turn = (self.kind == 2) & (self.read + 1 == HEAD_SIZE + self.p);
@@ -166,7 +166,7 @@ impl Progress {
 
     // One step more.
     fn go_along(self, t: Step) -> Self
-        requires { ⌜ Small self × (self .read < maxRefutation) × Within maxWeight (t .weight) ⌝ }
+        requires { ⌜ Small maxWeight self × (self .read < maxRefutation) × Within maxWeight (t .weight) ⌝ }
         ensures { λ r. ⌜ r ≡ along self t ⌝ }
     {
         let is_first = self.read < HEAD_SIZE + self.p;
@@ -183,7 +183,7 @@ impl Progress {
 
     // One number more. It is lent the list and that number alone.
     pub fn take(self, list: &[i32], number: u32) -> Self
-        requires { ⌜ NamedOk maxVariables (now list) number × Small self × (self .read < maxRefutation) ⌝ }
+        requires { ⌜ NamedOk maxVariables (now list) number × Small maxWeight self × (self .read < maxRefutation) ⌝ }
         ensures { λ r. ⌜ r ≡ advance (now (list .entry)) self number ⌝ }
     {
         let r = number as usize;
@@ -201,7 +201,7 @@ impl Progress {
 
     // Whether the walk is closed and its sums are low enough.
     fn closes_low(self) -> bool
-        requires { ⌜ Small self ⌝ }
+        requires { ⌜ Small maxWeight self ⌝ }
         ensures { λ r. ⌜ r ≡ closes self ⌝ }
     {
         if self.kind == 3 {
@@ -218,7 +218,7 @@ impl Progress {
 
     // Whether what was read is a refutation.
     fn is_accepted(self) -> bool
-        requires { ⌜ Small self ⌝ }
+        requires { ⌜ Small maxWeight self ⌝ }
         ensures { λ r. ⌜ r ≡ accepted self ⌝ }
     {
         let counted = self.read == HEAD_SIZE + self.p + self.q;
@@ -228,7 +228,7 @@ impl Progress {
 
     // Where what was read breaks, if it is no refutation.
     fn broken_at(self) -> usize
-        requires { ⌜ Small self ⌝ }
+        requires { ⌜ Small maxWeight self ⌝ }
         ensures { λ r. ⌜ r ≡ brokenAt self ⌝ }
     {
         if (self.read < HEAD_SIZE) | !kind_ok(self.kind) {
@@ -245,7 +245,7 @@ impl Progress {
 
     // Yes, or no with the place where what was read breaks.
     pub fn judge(self) -> CheckAnswer
-        requires { ⌜ Small self ⌝ }
+        requires { ⌜ Small maxWeight self ⌝ }
         ensures { λ r. ⌜ r ≡ verdict self ⌝ }
     {
         if self.is_accepted() {
@@ -258,7 +258,7 @@ impl Progress {
 // The progress after all numbers of a refutation.
 fn read_all(list: &[i32], refutation: &[u32]) -> Progress
     requires { ⌜ LinesOk maxVariables (now list) × (length (now refutation) ≤ maxRefutation) ⌝ }
-    ensures { λ r. ⌜ (r ≡ run (now (list .entry)) start (now (refutation .entry))) × Small r ⌝ }
+    ensures { λ r. ⌜ (r ≡ run (now (list .entry)) start (now (refutation .entry))) × Small maxWeight r ⌝ }
 {
     let mut s = Progress::new();
     let mut i = 0;

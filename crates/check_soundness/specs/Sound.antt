@@ -34,7 +34,7 @@ module _ (n : ℕ) (L : List ℤ) (ok : LinesOk n L) (s : Assignment) (solves : 
   walk-bounds : (u v : ℕ) (ks : List ℕ) (w : Walk L u ks v) → value s u -ℤ value s v ⩽ total (w .steps)
   walk-bounds u v ks w = walk-says s u (w .steps) v (all-say ks (w .steps) (w .named)) (w .path)
 
-  solved-not-refuted : (R : List ℕ) → Refutes L R → ⊥
+  pub solved-not-refuted : (R : List ℕ) → Refutes L R → ⊥
   solved-not-refuted R (kind-1 c) = clash (value s (c .point)) (total (c .walk .steps)) (walk-bounds _ _ _ (c .walk)) (c .low)
     where
       clash : (x w : ℤ) → x -ℤ x ⩽ w → w ⋖ pos 0 → ⊥

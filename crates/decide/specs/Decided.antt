@@ -16,7 +16,7 @@ use Rattle.lines.specs.Line.{linesOf}
 use Rattle.lines.specs.Limits.{maxVariables}
 use Rattle.decide_rows.specs.Table.{tableStart}
 use Rattle.lines.specs.Refusal.{validityOf}
-use Rattle.lines.specs.Valid.{ListOk, or-valid, valid-list}
+use Rattle.lines.specs.Valid.{Workable, or-valid, workable}
 use Rattle.theory_bounds.specs.Table.{tableModel}
 use Rattle.decide_stored_table.specs.Table.{tableOf}
 use Rattle.decide_yes.specs.Table.{tableFor, short-table, model-agrees, bounds-agree, groups-agree, table-closed, model-ready}
@@ -118,13 +118,16 @@ module _ (n : ℕ) (L : List ℤ) (b : Lent) where
     answer-no v = sym (rw (e, v))
 
     pub search-ready : SearchReady n L (b .refutation) (b .work)
-    search-ready = let o = decide-ok n L b e in record { valid = o .list; room = refutation-room (o .rooms); work-room = omega (arith, used-room n, work-room (o .rooms)) }
+    search-ready = let o = decide-ok n L b e in record { valid = workable n L (o .list); room = refutation-room (o .rooms); work-room = omega (arith, used-room n, work-room (o .rooms)) }
 
     pub room-left : {R₁ : List ℕ} {w₁ : List ℤ} {r : Bool} → Searched n L (b .refutation) (b .work) R₁ w₁ r → workRoom n ≤ length w₁
     room-left k = omega (arith, k .same-length, work-room (decide-ok n L b e .rooms))
 
+    ok : Workable n L
+    ok = workable n L (decide-ok n L b e .list)
+
     pub few : n ≤ maxVariables
-    few = valid-list n L (decide-ok n L b e .list) .variables
+    few = ok .variables
 
     -- where the table ends is in the work area, and no index comes near 64 bits
     pub table-fits : {R₁ : List ℕ} {w₁ : List ℤ} {r : Bool} → Searched n L (b .refutation) (b .work) R₁ w₁ r → tableStart (2 * n) + 2 * n * (2 * n) ≤ length w₁
@@ -150,7 +153,7 @@ module _ (n : ℕ) (L : List ℤ) (b : Lent) where
           let r = k .on-no z in
           let rest = drop (length (r .0)) (b .refutation) in
           let u = r .1 .refutes in
-          (rw (r .2) (steps-named n L (r .0) rest u (valid-list n L (o .list) .lines)), rw (r .2) (omega (arith, stated-length L (r .0) u rest, r .1 .size, identifiers-room (o .rooms))))
+          (rw (r .2) (steps-named n L (r .0) rest u (ok .lines)), rw (r .2) (omega (arith, stated-length L (r .0) u rest, r .1 .size, identifiers-room (o .rooms))))
 
       pub decided-no : {t : Bool} → Searched n L (b .refutation) (b .work) R₁ w₁ t → t ≡ true → (I : List ℕ) → I ≡ identifiersOf L R₁ ++ drop (stepsIn R₁) (b .identifiers) → (w₂ : List ℤ) → w₂ ≡ replicate (workRoom n) (pos 0) ++ drop (workRoom n) w₁
           → Decided n L No b (record { model = b .model; bounds = b .bounds; groups = b .groups; refutation = R₁; identifiers = I; work = w₂ })
@@ -168,9 +171,6 @@ module _ (n : ℕ) (L : List ℤ) (b : Lent) where
               rw (e, identifiers-front n L R rest u, counts-front n L R rest u)
 
       module _ (k : Searched n L (b .refutation) (b .work) R₁ w₁ false) where
-        ok : ListOk n L
-        ok = valid-list n L (decide-ok n L b e .list)
-
         table-is : tableIn n w₁ ≡ tableFor n L
         table-is = k .on-yes refl .1
 
@@ -178,7 +178,7 @@ module _ (n : ℕ) (L : List ℤ) (b : Lent) where
         answers-ready =
             let o = decide-ok n L b e in
             subst (λ (t : List ℤ). AnswersReady n t (b .model) (b .bounds) (b .groups)) (sym table-is)
-            (record { table = short-table n L (ok .variables) (ok .lines); closed = table-closed n L (o .list) (k .verdict); small = model-ready n L (o .list) (k .verdict); model-room = model-room (o .rooms); bounds-room = bounds-room (o .rooms); groups-room = groups-room (o .rooms) })
+            (record { table = short-table n L (ok .variables) (ok .lines); closed = table-closed n L ok (k .verdict); small = model-ready n L ok (k .verdict); model-room = model-room (o .rooms); bounds-room = bounds-room (o .rooms); groups-room = groups-room (o .rooms) })
 
         pub decided-yes : (m bs : List ℤ) (g : List ℕ)
             → (m ≡ tabulate n (tableModel n (tableOf (2 * n) (tableIn n w₁))) ++ drop (modelRoom n) (b .model))

@@ -1,4 +1,5 @@
 pub mod Searched
+pub mod Modelled
 pub mod Decided
 pub mod Places
 pub mod Parts

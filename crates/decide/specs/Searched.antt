@@ -13,10 +13,8 @@ use Rattle.integers.specs.Laws.{never}
 use Rattle.integers.specs.Table.{allBelow}
 use Rattle.lines.specs.declared.Line.{Line}
 use Rattle.lines.specs.Limits.{maxVariables}
-use Rattle.lines.specs.declared.Validity.the-variants.{Valid}
 use Rattle.lines.specs.Line.{lineCount, linesOf}
-use Rattle.lines.specs.Refusal.{validityOf}
-use Rattle.lines.specs.Valid.{ListOk, valid-list}
+use Rattle.lines.specs.Valid.{Workable}
 use Rattle.steps.specs.declared.Step.{Step}
 use Rattle.steps.specs.Point.{opposite}
 use Rattle.steps.specs.Step.{stepsOf}
@@ -46,8 +44,9 @@ use Rattle.engine_table.specs.Found.{TableAsked, TableFound, laid-standing, sta
 abbrev pub usedRoom : ℕ → ℕ
 usedRoom n = engineEnd n
 
+-- any list that deciding works on, also one line longer than the rules let in
 pub record SearchReady (n : ℕ) (L : List ℤ) (R : List ℕ) (w : List ℤ) : Type 0 where
-  pub valid : validityOf n L ≡ Valid
+  pub valid : Workable n L
   pub room : refutationRoom n ≤ length R
   pub work-room : usedRoom n ≤ length w
 
@@ -122,8 +121,8 @@ module _ (n : ℕ) (L : List ℤ) (R : List ℕ) (w : List ℤ) (a : SearchReady
   abbrev m : ℕ
   m = 2 * n
 
-  ok : ListOk n L
-  ok = valid-list n L (a .valid)
+  abbrev ok : Workable n L
+  ok = a .valid
 
   -- a false line
   pub by-false : (k : ℕ) → k ≡ firstFalse 0 (linesOf L) → k < lineCount L → (R′ : List ℕ) → R′ ≡ 3 ∷ 1 ∷ 0 ∷ 2 * k ∷ drop (headSize + 1) R → Searched n L R w R′ w true

@@ -5,6 +5,7 @@ use decide_buffers::work_room;
 use decide_false_line::first_false;
 use decide_halves::first_bad;
 use decide_identifiers::write_identifiers;
+use decide_model::write_model;
 use decide_written_walks::write_closed;
 use decide_written_walks::write_false;
 use decide_written_walks::write_halves;
@@ -27,6 +28,7 @@ ghost use Rattle.lines.specs.Line.{linesOf};
 ghost use Rattle.theory_bounds.specs.Verdict.{hasFalse};
 ghost use Rattle.engine_table.specs.Found.{TableAsked};
 ghost use Rattle.decide.specs.Searched.{SearchReady, Searched};
+ghost use Rattle.decide.specs.Modelled.{ModelAsked, Modelled};
 ghost use Rattle.decide.specs.Decided.{Decided};
 
 // Yes, no, or a refusal.
@@ -91,7 +93,7 @@ fn refuted_by_walks(list: &[i32], n: usize, refutation: &mut [u32], work: &mut [
 }
 
 // Whether the list is refuted: by its lowest false line, else by walks.
-fn refuted(list: &[i32], n: usize, refutation: &mut [u32], work: &mut [i64]) -> bool
+pub fn refuted(list: &[i32], n: usize, refutation: &mut [u32], work: &mut [i64]) -> bool
     requires { ⌜ SearchReady n (now list) (now refutation) (now work) ⌝ }
     ensures { λ r. ⌜ Searched n (now (list .entry)) (now (refutation .entry)) (now (work .entry)) (now (refutation .exit)) (now (work .exit)) r ⌝ }
 {
@@ -101,6 +103,26 @@ fn refuted(list: &[i32], n: usize, refutation: &mut [u32], work: &mut [i64]) -> 
         return true;
     }
     refuted_by_walks(list, n, refutation, work)
+}
+
+// Whether the list is refuted. If it is not, its model is written, from the table that the search leaves.
+pub fn refuted_or_modelled(
+    list: &[i32],
+    n: usize,
+    model: &mut [i64],
+    refutation: &mut [u32],
+    work: &mut [i64],
+) -> bool
+    requires { ⌜ ModelAsked n (now list) (now model) (now refutation) (now work) ⌝ }
+    ensures { λ r. ⌜ Modelled n (now (list .entry)) (now (model .entry)) (now (refutation .entry)) (now (work .entry)) (now (model .exit)) (now (refutation .exit)) (now (work .exit)) r ⌝ }
+{
+    if refuted(list, n, refutation, work) {
+        return true;
+    }
+    let size = 2 * n;
+    let start = (size + 1) * size;
+    write_model(&work[start..start + size * size], n, model);
+    false
 }
 
 // Decides a list for n variables.

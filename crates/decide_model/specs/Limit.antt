@@ -10,7 +10,7 @@ use mir.Syntax.{w64}
 use mir.Val.{SFits}
 use Rattle.integers.specs.Integer.{_⩽_, Within}
 use Rattle.integers.specs.Linear.{ints, zs}
-use Rattle.lines.specs.Limits.{maxVariables, maxConstant}
+use Rattle.lines.specs.Limits.{maxVariables, workConstant}
 use Rattle.lines.specs.Line.{number, assignmentOf}
 use Rattle.steps.specs.Point.{point, value}
 use Rattle.theory_walks.specs.Distance.{Distance, some, Below, minD, _⊞_}
@@ -23,7 +23,7 @@ use Rattle.decide_stored_table.specs.Table.{tableOf, ShortTable, MirroredTable,
 
 -- a model's values lie within plus and minus this
 abbrev pub maxModel : ℕ
-maxModel = maxVariables * maxConstant
+maxModel = maxVariables * workConstant
 
 -- the greatest value of p, given that of x
 abbrev pub byValue : Table → ℕ → ℕ → ℤ → Distance

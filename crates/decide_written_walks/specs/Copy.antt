@@ -7,12 +7,12 @@ use native.Mathlib.Numerals.{add-one}
 use lib.IntN.{ℤ, pos, natAbs}
 use lib.ListN.{length, getD, set, drop, length-map, length-drop}
 use lib.Seq.{paste, paste-zero, paste-suc, getD-drop}
-use Rattle.lines.specs.Limits.{maxLines}
+use Rattle.lines.specs.Limits.{workLines}
 use Rattle.lines.specs.Line.{number}
 
 -- each of `count` numbers from a place on is a step number: not negative, and below twice the most lines
 abbrev pub StepNumbers : List ℤ → ℕ → ℕ → Type 0
-StepNumbers w from count = (i : ℕ) → i < count → (k : ℕ) × (number w (from + i) ≡ pos k) × (k < 2 * maxLines)
+StepNumbers w from count = (i : ℕ) → i < count → (k : ℕ) × (number w (from + i) ≡ pos k) × (k < 2 * workLines)
 
 -- the first i of them, from `to` on
 abbrev pub copiedTo : List ℕ → ℕ → List ℤ → ℕ → ℕ → List ℕ

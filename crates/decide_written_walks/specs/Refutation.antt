@@ -10,7 +10,7 @@ use lib.ListN.{length, take, drop, length-append, length-drop}
 use lib.Seq.{take-at, drop-at, length-take-le, drop-drop}
 use Rattle.integers.specs.Integer.{_⋖_, half}
 use Rattle.integers.specs.Linear.{ints}
-use Rattle.lines.specs.Limits.{maxVariables, maxLines}
+use Rattle.lines.specs.Limits.{maxVariables, workLines}
 use Rattle.lines.specs.Line.{lineCount, linesOf}
 use Rattle.lines.specs.Valid.{LinesOk}
 use Rattle.steps.specs.declared.Step.{Step}
@@ -109,7 +109,7 @@ closed-written n L u R w a R₁ w′ r k R′ e =
 pub record HalvesReady (n : ℕ) (L : List ℤ) (p : ℕ) (R : List ℕ) (w : List ℤ) : Type 0 where
   pub few : n ≤ maxVariables
   pub valid : LinesOk n L
-  pub lines : lineCount L ≤ maxLines
+  pub lines : lineCount L ≤ workLines
   pub within : p < 2 * n
   pub work-room : walkStart (2 * n) + 2 * n ≤ length w
   pub room : headSize + 4 * n ≤ length R

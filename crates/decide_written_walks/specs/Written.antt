@@ -6,7 +6,7 @@ use native.Mathlib.Omega.{arith}
 use lib.IntN.{ℤ, pos, natAbs}
 use lib.ListN.{length, getD, take, drop, length-map, List·getD-append}
 use lib.Seq.{drop-at, drop-drop, getD-drop}
-use Rattle.lines.specs.Limits.{maxLines}
+use Rattle.lines.specs.Limits.{workLines}
 use Rattle.lines.specs.Line.{number, lineCount, linesOf}
 use Rattle.steps.specs.declared.Step.{Step}
 use Rattle.steps.specs.Step.{stepsOf}
@@ -28,7 +28,7 @@ back (k ∷ ks) x = ap (λ (l : List ℕ). k ∷ l) (back ks x)
 -- ---- what is asked and promised
 pub record WriteReady (n : ℕ) (L : List ℤ) (u v : ℕ) (R : List ℕ) (place : ℕ) (w : List ℤ) : Type 0 where
   pub ready : WalkReady n L u v w
-  pub lines : lineCount L ≤ maxLines
+  pub lines : lineCount L ≤ workLines
   pub room : place + 2 * n ≤ length R
 
 -- r numbers from the place on name the steps of such a walk; all else in the refutation is as it was

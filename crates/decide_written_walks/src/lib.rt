@@ -7,7 +7,7 @@ ghost use mathlib.Core.Path.{_≡_};
 ghost use mathlib.Core.List.{_∷_};
 ghost use Prim.Native.Nat.{_+_, _*_, _<_, _≤_};
 ghost use lib.ListN.{length, drop};
-ghost use Rattle.lines.specs.Limits.{maxLines};
+ghost use Rattle.lines.specs.Limits.{workLines};
 ghost use Rattle.check_refutation.specs.Progress.{headSize};
 ghost use Rattle.decide_written_walks.specs.Copy.{StepNumbers, copiedTo};
 ghost use Rattle.decide_written_walks.specs.Shortest.{WalkReady, WalkFound};
@@ -28,7 +28,7 @@ pub fn copy_numbers(work: &[i64], from: usize, count: usize, refutation: &mut [u
 
 // The kind and the two counts.
 pub fn write_head(refutation: &mut [u32], kind: u32, p: usize, q: usize)
-    requires { ⌜ (headSize ≤ length (now refutation)) × (p < 2 * maxLines) × (q < 2 * maxLines) ⌝ }
+    requires { ⌜ (headSize ≤ length (now refutation)) × (p < 2 * workLines) × (q < 2 * workLines) ⌝ }
     ensures { λ _. ⌜ now (refutation .exit) ≡ kind ∷ p ∷ q ∷ drop headSize (now (refutation .entry)) ⌝ }
 {
     refutation[0] = kind;
@@ -38,7 +38,7 @@ pub fn write_head(refutation: &mut [u32], kind: u32, p: usize, q: usize)
 
 // The refutation of a false line.
 pub fn write_false(refutation: &mut [u32], line: usize)
-    requires { ⌜ (headSize < length (now refutation)) × (line < maxLines) ⌝ }
+    requires { ⌜ (headSize < length (now refutation)) × (line < workLines) ⌝ }
     ensures { λ _. ⌜ now (refutation .exit) ≡ 3 ∷ 1 ∷ 0 ∷ 2 * line ∷ drop (headSize + 1) (now (refutation .entry)) ⌝ }
 {
     write_head(refutation, 3, 1, 0);

@@ -1,4 +1,4 @@
--- The stored table of a valid list holds the distances themselves: so the model, bounds and groups read off it are those of the definitions.
+-- The stored table of a list holds the distances themselves: so the model, bounds and groups read off it are those of the definitions.
 use mathlib.Core.Path.{_≡_, sym, ap, _∙_}
 use mathlib.Core.Bool.{true}
 use mathlib.Core.List.{List}
@@ -9,11 +9,9 @@ use lib.IntN.{ℤ, natAbs}
 use Rattle.integers.specs.Integer.{Within}
 use Rattle.integers.specs.Laws.{abs-within}
 use Rattle.integers.specs.Sequence.{tabulate, tabulate-cong}
-use Rattle.lines.specs.declared.Validity.the-variants.{Valid}
-use Rattle.lines.specs.Limits.{maxVariables, maxConstant}
+use Rattle.lines.specs.Limits.{maxVariables, workConstant}
 use Rattle.lines.specs.Line.{linesOf, assignmentOf}
-use Rattle.lines.specs.Refusal.{validityOf}
-use Rattle.lines.specs.Valid.{LinesOk, valid-list}
+use Rattle.lines.specs.Valid.{LinesOk, Workable}
 use Rattle.steps.specs.Point.{opposite}
 use Rattle.steps.specs.Step.{stepsOf}
 use Rattle.theory_walks.specs.Row.{best}
@@ -82,21 +80,19 @@ module _ (n : ℕ) (L : List ℤ) (few : n ≤ maxVariables) (ok : LinesOk n L) 
   groups-agree = groups-same n D (distances n (linesOf L)) agree
 
 -- ---- on a yes, the table is closed and the model's values are small
-small-within : (n : ℕ) (z : ℤ) → n ≤ maxVariables → natAbs z ≤ n * maxConstant → Within maxModel z
-small-within n z l h = abs-within maxModel z (omega (arith, mul-le-mul-right maxConstant l))
+small-within : (n : ℕ) (z : ℤ) → n ≤ maxVariables → natAbs z ≤ n * workConstant → Within maxModel z
+small-within n z l h = abs-within maxModel z (omega (arith, mul-le-mul-right workConstant l))
 
-module _ (n : ℕ) (L : List ℤ) (valid : validityOf n L ≡ Valid) (yes-verdict : verdictOf n (linesOf L) ≡ true) where
+module _ (n : ℕ) (L : List ℤ) (valid : Workable n L) (yes-verdict : verdictOf n (linesOf L) ≡ true) where
   pub table-closed : ClosedTable n (tableOf (2 * n) (tableFor n L))
   table-closed =
-      let l = valid-list n L valid in
-      closed-same n (tableOf (2 * n) (tableFor n L)) (distances n (linesOf L)) (agree n L (l .variables) (l .lines)) (closed n (linesOf L) (lines-ok n L valid) yes-verdict)
+      closed-same n (tableOf (2 * n) (tableFor n L)) (distances n (linesOf L)) (agree n L (valid .variables) (valid .lines)) (closed n (linesOf L) (lines-ok n L valid) yes-verdict)
 
   pub model-ready : (k : ℕ) → k < n → Within maxModel (tableModel n (tableOf (2 * n) (tableFor n L)) k)
   model-ready k h =
-      let l = valid-list n L valid in
       let a = lines-ok n L valid in
       let e : tableModel n (tableOf (2 * n) (tableFor n L)) k ≡ tableModel n (distances n (linesOf L)) k =
-      table-model-same n (tableOf (2 * n) (tableFor n L)) (distances n (linesOf L)) (agree n L (l .variables) (l .lines)) k in
-      let b : natAbs (assignmentOf (modelOf n (linesOf L)) k) ≤ n * maxConstant =
-      model-small n maxConstant (linesOf L) a (all-above n (linesOf L) a) (assignmentOf (modelOf n (linesOf L))) (model-is-model n (linesOf L) a yes-verdict) k h in
-      rw e (small-within n _ (l .variables) (rw (model-value n (linesOf L) a yes-verdict k h) at b))
+      table-model-same n (tableOf (2 * n) (tableFor n L)) (distances n (linesOf L)) (agree n L (valid .variables) (valid .lines)) k in
+      let b : natAbs (assignmentOf (modelOf n (linesOf L)) k) ≤ n * workConstant =
+      model-small n workConstant (linesOf L) a (all-above n (linesOf L) a) (assignmentOf (modelOf n (linesOf L))) (model-is-model n (linesOf L) a yes-verdict) k h in
+      rw e (small-within n _ (valid .variables) (rw (model-value n (linesOf L) a yes-verdict k h) at b))

@@ -14,6 +14,7 @@ use Rattle.integers.specs.Sequence.{length-tabulate}
 use Rattle.lines.specs.declared.Refusal.{Refusal}
 use Rattle.lines.specs.declared.Validity.{Validity}
 use Rattle.lines.specs.declared.Validity.the-variants.{Valid}
+use Rattle.lines.specs.Valid.{workable}
 use Rattle.lines.specs.Line.{linesOf}
 use Rattle.lines.specs.Refusal.{validityOf}
 use Rattle.check_answers.specs.declared.CheckAnswer.the-variants as check
@@ -87,7 +88,7 @@ module _ {n : ℕ} {L : List ℤ} (c : Call n L) where
   pub call-written : c .answer ≡ Yes → Written n (linesOf L) (modelIn n (c .after)) (boundsIn n (c .after)) (groupsIn n (c .after))
   call-written e =
       let w = on-yes e in
-      rw (model-in w, bounds-in w, groups-in w) (computed-written n (linesOf L) (lines-ok n L call-valid) (call-yes e))
+      rw (model-in w, bounds-in w, groups-in w) (computed-written n (linesOf L) (lines-ok n L (workable n L call-valid)) (call-yes e))
 
   -- ---- what either answer leaves
   either : {P : Type 0} → (c .answer ≡ Yes → P) → (c .answer ≡ No → P) → P

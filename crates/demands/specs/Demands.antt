@@ -24,7 +24,7 @@ use Rattle.lines.specs.Limits.{lineSize, maxRefutation, maxIdentifier}
 use Rattle.lines.specs.Line.{Assignment, Solves, Solvable, SameSolutions, lineAt, lineCount, linesOf, assignmentOf, isFalse}
 use Rattle.lines.specs.Refusal.{validityOf}
 use Rattle.lines.specs.Bare.{OnlyIdentifiers, lines-same}
-use Rattle.lines.specs.Valid.{LineOk, valid-list, shorter-valid}
+use Rattle.lines.specs.Valid.{LineOk, line-ok, valid-list, workable, shorter-valid}
 use Rattle.check_answers.specs.declared.CheckAnswer.the-variants.{Yes, No}
 use Rattle.check_model.specs.Model.{modelAnswer}
 use Rattle.check_model.specs.Meaning.{FirstFails, yes-exactly, no-exactly}
@@ -100,7 +100,7 @@ refusal-changes-nothing n L r before after d = d .leaves
 
 -- No number of a variable is masked or folded: where a line is not refused, a variable with a coefficient is named by its own number, below n.
 pub names-its-variables : (n : ℕ) (L : List ℤ) → ValidFor n L → (k : ℕ) → k < lineCount L → LineOk n (lineAt L k)
-names-its-variables n L v = valid-list n L v .lines
+names-its-variables n L v k h = line-ok n k (lineAt L k) (valid-list n L v .each k h)
 
 -- No identifier is masked or folded either: where a line is not refused, its identifier is from 0 to the greatest of 29 bits, as the signed number that it
 -- is, and on a no and in files it comes back as that number (`identifiers-come-back`, `identifiers-read-back`).
@@ -137,12 +137,13 @@ pub record RightAnswer (n : ℕ) (L : List ℤ) (c : Call n L) : Type 0 where
 pub right-answer : (n : ℕ) (L : List ℤ) (c : Call n L) → RightAnswer n L c
 right-answer n L c =
     let v = call-valid c in
+    let o = workable n L v in
     record {
-      yes-exactly = ((λ e. yes-solvable n L v (call-yes c e)), (λ s. verdict-yes c (solvable-yes n L v s)));
-      no-exactly = ((λ e. no-unsolvable n L v (call-no c e)), (λ f. verdict-no c (unsolvable-no n L v f)));
+      yes-exactly = ((λ e. yes-solvable n L o (call-yes c e)), (λ s. verdict-yes c (solvable-yes n L o s)));
+      no-exactly = ((λ e. no-unsolvable n L o (call-no c e)), (λ f. verdict-no c (unsolvable-no n L o f)));
       written = λ e. call-written c e;
-      least-absent-exactly = λ e. least-absent n L v _ _ _ (call-written c e);
-      greatest-absent-exactly = λ e. greatest-absent n L v _ _ _ (call-written c e);
+      least-absent-exactly = λ e. least-absent n L o _ _ _ (call-written c e);
+      greatest-absent-exactly = λ e. greatest-absent n L o _ _ _ (call-written c e);
       yes-is-shown = λ e. model-accepted n L _ _ _ v (call-written c e);
       beyond-model = beyond-model c;
       beyond-bounds = beyond-bounds c;
@@ -170,8 +171,8 @@ pub record ShowsNo (n : ℕ) (L : List ℤ) (R : List ℕ) : Type 0 where
 shows-no : (n : ℕ) (L : List ℤ) (R : List ℕ) → ValidFor n L → Due n L R → ShowsNo n L R
 shows-no n L R v d =
     record {
-      kind = subst (DueKind L) (sym (d .kind)) (kind-due n L v);
-      lowest = names-the-lowest n L v R d;
+      kind = subst (DueKind L) (sym (d .kind)) (kind-due n L (workable n L v));
+      lowest = names-the-lowest n L (workable n L v) R d;
       few = λ z. d .few (λ e. z (d .kind ∙ e));
       is-accepted = due-accepted n L v R d;
     }
@@ -214,27 +215,29 @@ pub nothing-unlearned : (n : ℕ) (L M : List ℤ) (c : Call n L) (d : Call n (L
 nothing-unlearned n L M c d =
     let v = call-valid c in
     let u = call-valid d in
-    let whole = valid-list n L v .whole in
+    let o = workable n L v in
+    let p = workable n (L ++ M) u in
+    let whole = o .whole in
     let more = longer-entails L M whole in
     record {
       shown = shown;
       no-exactly-if-refuted = ((λ e. (refutationIn (c .after), shown e .is-accepted)), (λ r. verdict-no c (accepted-no n L v (r .0) (r .1))));
       accepted-stays = λ R. answers-longer n L M R u;
-      no-stays-no = λ e. verdict-no d (no-stays n L (L ++ M) v u more (call-no c e));
-      yes-was-yes = λ e. verdict-yes c (yes-before n L (L ++ M) v u more (call-yes d e));
-      least = λ a b. least-stays-or-rises n L (L ++ M) v u more _ _ _ _ _ _ (call-written c a) (call-written d b);
-      greatest = λ a b. greatest-stays-or-falls n L (L ++ M) v u more _ _ _ _ _ _ (call-written c a) (call-written d b);
+      no-stays-no = λ e. verdict-no d (no-stays n L (L ++ M) o p more (call-no c e));
+      yes-was-yes = λ e. verdict-yes c (yes-before n L (L ++ M) o p more (call-yes d e));
+      least = λ a b. least-stays-or-rises n L (L ++ M) o p more _ _ _ _ _ _ (call-written c a) (call-written d b);
+      greatest = λ a b. greatest-stays-or-falls n L (L ++ M) o p more _ _ _ _ _ _ (call-written c a) (call-written d b);
       groups = λ a b x y h k e.
           let w = call-written c a in
           let z = call-written d b in
           record {
-            variable = groups-kept n L (L ++ M) v u more _ _ _ _ _ _ w z x y h k e;
-            equal = equal-kept n L (L ++ M) v u more _ _ _ _ _ _ w z x y h k e;
-            different = different-kept n L (L ++ M) v u more _ _ _ _ _ _ w z x y h k e;
+            variable = groups-kept n L (L ++ M) o p more _ _ _ _ _ _ w z x y h k e;
+            equal = equal-kept n L (L ++ M) o p more _ _ _ _ _ _ w z x y h k e;
+            different = different-kept n L (L ++ M) o p more _ _ _ _ _ _ w z x y h k e;
           };
       model = λ a b.
           let w = call-written c a in
-          let k = model-kept n L (L ++ M) v u more _ _ _ _ _ _ w (call-written d b) in
+          let k = model-kept n L (L ++ M) o p more _ _ _ _ _ _ w (call-written d b) in
           ((λ e. solves-both L M whole _ .0 (k .0 e) .1), (λ s. k .1 (solves-both L M whole _ .1 (w .model-is .solves, s))));
     }
   where
@@ -258,7 +261,7 @@ answers-by-solutions-alone n L M c d same =
     }
   where
     verdicts : verdictOf n (linesOf L) ≡ verdictOf n (linesOf M)
-    verdicts = same-verdict n L M (call-valid c) (call-valid d) same
+    verdicts = same-verdict n L M (workable n L (call-valid c)) (workable n M (call-valid d)) same
 
     answer : c .answer ≡ d .answer
     answer = go (verdictOf n (linesOf L)) refl
@@ -268,23 +271,23 @@ answers-by-solutions-alone n L M c d same =
         go false e = verdict-no c e ∙ sym (verdict-no d (sym verdicts ∙ e))
 
     written : c .answer ≡ decide.Yes → (modelOf n (linesOf L) ≡ modelOf n (linesOf M)) × (boundsOf n (linesOf L) ≡ boundsOf n (linesOf M)) × (groupsOf n (linesOf L) ≡ groupsOf n (linesOf M))
-    written e = same-written n L M (call-valid c) (call-valid d) same (call-yes c e)
+    written e = same-written n L M (workable n L (call-valid c)) (workable n M (call-valid d)) same (call-yes c e)
 
 -- ---- what the answers mean
 
 -- The answer is yes exactly if whole numbers exist that meet every line.
 pub yes-exactly-if-solvable : (n : ℕ) (L : List ℤ) → ValidFor n L → (verdictOf n (linesOf L) ≡ true) ↔ Solvable (linesOf L)
-yes-exactly-if-solvable n L v = (yes-solvable n L v, solvable-yes n L v)
+yes-exactly-if-solvable n L v = let o = workable n L v in (yes-solvable n L o, solvable-yes n L o)
 
 -- Then the one model, the tightest bounds and the groups are computed.
 pub yes-writes : (n : ℕ) (L : List ℤ) → ValidFor n L → verdictOf n (linesOf L) ≡ true
     → Written n (linesOf L) (modelOf n (linesOf L)) (boundsOf n (linesOf L)) (groupsOf n (linesOf L))
-yes-writes n L v e = computed-written n (linesOf L) (lines-ok n L v) e
+yes-writes n L v e = computed-written n (linesOf L) (lines-ok n L (workable n L v)) e
 
 -- Nothing else has their meaning.
 pub nothing-else : (n : ℕ) (L model bounds : List ℤ) (groups : List ℕ) → ValidFor n L → Written n (linesOf L) model bounds groups
     → (model ≡ modelOf n (linesOf L)) × (bounds ≡ boundsOf n (linesOf L)) × (groups ≡ groupsOf n (linesOf L))
-nothing-else n L m b g v w = (written-model n L v m b g w, written-bounds n L v m b g w, written-groups n L v m b g w)
+nothing-else n L m b g v w = let o = workable n L v in (written-model n L o m b g w, written-bounds n L o m b g w, written-groups n L o m b g w)
 
 -- On a yes, two group entries tell all that holds of two events in every solution. Sharing a group variable is an equivalence up to sign: x and y have the
 -- same one exactly if x = y in every solution or x = -y in every solution. The signs say which: x = y exactly if both entries are equal, variable and sign;
@@ -308,17 +311,18 @@ groups-tell n L c e x y h k =
 pub consecutive-values : (n : ℕ) (L : List ℤ) → ValidFor n L → (k : ℕ) → k < n → (s t : Assignment) → Solves (linesOf L) s → Solves (linesOf L) t → Agrees k t s
     → (z : ℤ) → s k ⩽ z → z ⩽ t k → (r : Assignment) × Solves (linesOf L) r × Agrees k r s × (r k ≡ z)
 consecutive-values n L v k h s t a b =
-    no-tie n (linesOf L) (lines-ok n L v) (solvable-yes n L v (record { assignment = s; solves = a })) k h s t a b
+    let o = workable n L v in
+    no-tie n (linesOf L) (lines-ok n L o) (solvable-yes n L o (record { assignment = s; solves = a })) k h s t a b
 
 -- With every d at least -m, each value of the model lies within n·m of zero.
 pub model-is-small : (n m : ℕ) (L : List ℤ) → ValidFor n L → AllAbove m (linesOf L) → (s : Assignment) → IsModel n (linesOf L) s → (k : ℕ) → k < n
     → natAbs (s k) ≤ n * m
-model-is-small n m L v a = model-small n m (linesOf L) (lines-ok n L v) a
+model-is-small n m L v a = model-small n m (linesOf L) (lines-ok n L (workable n L v)) a
 
 -- There is no solution exactly if the checker accepts some refutation, whoever proposed it.
 pub unsolvable-exactly-if-refuted : (n : ℕ) (L : List ℤ) → ValidFor n L → (Solvable (linesOf L) → ⊥) ↔ ((R : List ℕ) × Accepted n L R)
 unsolvable-exactly-if-refuted n L v = (
-  (λ f. let r = due-refutation n L (unsolvable-no n L v f) in (r .0, due-accepted n L v (r .0) (r .1))),
+  (λ f. let r = due-refutation n L (unsolvable-no n L (workable n L v) f) in (r .0, due-accepted n L v (r .0) (r .1))),
   (λ r. answers-no-solvable n L (r .0) (r .1)),
 )
 
@@ -328,7 +332,7 @@ short-one-too n L R v a = let r = due-refutation n L (accepted-no n L v R a) in 
 
 -- Kind 3 is due if some line is false, else kind 1 if a closed walk of negative sum exists, else kind 2.
 pub the-due-kind : (n : ℕ) (L : List ℤ) → ValidFor n L → DueKind L (dueKind n (linesOf L))
-the-due-kind n L v = kind-due n L v
+the-due-kind n L v = kind-due n L (workable n L v)
 
 -- The starred cases: one table, one statement over it.
 pub starred-cases : AllHold cases

@@ -11,12 +11,12 @@ use Rattle.lines.specs.declared.Validity.the-variants.{Valid}
 use Rattle.lines.specs.Limits.{maxConstant, maxValue}
 use Rattle.lines.specs.Line.{linesOf, assignmentOf}
 use Rattle.lines.specs.Refusal.{validityOf}
-use Rattle.lines.specs.Valid.{valid-list}
+use Rattle.lines.specs.Valid.{valid-list, workable}
 use Rattle.check_answers.specs.declared.CheckAnswer.the-variants.{Yes}
 use Rattle.check_model.specs.Model.{valuesValidity, modelValidity, modelAnswer}
 use Rattle.check_model.specs.Meaning.{yes-exactly}
 use Rattle.theory_answers.specs.Semantics.{Written}
-use Rattle.theory_answers.specs.Small.{all-above, model-small}
+use Rattle.theory_answers.specs.Small.{valid-above, model-small}
 use Rattle.theory_answers.specs.Decided.{lines-ok}
 
 values-valid : (j : ℕ) (m : List ℤ) → ((k : ℕ) → k < length m → natAbs (getD m k (pos 0)) ≤ maxValue) → valuesValidity j m ≡ Valid
@@ -27,8 +27,7 @@ values-valid j (z ∷ m) h = rw (within-is maxValue z (abs-within maxValue z (h 
 module _ (n : ℕ) (L m b : List ℤ) (g : List ℕ) (valid : validityOf n L ≡ Valid) (w : Written n (linesOf L) m b g) where
   pub value-small : (k : ℕ) → k < length m → natAbs (getD m k (pos 0)) ≤ n * maxConstant
   value-small k l =
-      let ok = lines-ok n L valid in
-      model-small n maxConstant (linesOf L) ok (all-above n (linesOf L) ok) (assignmentOf m) (w .model-is) k (omega (arith, w .model-length))
+      model-small n maxConstant (linesOf L) (lines-ok n L (workable n L valid)) (valid-above n L valid) (assignmentOf m) (w .model-is) k (omega (arith, w .model-length))
 
   pub model-accepted : modelAnswer n L m ≡ Yes
   unfolding modelValidity

@@ -10,7 +10,7 @@ use lib.Signed.{leZ}
 use Rattle.integers.specs.Integer.{_⩽_, _⋖_, Within}
 use Rattle.integers.specs.Laws.{never}
 use Rattle.integers.specs.Linear.{ints}
-use Rattle.lines.specs.Limits.{maxVariables, maxLines}
+use Rattle.lines.specs.Limits.{maxVariables, workLines}
 use Rattle.lines.specs.Line.{lineCount, linesOf}
 use Rattle.lines.specs.Valid.{LinesOk, all-ok}
 use Rattle.steps.specs.declared.Step.{Step}
@@ -39,7 +39,7 @@ use Rattle.engine_closed_walk.specs.Follow.{FollowReady, FollowedBack}
 pub record FromReady (n : ℕ) (L : List ℤ) (R : List ℕ) (w : List ℤ) : Type 0 where
   pub few : n ≤ maxVariables
   pub valid : LinesOk n L
-  pub lines : lineCount L ≤ maxLines
+  pub lines : lineCount L ≤ workLines
   pub room : headSize + 2 * n ≤ length R
   pub work-room : placesAt n ≤ length w
 
@@ -47,7 +47,7 @@ pub record FromReady (n : ℕ) (L : List ℤ) (R : List ℕ) (w : List ℤ) : Ty
 pub record AtOnceReady (n : ℕ) (L : List ℤ) (count : ℕ) (R : List ℕ) (w : List ℤ) : Type 0 where
   pub few : n ≤ maxVariables
   pub valid : LinesOk n L
-  pub lines : lineCount L ≤ maxLines
+  pub lines : lineCount L ≤ workLines
   pub room : headSize + 2 * n ≤ length R
   pub work-room : placesAt n ≤ length w
   pub steps : StepsReady count (walksAt n) (2 * n) w

@@ -9,7 +9,7 @@ use mir.Syntax.{w64}
 use mir.Val.{SFits}
 use Rattle.integers.specs.Integer.{Within}
 use Rattle.integers.specs.Linear.{ints, zs}
-use Rattle.lines.specs.Limits.{maxVariables, maxLines}
+use Rattle.lines.specs.Limits.{maxVariables, workLines}
 use Rattle.lines.specs.Line.{lineCount}
 use Rattle.lines.specs.Valid.{LinesOk}
 use Rattle.steps.specs.declared.Step.{Step}
@@ -28,7 +28,7 @@ use Rattle.engine_closed_walk.specs.Stretch.{Stretch, stand-before}
 pub record FollowReady (n : ℕ) (L w : List ℤ) (v end : ℕ) : Type 0 where
   pub few : n ≤ maxVariables
   pub valid : LinesOk n L
-  pub lines : lineCount L ≤ maxLines
+  pub lines : lineCount L ≤ workLines
   pub low : 2 * n ≤ end
   pub high : end ≤ rowAt n
   pub room : placesAt n ≤ length w
@@ -97,7 +97,7 @@ module _ (n : ℕ) (L w₀ : List ℤ) (v end : ℕ) (a : FollowReady n L w₀ v
           fits : (s v : ℤ) → Within maxEntry s → Within maxWeight v → SFits w64 (s +ℤ v)
           fits s v x y = simp ints (omega zs)
 
-      pub following-below : k < 2 * maxLines
+      pub following-below : k < 2 * workLines
       following-below = omega (arith, number-below L k t named, a .lines)
 
       pub slot-in : slot ≤ length w

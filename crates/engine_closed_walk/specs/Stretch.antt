@@ -7,7 +7,7 @@ use native.Mathlib.Omega.{arith}
 use lib.IntN.{ℤ, pos, natAbs}
 use lib.ListN.{length, getD, set, take, drop, length-append, List·getD-append}
 use lib.Seq.{getD-set-same, getD-set-other, getD-append-add, drop-cons}
-use Rattle.lines.specs.Limits.{maxLines}
+use Rattle.lines.specs.Limits.{workLines}
 use Rattle.lines.specs.Line.{number}
 use Rattle.steps.specs.declared.Step.{Step}
 use Rattle.steps.specs.Walk.{Path, total, Names}
@@ -17,7 +17,7 @@ use Rattle.decide_written_walks.specs.Refutation.{behind-place}
 
 -- these numbers stand from a place on, and could be steps
 abbrev pub Stand : List ℤ → ℕ → List ℕ → Type 0
-Stand w from ks = (i : ℕ) → i < length ks → (number w (from + i) ≡ pos (getD ks i 0)) × (getD ks i 0 < 2 * maxLines)
+Stand w from ks = (i : ℕ) → i < length ks → (number w (from + i) ≡ pos (getD ks i 0)) × (getD ks i 0 < 2 * workLines)
 
 -- the numbers from the start to the end name a walk from u to v of this sum
 pub record Stretch (L : List ℤ) (u v : ℕ) (w : List ℤ) (start end : ℕ) (sum : ℤ) : Type 0 where
@@ -45,7 +45,7 @@ stretch-kept {w} {w′} {start} f s = record {
 }
 
 -- ---- one more before them
-pub stand-before : (w : List ℤ) (slot k : ℕ) (ks : List ℕ) → 0 < slot → slot ≤ length w → k < 2 * maxLines → Stand w slot ks → Stand (set w (slot - 1) (pos k)) (slot - 1) (k ∷ ks)
+pub stand-before : (w : List ℤ) (slot k : ℕ) (ks : List ℕ) → 0 < slot → slot ≤ length w → k < 2 * workLines → Stand w slot ks → Stand (set w (slot - 1) (pos k)) (slot - 1) (k ∷ ks)
 stand-before w slot k ks low high below s zero h =
     let e : slot - 1 + 0 ≡ slot - 1 = omega arith in
     (ap (number (set w (slot - 1) (pos k))) e ∙ getD-set-same w (slot - 1) (pos k) (pos 0) (omega (arith, low, high)), below)
@@ -57,7 +57,7 @@ stand-before w slot k ks low high below s (suc i) h =
 pub stand-append : (w : List ℤ) (from : ℕ) (ks ls : List ℕ) → Stand w from ks → Stand w (from + length ks) ls → Stand w from (ks ++ ls)
 stand-append w from ks ls a b i h = go (decLt i (length ks))
   where
-    go : Dec (i < length ks) → (number w (from + i) ≡ pos (getD (ks ++ ls) i 0)) × (getD (ks ++ ls) i 0 < 2 * maxLines)
+    go : Dec (i < length ks) → (number w (from + i) ≡ pos (getD (ks ++ ls) i 0)) × (getD (ks ++ ls) i 0 < 2 * workLines)
     go (yes l) = rw (List·getD-append ks ls 0 i l) (a i l)
     go (no l) =
         let j : i - length ks < length ls = omega (arith, h, l, length-append ks ls) in

@@ -12,7 +12,7 @@ use lib.ListN.{length, set}
 use lib.Seq.{getD-set-same, getD-set-other}
 use Rattle.integers.specs.Integer.{_⩽_, _⋖_}
 use Rattle.integers.specs.Linear.{ints, ≤ℤ-trans}
-use Rattle.lines.specs.Limits.{maxVariables, maxLines}
+use Rattle.lines.specs.Limits.{maxVariables, workLines}
 use Rattle.lines.specs.Line.{number, lineCount}
 use Rattle.lines.specs.Valid.{LinesOk}
 use Rattle.steps.specs.declared.Step.{Step}
@@ -108,7 +108,7 @@ cleared-more {start} {cells} {k} {w₀} {w} f room h = record {
 pub record PutReady (n start : ℕ) (L w : List ℤ) (k : ℕ) : Type 0 where
   pub few : n ≤ maxVariables
   pub valid : LinesOk n L
-  pub few-lines : lineCount L ≤ maxLines
+  pub few-lines : lineCount L ≤ workLines
   pub below : k < 2 * lineCount L
   pub room : start + 2 * n * (2 * n) ≤ length w
 
@@ -207,7 +207,7 @@ in-either s t (x ∷ E) (inr i) = ⊎-elim (λ j. inl (inr j)) (λ e. inr e) (in
 pub record PutsReady (n start : ℕ) (L w : List ℤ) : Type 0 where
   pub few : n ≤ maxVariables
   pub valid : LinesOk n L
-  pub few-lines : lineCount L ≤ maxLines
+  pub few-lines : lineCount L ≤ workLines
   pub room : start + 2 * n * (2 * n) ≤ length w
   pub none : (c : ℕ) → c < 2 * n * (2 * n) → number w (start + c) ≡ pos noStep
 

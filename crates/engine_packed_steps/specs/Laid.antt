@@ -4,7 +4,7 @@ use mathlib.Core.List.{List}
 use Prim.Native.Nat.{ℕ, _*_, _≤_, _<_}
 use lib.IntN.{ℤ}
 use lib.ListN.{length}
-use Rattle.lines.specs.Limits.{maxVariables, maxLines}
+use Rattle.lines.specs.Limits.{maxVariables, workLines}
 use Rattle.lines.specs.Line.{number, lineCount, linesOf}
 use Rattle.lines.specs.Valid.{LinesOk}
 use Rattle.steps.specs.Step.{stepsOf}
@@ -17,7 +17,7 @@ use Rattle.engine_packed_steps.specs.Layout.{walksAt}
 pub record LayReady (n : ℕ) (L w : List ℤ) : Type 0 where
   pub few : n ≤ maxVariables
   pub valid : LinesOk n L
-  pub few-lines : lineCount L ≤ maxLines
+  pub few-lines : lineCount L ≤ workLines
   pub room : walksAt n ≤ length w
 
 pub record Laid (n : ℕ) (L w w′ : List ℤ) (count : ℕ) : Type 0 where

@@ -11,12 +11,12 @@ use Rattle.lines.specs.Limits.{maxVariables, maxLines}
 use Rattle.steps.specs.declared.Step.{Step}
 use Rattle.steps.specs.Step.{maxWeight}
 
--- a point, and a step's number in a list, are below these
+-- a point, and a step's number in a list, are below these; the latter is twice the steps of a list of the most lines, which leaves room for one line more
 abbrev pub pointRadix : ℕ
 pointRadix = 2 * maxVariables
 
 abbrev pub numberRadix : ℕ
-numberRadix = 2 * maxLines
+numberRadix = 2 * (2 * maxLines)
 
 -- ---- the parts of a number
 abbrev pub fromIn : ℕ → ℕ

@@ -6,7 +6,7 @@ use native.Mathlib.Decide.{decLt}
 use native.Mathlib.Omega.{arith}
 use lib.IntN.{ℤ, natAbs}
 use lib.ListN.{length, set}
-use Rattle.lines.specs.Limits.{maxVariables, maxLines}
+use Rattle.lines.specs.Limits.{maxVariables, workLines}
 use Rattle.lines.specs.Line.{lineCount, linesOf}
 use Rattle.lines.specs.Valid.{LinesOk}
 use Rattle.lines.specs.Line.{number}
@@ -23,7 +23,7 @@ use Rattle.engine_packed_steps.specs.Scratch.{Scratch, scratch-none, scr
 pub record NumberReady (n : ℕ) (L work : List ℤ) (k kept : ℕ) : Type 0 where
   pub few : n ≤ maxVariables
   pub valid : LinesOk n L
-  pub few-lines : lineCount L ≤ maxLines
+  pub few-lines : lineCount L ≤ workLines
   pub below : k < 2 * lineCount L
   pub room : kept < length work
 
@@ -55,7 +55,7 @@ put-nothing n t e kept work = subst (λ (x : NamedStep). Put n x kept work work 
 pub record WriteReady (n : ℕ) (L work : List ℤ) : Type 0 where
   pub few : n ≤ maxVariables
   pub valid : LinesOk n L
-  pub few-lines : lineCount L ≤ maxLines
+  pub few-lines : lineCount L ≤ workLines
   pub room : 2 * lineCount L ≤ length work
 
 -- the first `kept` numbers are the steps of the first k numbers

@@ -3,9 +3,9 @@
 pub mod layout;
 
 use lines::limits::LINE_SIZE;
-use lines::limits::MAX_CONSTANT;
 use lines::limits::MAX_LINES;
 use lines::limits::MAX_VARIABLES;
+use lines::limits::WORK_CONSTANT;
 use steps::NamedStep;
 use steps::Step;
 use steps::step_numbered;
@@ -18,12 +18,13 @@ ghost use Rattle.engine_packed_steps.specs.Packed.{pointRadix, numberRad
 ghost use Rattle.engine_packed_steps.specs.Steps.{stepIn, ReadReady};
 ghost use Rattle.engine_packed_steps.specs.Written.{NumberReady, Put, WriteReady, Written};
 
-// A point, and a step's number in a list, are below these.
+// A point, and a step's number in a list, are below these. Of numbers there may be two more than in a list of the most
+// lines; with twice as many this stays a power of two, by which division is a shift.
 const POINTS: usize = 2 * MAX_VARIABLES;
 
-const NUMBERS: usize = 2 * MAX_LINES;
+const NUMBERS: usize = 2 * (2 * MAX_LINES);
 // Added to a weight, so that it is not below 0.
-const OFFSET: i64 = 2 * MAX_CONSTANT;
+const OFFSET: i64 = 2 * WORK_CONSTANT;
 // A step in one number is below this if its weight is below 0.
 pub const LIGHT: i64 = OFFSET * (NUMBERS * POINTS * POINTS) as i64;
 

@@ -9,7 +9,7 @@ use native.Mathlib.Omega.{arith}
 use lib.IntN.{ℤ}
 use lib.ListN.{length, take, drop}
 use lib.Seq.{drop-drop}
-use Rattle.lines.specs.Limits.{maxVariables, maxLines}
+use Rattle.lines.specs.Limits.{maxVariables, workLines}
 use Rattle.lines.specs.Line.{number, lineCount, linesOf}
 use Rattle.lines.specs.Valid.{LinesOk, all-ok}
 use Rattle.steps.specs.declared.Step.{Step}
@@ -59,7 +59,7 @@ standing-kept {n} {count} {end} {L} {w} {w′} d s =
 pub record TableAsked (n : ℕ) (L : List ℤ) (count : ℕ) (w : List ℤ) : Type 0 where
   pub few : n ≤ maxVariables
   pub valid : LinesOk n L
-  pub few-lines : lineCount L ≤ maxLines
+  pub few-lines : lineCount L ≤ workLines
   pub standing : Standing n L count w
   pub small : SmallRow (rowAt n) (2 * n) w
   pub room : engineEnd n ≤ length w

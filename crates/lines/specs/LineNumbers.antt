@@ -90,6 +90,20 @@ one-line l =
     let one : lineCount (lineNumbers l) ≡ 1 = omega (arith, length-numbers l) in
     ap (λ (n : ℕ). tabulate n (lineAt (lineNumbers l))) one ∙ ap (λ (m : Line). m ∷ []) (ap lineOf (sym (append-nil (lineNumbers l))) ∙ line-of-numbers l [])
 
+-- a list with a line more
+module _ (L : List ℤ) (l : Line) (whole : length L % lineSize ≡ 0) where
+  pub line-last : lineAt (L ++ lineNumbers l) (lineCount L) ≡ l
+  unfolding lineAt
+  line-last =
+      let last : lineCount L + 0 ≡ lineCount L = omega arith in
+      ap (lineAt (L ++ lineNumbers l)) (sym last)
+      ∙ line-right L (lineNumbers l) whole 0
+      ∙ ap lineOf (sym (append-nil (lineNumbers l)))
+      ∙ line-of-numbers l []
+
+  pub lines-snoc : linesOf (L ++ lineNumbers l) ≡ linesOf L ++ l ∷ []
+  lines-snoc = lines-append L (lineNumbers l) whole ∙ ap (λ (ls : List Line). linesOf L ++ ls) (one-line l)
+
 pub lines-of-numbers : (ls : List Line) → linesOf (numbersOf ls) ≡ ls
 unfolding numbersOf
 lines-of-numbers [] = refl

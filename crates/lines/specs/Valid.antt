@@ -1,14 +1,15 @@
--- What a valid list grants: its limits, and of each line what the rules say.
-use mathlib.Core.Path.{_≡_, refl, sym, ap, _∙_}
+-- What a valid list grants: its limits, and of each line what the rules say; and what deciding asks of a list, which is less.
+use mathlib.Core.Path.{_≡_, refl, sym, ap, subst, _∙_}
 use mathlib.Core.Bool.{Bool, true, false, not, cond, _&&_}
 use mathlib.Core.List.{List, [], _∷_, _++_}
 use Prim.Native.Nat.{ℕ, zero, suc, _+_, _%_, _<_, _≤_}
 use native.Mathlib.Numerals.{add-one}
 use native.Mathlib.Omega.{arith}
+use native.Mathlib.Decide.{decLt}
 use borrow.Author.Tests.{ltb-false, le-ltb, eq-eqb, eqb-true, not-false}
 use lib.Dec.{ltb, eqb}
 use lib.IntN.{ℤ, pos, natAbs}
-use lib.ListN.{length, drop}
+use lib.ListN.{length, drop, length-append}
 use lib.Signed.{leZ, ltZ}
 use Rattle.integers.specs.Integer.{_⩽_, _⋖_, eqZ, isBetween, isWithin, Within}
 use Rattle.integers.specs.Linear.{ints, given, given₂}
@@ -19,11 +20,11 @@ use Rattle.lines.specs.declared.Refusal.{Refusal}
 use Rattle.lines.specs.declared.Refusal.the-variants.{TooManyVariables, BrokenLength, TooManyLines, BadCoefficient, BadVariable, BadConstant, BadIdentifier}
 use Rattle.lines.specs.declared.Validity.{Validity}
 use Rattle.lines.specs.declared.Validity.the-variants.{Valid, Refused}
-use Rattle.lines.specs.Limits.{lineSize, maxVariables, maxLines, maxConstant, maxIdentifier}
-use Rattle.lines.specs.Line.{lineAt, lineCount, linesOf}
+use Rattle.lines.specs.Limits.{lineSize, maxVariables, maxLines, maxConstant, workLines, workConstant, maxIdentifier}
+use Rattle.lines.specs.Line.{lineNumbers, lineAt, lineCount, linesOf}
 use Rattle.lines.specs.Refusal.{numberOf, _orElse_, refuseIf, coefficientsOk, variableOk, variablesOk, constantOk, identifierOk, Rule, lineRules, firstBroken, ruleOf, lineValidity, linesValidity, validityOf}
 use Rattle.lines.specs.Laws.{validity-from}
-use Rattle.lines.specs.LineNumbers.{count-append, lines-append}
+use Rattle.lines.specs.LineNumbers.{length-numbers, count-append, line-left, line-last, lines-append}
 
 pub record VariableOk (n : ℕ) (x : ℤ) : Type 0 where
   pub low : pos 0 ⩽ x
@@ -36,17 +37,31 @@ pub record IdentifierOk (i : ℤ) : Type 0 where
   pub low : pos 0 ⩽ i
   pub high : i ⩽ pos maxIdentifier
 
-pub record LineOk (n : ℕ) (l : Line) : Type 0 where
+-- what the rules say of a line, with a limit for d
+pub record LineWithin (most n : ℕ) (l : Line) : Type 0 where
   pub coefficient-a : Within 1 (l .a)
   pub coefficient-b : Within 1 (l .b)
   pub variable-x : (l .a ≡ pos 0 → ⊥) → VariableOk n (l .x)
   pub variable-y : (l .b ≡ pos 0 → ⊥) → VariableOk n (l .y)
-  pub constant : Within maxConstant (l .d)
+  pub constant : Within most (l .d)
   pub identifier : IdentifierOk (l .identifier)
 
--- every line obeys the rules
+abbrev pub LineOk : ℕ → Line → Type 0
+LineOk n l = LineWithin maxConstant n l
+
+-- what deciding asks of a line: d may pass its limit by one
+abbrev pub LineWorks : ℕ → Line → Type 0
+LineWorks n l = LineWithin workConstant n l
+
 abbrev pub LinesOk : ℕ → List ℤ → Type 0
-LinesOk n L = (k : ℕ) → k < lineCount L → LineOk n (lineAt L k)
+LinesOk n L = (k : ℕ) → k < lineCount L → LineWorks n (lineAt L k)
+
+-- what deciding asks of a list: a valid one has it, and so has a valid one with the opposite of a line behind it
+pub record Workable (n : ℕ) (L : List ℤ) : Type 0 where
+  pub variables : n ≤ maxVariables
+  pub whole : length L % lineSize ≡ 0
+  pub count : lineCount L ≤ workLines
+  pub lines : LinesOk n L
 
 pub record ListOk (n : ℕ) (L : List ℤ) : Type 0 where
   pub variables : n ≤ maxVariables
@@ -119,6 +134,17 @@ line-ok n k l e =
       identifier = identifier-ok (l .identifier) (rule-holds n k l BadIdentifier e);
     }
 
+pub line-works : (n : ℕ) (l : Line) → LineOk n l → LineWorks n l
+line-works n l o =
+    record {
+      coefficient-a = o .coefficient-a;
+      coefficient-b = o .coefficient-b;
+      variable-x = o .variable-x;
+      variable-y = o .variable-y;
+      constant = record { low = given (o .constant .low) (simp ints (omega arith)); high = given (o .constant .high) (simp ints (omega arith)) };
+      identifier = o .identifier;
+    }
+
 module _ (n : ℕ) (L : List ℤ) (e : linesValidity n 0 (linesOf L) ≡ Valid) where
   -- none is refused from line k on, so neither line k nor what comes after it is
   parts : (k : ℕ) → k < lineCount L → linesValidity n k (drop k (linesOf L)) ≡ Valid
@@ -143,8 +169,29 @@ valid-list n L e =
       whole = eqb-true _ _ (not-false _ (not-refused _ _ (q .0)));
       count = ltb-false _ _ (not-refused _ _ (r .0));
       each = each-valid n L (r .1);
-      lines = λ k h. line-ok n k (lineAt L k) (each-valid n L (r .1) k h);
+      lines = λ k h. line-works n (lineAt L k) (line-ok n k (lineAt L k) (each-valid n L (r .1) k h));
     }
+
+pub workable : (n : ℕ) (L : List ℤ) → validityOf n L ≡ Valid → Workable n L
+workable n L e = let o = valid-list n L e in record { variables = o .variables; whole = o .whole; count = omega (arith, o .count); lines = o .lines }
+
+-- with a line more, of which all rules hold but that d may pass its limit by one
+pub workable-more : (n : ℕ) (L : List ℤ) (l : Line) → validityOf n L ≡ Valid → LineWorks n l → Workable n (L ++ lineNumbers l)
+workable-more n L l e ok =
+    let o = valid-list n L e in
+    let count : lineCount (L ++ lineNumbers l) ≡ lineCount L + 1 = omega (arith, count-append L (lineNumbers l) (o .whole), length-numbers l) in
+    record {
+      variables = o .variables;
+      whole = omega (arith, length-append L (lineNumbers l), length-numbers l, o .whole);
+      count = omega (arith, count, o .count);
+      lines = λ k h. go k h count (decLt k (lineCount L));
+    }
+  where
+    go : (k : ℕ) → k < lineCount (L ++ lineNumbers l) → lineCount (L ++ lineNumbers l) ≡ lineCount L + 1 → Dec (k < lineCount L) → LineWorks n (lineAt (L ++ lineNumbers l) k)
+    go k h c (yes q) = let o = valid-list n L e in subst (LineWorks n) (sym (line-left L (lineNumbers l) (o .whole) k q)) (o .lines k q)
+    go k h c (no q) =
+        let z : k ≡ lineCount L = omega arith in
+        subst (LineWorks n) (sym (ap (lineAt (L ++ lineNumbers l)) z ∙ line-last L l (valid-list n L e .whole))) ok
 
 -- ---- a list of whole lines with which a valid list begins is valid
 front-valid : (n k : ℕ) (ls ms : List Line) → linesValidity n k (ls ++ ms) ≡ Valid → linesValidity n k ls ≡ Valid
@@ -205,11 +252,11 @@ line-valid-more n m k j l h = none-more n k l m j lineRules (search (variables-m
 -- the same of some lines
 abbrev pub AllOk : ℕ → List Line → Type 0
 AllOk n [] = Unit {0}
-AllOk n (l ∷ ls) = LineOk n l × AllOk n ls
+AllOk n (l ∷ ls) = LineWorks n l × AllOk n ls
 
 pub all-ok : (n : ℕ) (L : List ℤ) → LinesOk n L → AllOk n (linesOf L)
 all-ok n L ok = go (lineCount L) (lineAt L) ok
   where
-    go : (c : ℕ) (f : ℕ → Line) → ((k : ℕ) → k < c → LineOk n (f k)) → AllOk n (tabulate c f)
+    go : (c : ℕ) (f : ℕ → Line) → ((k : ℕ) → k < c → LineWorks n (f k)) → AllOk n (tabulate c f)
     go zero f h = tt
     go (suc c) f h = (h 0 (omega arith), go c (λ k. f (suc k)) (λ k l. h (suc k) (omega arith)))

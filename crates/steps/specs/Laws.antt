@@ -9,18 +9,18 @@ use lib.Dec.{T, eqb, ltb}
 use lib.IntN.{ℤ, pos, _*ℤ_}
 use lib.ListN.{length, getD}
 use Rattle.integers.specs.Integer.{Within}
-use Rattle.integers.specs.Linear.{ints, zs}
+use Rattle.integers.specs.Linear.{ints, zs, given₂}
 use Rattle.integers.specs.Laws.{never, and-true}
 use Rattle.lines.specs.declared.Line.{Line}
-use Rattle.lines.specs.Limits.{lineSize, maxConstant}
+use Rattle.lines.specs.Limits.{lineSize, workConstant}
 use Rattle.lines.specs.Line.{lineNumbers, lineAt, lineCount}
 use Rattle.lines.specs.Bare.{bare}
-use Rattle.lines.specs.Valid.{VariableOk, LineOk}
+use Rattle.lines.specs.Valid.{VariableOk, LineWorks}
 use Rattle.lines.specs.LineNumbers.{count-append, line-left}
 use Rattle.steps.specs.declared.Step.{Step}
 use Rattle.steps.specs.declared.NamedStep.the-variants.{Found, Nothing}
 use Rattle.steps.specs.Table.{entry, cell, digit, isEnd, CellRule, rule-at, digit-lt}
-use Rattle.steps.specs.Step.{maxWeight, variableAt, stepWith, stepOf, stepNumbered, NamedOk}
+use Rattle.steps.specs.Step.{heaviest, maxWeight, variableAt, stepWith, stepOf, stepNumbered, NamedOk}
 use Rattle.steps.specs.Walk.{Names}
 
 module _ (l : Line) (side : ℕ) where
@@ -44,7 +44,7 @@ not-zero : (z : ℤ) → not (eqb (digit z) 1) ≡ true → z ≡ pos 0 → ⊥
 unfolding digit
 not-zero z t e = subst T (sym (subst (λ (y : ℤ). not (eqb (digit y) 1) ≡ true) e t)) tt
 
-pub end-ok : (n : ℕ) (l : Line) → LineOk n l → (e : ℕ) → isEnd (digit (l .a)) (digit (l .b)) e ≡ true → VariableOk n (variableAt l e)
+pub end-ok : (n : ℕ) (l : Line) → LineWorks n l → (e : ℕ) → isEnd (digit (l .a)) (digit (l .b)) e ≡ true → VariableOk n (variableAt l e)
 end-ok n l ok e t = go (ltb e 2) (and-true (ltb e 4) _ t .1)
   where
     go : (b : Bool) → not (eqb (cond b (digit (l .a)) (digit (l .b))) 1) ≡ true → VariableOk n (cond b (l .x) (l .y))
@@ -52,11 +52,11 @@ end-ok n l ok e t = go (ltb e 2) (and-true (ltb e 4) _ t .1)
     go false u = ok .variable-y (not-zero (l .b) u)
 
 -- ---- a step's weight is within its limit
-weight-within : (k : ℕ) (d : ℤ) → k < 3 → Within maxConstant d → Within maxWeight (pos k *ℤ d)
-weight-within zero d h w = record { low = simp ints (omega zs); high = simp ints (omega zs) }
-weight-within (suc zero) d h w = record { low = simp ints (omega zs); high = simp ints (omega zs) }
-weight-within (suc (suc zero)) d h w = record { low = simp ints (omega zs); high = simp ints (omega zs) }
-weight-within (suc (suc (suc k))) d h w = absurd (omega arith)
+weight-within : (most k : ℕ) (d : ℤ) → k < 3 → Within most d → Within (heaviest most) (pos k *ℤ d)
+weight-within most zero d h w = record { low = simp ints (omega zs); high = simp ints (omega zs) }
+weight-within most (suc zero) d h w = record { low = given₂ (w .low) (w .high) (simp ints (omega arith)); high = given₂ (w .low) (w .high) (simp ints (omega arith)) }
+weight-within most (suc (suc zero)) d h w = record { low = given₂ (w .low) (w .high) (simp ints (omega arith)); high = given₂ (w .low) (w .high) (simp ints (omega arith)) }
+weight-within most (suc (suc (suc k))) d h w = absurd (omega arith)
 
 found-is : {t u : Step} → Found t ≡ Found u → t ≡ u
 found-is e = cc
@@ -66,21 +66,28 @@ pub step-blind : (side : ℕ) (l : Line) → stepOf (bare l) side ≡ stepOf l s
 unfolding stepOf bare lineNumbers
 step-blind side l = refl
 
-pub line-weight : (n : ℕ) (l : Line) (side : ℕ) (t : Step) → LineOk n l → side < 2 → stepOf l side ≡ Found t → Within maxWeight (t .weight)
+line-weight-within : (most : ℕ) (l : Line) (side : ℕ) (t : Step) → Within most (l .d) → side < 2 → stepOf l side ≡ Found t → Within (heaviest most) (t .weight)
 unfolding stepOf
-line-weight n l side t ok h e = go (eqb (entry (c l side + 2)) 0) e
+line-weight-within most l side t w h e = go (eqb (entry (c l side + 2)) 0) e
   where
-    go : (b : Bool) → cond b Nothing (Found (stepWith l (c l side))) ≡ Found t → Within maxWeight (t .weight)
+    go : (b : Bool) → cond b Nothing (Found (stepWith l (c l side))) ≡ Found t → Within (heaviest most) (t .weight)
     go true q = never (cc)
-    go false q = subst (λ (u : Step). Within maxWeight (u .weight)) (found-is q) (weight-within (entry (c l side + 2)) (l .d) (line-rule l side h .factor) (ok .constant))
+    go false q = subst (λ (u : Step). Within (heaviest most) (u .weight)) (found-is q) (weight-within most (entry (c l side + 2)) (l .d) (line-rule l side h .factor) w)
+
+pub line-weight : (n : ℕ) (l : Line) (side : ℕ) (t : Step) → LineWorks n l → side < 2 → stepOf l side ≡ Found t → Within maxWeight (t .weight)
+line-weight n l side t ok = line-weight-within workConstant l side t (ok .constant)
+
+-- where the d of the line that the number names is within some limit
+pub numbered-within : (most : ℕ) (L : List ℤ) (k : ℕ) (t : Step) → (k / 2 < lineCount L → Within most (lineAt L (k / 2) .d)) → stepNumbered L k ≡ Found t → Within (heaviest most) (t .weight)
+unfolding stepNumbered
+numbered-within most L k t w e = go (ltb (k / 2) (lineCount L)) refl e
+  where
+    go : (b : Bool) → ltb (k / 2) (lineCount L) ≡ b → cond b (stepOf (lineAt L (k / 2)) (k % 2)) Nothing ≡ Found t → Within (heaviest most) (t .weight)
+    go true i q = line-weight-within most (lineAt L (k / 2)) (k % 2) t (w (ltb-true _ _ i)) (omega arith) q
+    go false i q = never (cc)
 
 pub numbered-weight : (n : ℕ) (L : List ℤ) (k : ℕ) (t : Step) → NamedOk n L k → stepNumbered L k ≡ Found t → Within maxWeight (t .weight)
-unfolding stepNumbered
-numbered-weight n L k t ok e = go (ltb (k / 2) (lineCount L)) refl e
-  where
-    go : (b : Bool) → ltb (k / 2) (lineCount L) ≡ b → cond b (stepOf (lineAt L (k / 2)) (k % 2)) Nothing ≡ Found t → Within maxWeight (t .weight)
-    go true i q = line-weight n (lineAt L (k / 2)) (k % 2) t (ok (ltb-true _ _ i)) (omega arith) q
-    go false i q = never (cc)
+numbered-weight n L k t ok = numbered-within workConstant L k t (λ h. ok h .constant)
 
 -- ---- a longer list names the same steps by the same numbers
 pub numbered-longer : (L M : List ℤ) (k : ℕ) (t : Step) → length L % lineSize ≡ 0 → stepNumbered L k ≡ Found t → stepNumbered (L ++ M) k ≡ Found t

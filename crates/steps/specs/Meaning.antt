@@ -15,7 +15,7 @@ use Rattle.integers.specs.Laws.{and-true, eq-eqZ, eqZ-true}
 use Rattle.integers.specs.Products.{difference-times, times-assoc, times-sum}
 use Rattle.lines.specs.declared.Line.{Line}
 use Rattle.lines.specs.Line.{Assignment, leftSide, Meets, Solves, lineAt, lineCount, linesOf, isZero, isFalse}
-use Rattle.lines.specs.Valid.{LineOk, LinesOk}
+use Rattle.lines.specs.Valid.{LineWorks, LinesOk}
 use Rattle.lines.specs.Solutions.{solves-at}
 use Rattle.steps.specs.declared.NamedStep.the-variants.{Found, Nothing}
 use Rattle.steps.specs.Point.{value, value-plus, value-minus}
@@ -50,7 +50,7 @@ module _ (s : Assignment) (l : Line) where
   end-value (suc (suc (suc (suc e)))) h = absurd (omega arith)
 
   -- ---- a step's two values differ by the factor times the line's left side
-  module _ (n : ℕ) (ok : LineOk n l) (side : ℕ) (low : side < 2) where
+  module _ (n : ℕ) (ok : LineWorks n l) (side : ℕ) (low : side < 2) where
     abbrev c : ℕ
     c = cell (l .a) (l .b) side
 
@@ -115,7 +115,7 @@ pub record StepsHold (s : Assignment) (l : Line) : Type 0 where
   pub side-1 : Holds s (stepOf l 1)
   pub zero-zero : isZero l ≡ true → pos 0 ⩽ l .d
 
-module _ (s : Assignment) (n : ℕ) (l : Line) (ok : LineOk n l) where
+module _ (s : Assignment) (n : ℕ) (l : Line) (ok : LineWorks n l) where
   none-left : l .a ≡ pos 0 → l .b ≡ pos 0 → leftSide s l ≡ pos 0
   unfolding leftSide
   none-left ea eb = ap₂ (λ (y z : ℤ). y *ℤ X s l +ℤ z *ℤ Y s l) ea eb ∙ ap₂ (λ (y z : ℤ). y +ℤ z) (zero-*ℤ (X s l)) (zero-*ℤ (Y s l))

@@ -10,7 +10,7 @@ use lib.IntN.{pos, natAbs, _*ℤ_}
 use Rattle.integers.specs.Laws.{never, and-true}
 use Rattle.integers.specs.Table.{allBelow, below-at}
 use Rattle.lines.specs.declared.Line.{Line}
-use Rattle.lines.specs.Valid.{VariableOk, variable-lt, LineOk}
+use Rattle.lines.specs.Valid.{VariableOk, variable-lt, LineWorks}
 use Rattle.steps.specs.declared.Step.{Step}
 use Rattle.steps.specs.declared.NamedStep.the-variants.{Found, Nothing}
 use Rattle.steps.specs.Point.{point, opposite}
@@ -111,7 +111,7 @@ pub record LineStep (n : ℕ) (l : Line) (t : Step) : Type 0 where
 point-lt : (n : ℕ) (l : Line) (e : ℕ) → VariableOk n (variableAt l e) → endPoint l e < 2 * n
 point-lt n l e h = omega (arith, variable-lt n (variableAt l e) h)
 
-with-step : (n : ℕ) (l : Line) (side : ℕ) → LineOk n l → side < 2 → (entry (cell (l .a) (l .b) side + 2) ≡ 0 → ⊥) → LineStep n l (stepWith l (cell (l .a) (l .b) side))
+with-step : (n : ℕ) (l : Line) (side : ℕ) → LineWorks n l → side < 2 → (entry (cell (l .a) (l .b) side + 2) ≡ 0 → ⊥) → LineStep n l (stepWith l (cell (l .a) (l .b) side))
 with-step n l side ok h f =
     let e = cell (l .a) (l .b) side in
     let r = line-rule l side h in
@@ -129,7 +129,7 @@ with-step n l side ok h f =
       weight-is = ap (λ (k : ℕ). pos k *ℤ l .d) (m .mirror .factor);
     }
 
-pub line-step-known : (n : ℕ) (l : Line) (side : ℕ) (t : Step) → LineOk n l → side < 2 → stepOf l side ≡ Found t → LineStep n l t
+pub line-step-known : (n : ℕ) (l : Line) (side : ℕ) (t : Step) → LineWorks n l → side < 2 → stepOf l side ≡ Found t → LineStep n l t
 unfolding stepOf
 line-step-known n l side t ok h e = go (eqb (entry (cell (l .a) (l .b) side + 2)) 0) refl e
   where

@@ -6,9 +6,9 @@ use lib.Dec.{eqb, ltb}
 use lib.IntN.{ℤ, pos, natAbs, _-ℤ_, _*ℤ_}
 use Rattle.integers.specs.Integer.{_⩽_}
 use Rattle.lines.specs.declared.Line.{Line}
-use Rattle.lines.specs.Limits.{maxConstant}
+use Rattle.lines.specs.Limits.{workConstant}
 use Rattle.lines.specs.Line.{Assignment, lineAt, lineCount}
-use Rattle.lines.specs.Valid.{LineOk}
+use Rattle.lines.specs.Valid.{LineWorks}
 use Rattle.steps.specs.declared.Step.{Step}
 use Rattle.steps.specs.declared.NamedStep.{NamedStep}
 use Rattle.steps.specs.declared.NamedStep.the-variants.{Found, Nothing}
@@ -16,8 +16,12 @@ use Rattle.steps.specs.Point.{point, value}
 use Rattle.steps.specs.Table.{entry, cell}
 
 -- a step's weight lies within plus and minus this: the greatest factor times the greatest d
+abbrev pub heaviest : ℕ → ℕ
+heaviest most = 2 * most
+
+-- of a list that deciding takes
 abbrev pub maxWeight : ℕ
-maxWeight = 2 * maxConstant
+maxWeight = heaviest workConstant
 
 -- the variable number at an end's place
 abbrev pub variableAt : Line → ℕ → ℤ
@@ -42,7 +46,7 @@ stepNumbered L k = cond (ltb (k / 2) (lineCount L)) (stepOf (lineAt L (k / 2)) (
 
 -- the line that a step number names, where there is one, keeps the line rules
 abbrev pub NamedOk : ℕ → List ℤ → ℕ → Type 0
-NamedOk n L k = k / 2 < lineCount L → LineOk n (lineAt L (k / 2))
+NamedOk n L k = k / 2 < lineCount L → LineWorks n (lineAt L (k / 2))
 
 -- a step from P to Q of weight w says value(P) - value(Q) ≤ w
 abbrev pub Says : Assignment → Step → Type 0

@@ -6,8 +6,8 @@ ghost use mathlib.Core.Path.{_≡_};
 ghost use Prim.Native.Nat.{_+_, _<_};
 ghost use lib.IntN.{pos, natAbs, _*ℤ_};
 ghost use Rattle.integers.specs.Integer.{Within};
-ghost use Rattle.lines.specs.Limits.{maxVariables, maxConstant};
-ghost use Rattle.lines.specs.Valid.{VariableOk, LineOk};
+ghost use Rattle.lines.specs.Limits.{maxVariables, workConstant};
+ghost use Rattle.lines.specs.Valid.{VariableOk, LineWorks};
 ghost use Rattle.steps.specs.Point.{point, opposite};
 ghost use Rattle.steps.specs.Table.{entry, digit};
 ghost use Rattle.steps.specs.Step.{variableAt, endPoint, stepOf, stepNumbered, NamedOk};
@@ -142,7 +142,7 @@ fn end_point(line: Line, end: usize) -> usize
 
 // d times a factor of 1 or 2.
 fn weight_of(factor: usize, d: i32) -> i64
-    requires { ⌜ (factor ≡ 0 → ⊥) × (factor < 3) × Within maxConstant d ⌝ }
+    requires { ⌜ (factor ≡ 0 → ⊥) × (factor < 3) × Within workConstant d ⌝ }
     ensures { λ r. ⌜ r ≡ pos factor *ℤ d ⌝ }
 {
     let w = d as i64;
@@ -151,7 +151,7 @@ fn weight_of(factor: usize, d: i32) -> i64
 
 // The line's step of a side.
 fn line_step(line: Line, side: usize) -> NamedStep
-    requires { ⌜ LineOk maxVariables line × (side < 2) ⌝ }
+    requires { ⌜ LineWorks maxVariables line × (side < 2) ⌝ }
     ensures { λ r. ⌜ r ≡ stepOf line side ⌝ }
 {
     let at = 6 * (3 * digit_of(line.a) + digit_of(line.b)) + 3 * side;

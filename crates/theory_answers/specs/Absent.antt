@@ -11,11 +11,9 @@ use Rattle.integers.specs.Integer.{_⩽_, _⋖_, half, Within}
 use Rattle.integers.specs.Linear.{ints}
 use Rattle.integers.specs.Laws.{never}
 use Rattle.lines.specs.declared.Line.{Line}
-use Rattle.lines.specs.declared.Validity.the-variants.{Valid}
 use Rattle.lines.specs.Limits.{maxVariables}
 use Rattle.lines.specs.Line.{linesOf}
-use Rattle.lines.specs.Refusal.{validityOf}
-use Rattle.lines.specs.Valid.{valid-list}
+use Rattle.lines.specs.Valid.{Workable}
 use Rattle.steps.specs.Point.{point, opposite}
 use Rattle.steps.specs.Step.{maxWeight, stepsOf}
 use Rattle.theory_walks.specs.Distance.{Distance, none, some, halfD}
@@ -30,7 +28,7 @@ use Rattle.theory_answers.specs.Meaning.{none-greatest, none-least, grea
 use Rattle.theory_answers.specs.Decided.{lines-ok}
 use Rattle.theory_answers.specs.Unique.{no-both-greatest, no-both-least, one-greatest, one-least, written-yes}
 
-module _ (n : ℕ) (L : List ℤ) (valid : validityOf n L ≡ Valid) where
+module _ (n : ℕ) (L : List ℤ) (valid : Workable n L) where
   abbrev lines : List Line
   lines = linesOf L
 
@@ -54,7 +52,7 @@ module _ (n : ℕ) (L : List ℤ) (valid : validityOf n L ≡ Valid) where
           subst (Within (2 * n * maxWeight)) h (half-within _ y (best-within maxWeight (stepsOf lines) (weights-small n lines (lines-ok n L valid)) (2 * n) i (opposite i) y e))
 
   size : 2 * n * maxWeight ≤ 2 * maxVariables * maxWeight
-  size = omega (arith, valid-list n L valid .variables)
+  size = omega (arith, valid .variables)
 
   module _ (yes-verdict : verdictOf n lines ≡ true) (x : ℕ) (h : x < n) (w : ℤ) where
     pub least-above : IsLeast lines x w → absentLeast ⋖ w

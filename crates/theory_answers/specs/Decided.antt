@@ -10,13 +10,16 @@ use Rattle.integers.specs.Laws.{never}
 use Rattle.lines.specs.declared.Validity.the-variants.{Valid}
 use Rattle.lines.specs.Line.{lineAt, lineCount, linesOf, assignmentOf, Solvable, isFalse}
 use Rattle.lines.specs.Refusal.{validityOf}
-use Rattle.lines.specs.Valid.{ListOk, AllOk, valid-list, all-ok}
+use Rattle.lines.specs.Valid.{AllOk, Workable, all-ok, workable}
 use Rattle.steps.specs.Step.{stepsOf}
 use Rattle.check_answers.specs.declared.CheckAnswer.the-variants.{Yes}
 use Rattle.theory_walks.specs.Negative.{noNegative, no-negative-found}
+use Rattle.check_refutation.specs.Progress.{accepts}
 use Rattle.check_refutation.specs.Answer.{refutationAnswer}
-use Rattle.check_soundness.specs.Refutes.{Closed, Falsehood}
-use Rattle.check_soundness.specs.Answered.{accepted-when, answers-no-solvable}
+use Rattle.check_soundness.specs.Refutes.{Closed, Falsehood, Refutes}
+use Rattle.check_soundness.specs.Meaning.{accepts-exactly}
+use Rattle.check_soundness.specs.Sound.{solved-not-refuted}
+use Rattle.check_soundness.specs.Answered.{accepted-when}
 use Rattle.theory_walks.specs.Graph.{line-at, at-line, ends-points, named-steps}
 use Rattle.theory_bounds.specs.Verdict.{hasFalse, no-false, firstFalse, lowest-false, verdictOf, dueKind}
 use Rattle.theory_answers.specs.Refuted.{Due, kind-false, falsehood, closed-walk, due-refutation}
@@ -38,22 +41,15 @@ pub data DueKind (L : List ℤ) : ℕ → Type 0 where
   due-1 : (Some (Falsehood L) → ⊥) → Some (Closed L) → DueKind L 1
   due-2 : (Some (Falsehood L) → ⊥) → (Some (Closed L) → ⊥) → DueKind L 2
 
-module _ (n : ℕ) (L : List ℤ) (valid : validityOf n L ≡ Valid) where
-  list-ok : ListOk n L
-  list-ok = valid-list n L valid
-
+module _ (n : ℕ) (L : List ℤ) (valid : Workable n L) where
   pub lines-ok : AllOk n (linesOf L)
-  lines-ok = all-ok n L (list-ok .lines)
-
-  -- a due refutation is short enough for the checker
-  pub due-accepted : (R : List ℕ) → Due n L R → refutationAnswer n L R ≡ Yes
-  due-accepted R d = accepted-when n L R .1 (valid, omega (arith, d .size, list-ok .variables), d .refutes)
+  lines-ok = all-ok n L (valid .lines)
 
   pub yes-solvable : verdictOf n (linesOf L) ≡ true → Solvable (linesOf L)
   yes-solvable e = record { assignment = assignmentOf (modelOf n (linesOf L)); solves = model-is-model n (linesOf L) lines-ok e .solves }
 
   pub no-unsolvable : verdictOf n (linesOf L) ≡ false → Solvable (linesOf L) → ⊥
-  no-unsolvable e s = let r = due-refutation n L e in answers-no-solvable n L (r .0) (due-accepted (r .0) (r .1)) s
+  no-unsolvable e s = let r = due-refutation n L e in solved-not-refuted n L (valid .lines) (s .assignment) (s .solves) (r .0) (r .1 .refutes)
 
   pub solvable-yes : Solvable (linesOf L) → verdictOf n (linesOf L) ≡ true
   solvable-yes s = go (verdictOf n (linesOf L)) refl
@@ -69,9 +65,15 @@ module _ (n : ℕ) (L : List ℤ) (valid : validityOf n L ≡ Valid) where
       go true e = absurd (f (yes-solvable e))
       go false e = refl
 
-  -- a refutation of any length that the checker accepts says no
-  pub accepted-no : (R : List ℕ) → refutationAnswer n L R ≡ Yes → verdictOf n (linesOf L) ≡ false
-  accepted-no R e = unsolvable-no (answers-no-solvable n L R e)
+  -- a refutation of any length says no; and where there is one, the checker's rule accepts it
+  pub refuted-no : (R : List ℕ) → Refutes L R → verdictOf n (linesOf L) ≡ false
+  refuted-no R r = unsolvable-no (λ s. solved-not-refuted n L (valid .lines) (s .assignment) (s .solves) R r)
+
+  pub no-exactly-refuted : (verdictOf n (linesOf L) ≡ false) ↔ Some (λ R. accepts L R ≡ true)
+  no-exactly-refuted = (
+    (λ e. let r = due-refutation n L e in (r .0, accepts-exactly L (r .0) .1 (r .1 .refutes))),
+    (λ r. refuted-no (r .0) (accepts-exactly L (r .0) .0 (r .1))),
+  )
 
   -- ---- which kind is due: 3 if some line is false, else 1 if a closed walk of negative sum exists, else 2
   has-falsehood : (hasFalse (linesOf L) ≡ true) ↔ Some (Falsehood L)
@@ -116,3 +118,12 @@ module _ (n : ℕ) (L : List ℤ) (valid : validityOf n L ≡ Valid) where
       go true e b f = due-3 (has-falsehood .0 e)
       go false e false f = due-1 (λ s. other (has-falsehood .1 s) e) (has-closed .0 f)
       go false e true f = due-2 (λ s. other (has-falsehood .1 s) e) (λ s. other f (has-closed .1 s))
+
+-- ---- the checker's answer, on a valid list
+module _ (n : ℕ) (L : List ℤ) (valid : validityOf n L ≡ Valid) where
+  -- a due refutation is short enough for the checker
+  pub due-accepted : (R : List ℕ) → Due n L R → refutationAnswer n L R ≡ Yes
+  due-accepted R d = accepted-when n L R .1 (valid, omega (arith, d .size, workable n L valid .variables), d .refutes)
+
+  pub accepted-no : (R : List ℕ) → refutationAnswer n L R ≡ Yes → verdictOf n (linesOf L) ≡ false
+  accepted-no R e = refuted-no n L (workable n L valid) R (accepted-when n L R .0 e .2)

@@ -1,4 +1,4 @@
--- Demand 3 of the answers: what is learned of a list holds of each valid list whose every solution solves it, and so of each that begins with it.
+-- Demand 3 of the answers: what is learned of a list holds of each list whose every solution solves it, and so of each that begins with it.
 use mathlib.Core.Path.{_≡_, sym, subst, _∙_}
 use mathlib.Core.Logic.{_⊎_, inl, inr, _↔_}
 use mathlib.Core.Bool.{true, false}
@@ -11,10 +11,9 @@ use lib.Seq.{ext-getD}
 use Rattle.integers.specs.Integer.{_⩽_, _⋖_}
 use Rattle.integers.specs.Linear.{ints}
 use Rattle.lines.specs.declared.Line.{Line}
-use Rattle.lines.specs.declared.Validity.the-variants.{Valid}
 use Rattle.lines.specs.Limits.{lineSize}
 use Rattle.lines.specs.Line.{linesOf, Assignment, assignmentOf, Solves, Solvable, Entails}
-use Rattle.lines.specs.Refusal.{validityOf}
+use Rattle.lines.specs.Valid.{Workable}
 use Rattle.lines.specs.LineNumbers.{lines-append}
 use Rattle.lines.specs.Solutions.{solves-append}
 use Rattle.theory_answers.specs.Semantics.{IsModel, Equal, Mirrored, AlwaysZero, SameVariable, SameSign, LeastWritten, GreatestWritten, Written}
@@ -25,8 +24,8 @@ use Rattle.theory_answers.specs.Unique.{no-both-greatest, no-both-least,
 use Rattle.theory_answers.specs.Groups.{shared-exactly, equal-exactly, mirrored-exactly}
 use Rattle.theory_answers.specs.Absent.{least-above, greatest-below}
 
--- ---- two valid lists: every solution of K solves L
-module _ (n : ℕ) (L K : List ℤ) (valid : validityOf n L ≡ Valid) (valid′ : validityOf n K ≡ Valid) (entails : Entails (linesOf K) (linesOf L)) where
+-- ---- two lists: every solution of K solves L
+module _ (n : ℕ) (L K : List ℤ) (valid : Workable n L) (valid′ : Workable n K) (entails : Entails (linesOf K) (linesOf L)) where
   abbrev ls : List Line
   ls = linesOf L
 

@@ -6,9 +6,8 @@ use mathlib.Core.List.{List}
 use Prim.Native.Nat.{ℕ}
 use lib.IntN.{ℤ}
 use Rattle.lines.specs.declared.Line.{Line}
-use Rattle.lines.specs.declared.Validity.the-variants.{Valid}
 use Rattle.lines.specs.Line.{linesOf, Entails, SameSolutions}
-use Rattle.lines.specs.Refusal.{validityOf}
+use Rattle.lines.specs.Valid.{Workable}
 use Rattle.theory_answers.specs.Semantics.{LeastWritten, GreatestWritten, Written}
 use Rattle.theory_bounds.specs.Verdict.{verdictOf}
 use Rattle.theory_bounds.specs.Answers.{modelOf, boundsOf, groupsOf}
@@ -47,8 +46,8 @@ module _ (ls ms : List Line) (same : SameSolutions ls ms) where
             record { a-sign = g .a-sign; together = λ t s. g .together t (from t s); lowest = λ q l u f. g .lowest q l u (λ t s. f t (to t s)); plus = λ f. g .plus (λ t s. f t (to t s)) };
       }
 
--- so two valid lists with the same solutions have one verdict, and on a yes one model, bounds and groups
-module _ (n : ℕ) (L M : List ℤ) (valid : validityOf n L ≡ Valid) (valid′ : validityOf n M ≡ Valid) (same : SameSolutions (linesOf L) (linesOf M)) where
+-- so two lists with the same solutions have one verdict, and on a yes one model, bounds and groups
+module _ (n : ℕ) (L M : List ℤ) (valid : Workable n L) (valid′ : Workable n M) (same : SameSolutions (linesOf L) (linesOf M)) where
   pub same-verdict : verdictOf n (linesOf L) ≡ verdictOf n (linesOf M)
   same-verdict = go (verdictOf n (linesOf L)) refl
     where

@@ -8,10 +8,13 @@ use native.Mathlib.Decide.{ℕ-discrete, decLt}
 use lib.IntN.{ℤ, pos, negsuc, negℤ, natAbs, _+ℤ_, _-ℤ_, _*ℤ_}
 use Rattle.integers.specs.Integer.{_⩽_, _⋖_, Within}
 use Rattle.integers.specs.Linear.{ints, given}
+use Rattle.integers.specs.Sequence.{tabulate}
 use Rattle.lines.specs.declared.Line.{Line}
-use Rattle.lines.specs.Limits.{maxConstant}
-use Rattle.lines.specs.Line.{Assignment, leftSide, Meets, Solves}
-use Rattle.lines.specs.Valid.{LineOk, variable-lt, AllOk}
+use Rattle.lines.specs.declared.Validity.the-variants.{Valid}
+use Rattle.lines.specs.Limits.{maxConstant, workConstant}
+use Rattle.lines.specs.Line.{lineAt, lineCount, linesOf, Assignment, leftSide, Meets, Solves}
+use Rattle.lines.specs.Refusal.{validityOf}
+use Rattle.lines.specs.Valid.{LineWorks, variable-lt, AllOk, line-ok, valid-list}
 use Rattle.theory_answers.specs.Semantics.{Agrees, IsModel}
 
 -- every d is at least -M
@@ -19,9 +22,16 @@ abbrev pub AllAbove : ℕ → List Line → Type 0
 AllAbove M [] = Unit {0}
 AllAbove M (l ∷ ls) = (negℤ (pos M) ⩽ l .d) × AllAbove M ls
 
-pub all-above : (n : ℕ) (ls : List Line) → AllOk n ls → AllAbove maxConstant ls
+pub all-above : (n : ℕ) (ls : List Line) → AllOk n ls → AllAbove workConstant ls
 all-above n [] ok = tt
 all-above n (l ∷ ls) ok = (ok .0 .constant .low, all-above n ls (ok .1))
+
+pub valid-above : (n : ℕ) (L : List ℤ) → validityOf n L ≡ Valid → AllAbove maxConstant (linesOf L)
+valid-above n L v = go (lineCount L) (lineAt L) (λ k h. line-ok n k (lineAt L k) (valid-list n L v .each k h) .constant .low)
+  where
+    go : (c : ℕ) (f : ℕ → Line) → ((k : ℕ) → k < c → negℤ (pos maxConstant) ⩽ f k .d) → AllAbove maxConstant (tabulate c f)
+    go zero f h = tt
+    go (suc c) f h = (h 0 (omega arith), go c (λ k. f (suc k)) (λ k l. h (suc k) (omega arith)))
 
 -- ---- one value moved toward zero
 -- a size beyond F falls by one
@@ -168,7 +178,7 @@ module _ (n L M : ℕ) (s : Assignment) (apart : (x : ℕ) → x < n → Apart L
   abbrev pulled : Assignment
   pulled x = pull (L + M) (s x)
 
-  meets-pulled : (l : Line) → LineOk n l → negℤ (pos M) ⩽ l .d → Meets s l → Meets pulled l
+  meets-pulled : (l : Line) → LineWorks n l → negℤ (pos M) ⩽ l .d → Meets s l → Meets pulled l
   unfolding leftSide
   meets-pulled l ok b =
       sum-moved L M _ _ _ _ (l .d) b

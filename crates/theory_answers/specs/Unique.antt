@@ -12,9 +12,8 @@ use lib.Seq.{ext-getD}
 use Rattle.integers.specs.Integer.{_⩽_}
 use Rattle.integers.specs.Linear.{ints}
 use Rattle.lines.specs.declared.Line.{Line}
-use Rattle.lines.specs.declared.Validity.the-variants.{Valid}
 use Rattle.lines.specs.Line.{linesOf, assignmentOf}
-use Rattle.lines.specs.Refusal.{validityOf}
+use Rattle.lines.specs.Valid.{Workable}
 use Rattle.theory_answers.specs.Semantics.{IsGreatest, NoGreatest, IsLeast, NoLeast, Together, IsGroup, groupVariable, groupSign, LeastWritten, GreatestWritten, Written}
 use Rattle.theory_bounds.specs.Verdict.{verdictOf}
 use Rattle.theory_bounds.specs.Answers.{modelOf, boundsOf, groupsOf}
@@ -68,7 +67,7 @@ module _ (ls : List Line) (x : ℕ) where
       sign (suc s) (suc u) h k f g m p = omega arith
 
 -- ---- all that is written
-module _ (n : ℕ) (L : List ℤ) (valid : validityOf n L ≡ Valid) where
+module _ (n : ℕ) (L : List ℤ) (valid : Workable n L) where
   abbrev ls : List Line
   ls = linesOf L
 

@@ -18,7 +18,7 @@ use Rattle.integers.specs.Laws.{never, both-true}
 use Rattle.integers.specs.Sequence.{tabulate}
 use Rattle.lines.specs.declared.Line.{Line}
 use Rattle.lines.specs.Line.{Assignment, Meets, Solves, linesOf, lineAt, lineCount, isZero, isFalse}
-use Rattle.lines.specs.Valid.{LineOk, AllOk}
+use Rattle.lines.specs.Valid.{LineWorks, AllOk}
 use Rattle.steps.specs.declared.Step.{Step}
 use Rattle.steps.specs.declared.NamedStep.{NamedStep}
 use Rattle.steps.specs.declared.NamedStep.the-variants.{Found, Nothing}
@@ -119,9 +119,9 @@ member (x ∷ ls) t zero l a (suc (suc side)) h e = absurd (omega arith)
 member (x ∷ ls) t (suc k) l a side h e = in-right t (named (stepOf x 0)) _ (in-right t (named (stepOf x 1)) (stepsOf ls) (member ls t k l a side h e))
 
 -- ---- of lines that obey the rules
-ok-at : (n : ℕ) (ls : List Line) → AllOk n ls → (k : ℕ) (l : Line) → At ls k l → LineOk n l
+ok-at : (n : ℕ) (ls : List Line) → AllOk n ls → (k : ℕ) (l : Line) → At ls k l → LineWorks n l
 ok-at n [] ok k l a = absurd a
-ok-at n (x ∷ ls) ok zero l a = subst (LineOk n) a (ok .0)
+ok-at n (x ∷ ls) ok zero l a = subst (LineWorks n) a (ok .0)
 ok-at n (x ∷ ls) ok (suc k) l a = ok-at n ls (ok .1) k l a
 
 false-is : (l : Line) → isZero l ≡ true → ltZ (l .d) (pos 0) ≡ true → isFalse l ≡ true
@@ -129,7 +129,7 @@ unfolding isFalse
 false-is l z e = both-true _ _ z e
 
 module _ (n : ℕ) (ls : List Line) (all : AllOk n ls) where
-  ok : (k : ℕ) (l : Line) → At ls k l → LineOk n l
+  ok : (k : ℕ) (l : Line) → At ls k l → LineWorks n l
   ok k l a = ok-at n ls all k l a
 
   known : (t : Step) → In t (stepsOf ls) → (s : Source ls t) × LineStep n (s .line) t

@@ -5,13 +5,13 @@ use borrow.Author.Needs.{needs}
 use mir.Syntax.{w64}
 use mir.Facts.{toZ-pos, toZ-ofZ}
 use Rattle.integers.specs.Bits.{minus-fits, minus-is}
-use Rattle.steps.specs.Step.{maxWeight}
+use Rattle.check_pieces.specs.Taken.{validWeight}
 use Rattle.check_pieces.proofs.is_sum.Statement.{statement}
 use Rattle.check_pieces.proofs.is_sum.Tie as tie
 
 module _ (s : tie.Start) where
   abbrev most : ℕ
-  most = s .args .count * maxWeight
+  most = s .args .count * validWeight
 
   small : most < 2 ^ 63
   small = omega (arith, s .pre)

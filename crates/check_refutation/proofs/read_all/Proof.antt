@@ -9,6 +9,8 @@ use lib.IntN.{ℤ}
 use lib.ListN.{length, take, getD}
 use lib.Seq.{take-suc, take-length}
 use Rattle.lines.specs.Limits.{maxVariables}
+use Rattle.steps.specs.Step.{maxWeight}
+use Rattle.steps.specs.Laws.{numbered-weight}
 use Rattle.check_refutation.specs.declared.Progress.{Progress}
 use Rattle.check_refutation.specs.Progress.{start, advance, run}
 use Rattle.check_refutation.specs.Small.{Small, start-small, advance-small, advance-read, run-snoc}
@@ -16,7 +18,7 @@ use Rattle.check_refutation.proofs.read_all.Statement.{statement}
 use Rattle.check_refutation.proofs.read_all.Tie as tie
 
 abbrev Inv-loop : tie.InvT-loop
-Inv-loop list refutation s₀ i₀ s i = (i ≤ length refutation) × (s ≡ run list start (take i refutation)) × Small s × (s .read ≡ i)
+Inv-loop list refutation s₀ i₀ s i = (i ≤ length refutation) × (s ≡ run list start (take i refutation)) × Small maxWeight s × (s .read ≡ i)
 
 abbrev μ-loop : tie.MeasureT-loop
 μ-loop list refutation s₀ i₀ s i = length refutation - i
@@ -25,7 +27,7 @@ loop-holds : tie.Need-loop-holds Inv-loop μ-loop
 unfolding run
 loop-holds c =
     let e = c .new .ensures in
-    (omega arith, e, rw e start-small, ap (λ (s : Progress). s .read) e)
+    (omega arith, e, rw e (start-small maxWeight), ap (λ (s : Progress). s .read) e)
 
 take-requires : tie.Need-take-requires Inv-loop μ-loop
 take-requires c κs =
@@ -46,7 +48,7 @@ loop-again c =
           ∙ ap (λ (s : Progress). advance list s x) (l .loop .inv .1)
           ∙ sym (run-snoc list start (take i xs) x)
           ∙ ap (run list start) (sym (take-suc xs i 0 h) ∙ ap (λ (m : ℕ). take m xs) (sym (add-one i))),
-      rw (c .take .ensures) (advance-small (l .loop .s) (l .loop .inv .2) (omega arith) maxVariables list x (a .pre .0 _) (omega (arith, c .before .shared-slice-known2 .given i))),
+      rw (c .take .ensures) (advance-small maxWeight (l .loop .s) (l .loop .inv .2) (omega arith) list x (λ t. numbered-weight maxVariables list x t (a .pre .0 _)) (omega (arith, c .before .shared-slice-known2 .given i))),
       ap (λ (s : Progress). s .read) (c .take .ensures) ∙ advance-read list (l .loop .s) x ∙ ap (λ (m : ℕ). m + 1) (l .loop .inv .3),
     )
 

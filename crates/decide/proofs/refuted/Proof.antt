@@ -4,7 +4,6 @@ use mathlib.Core.Bool.{Bool, true, false}
 use native.Mathlib.Omega.{arith}
 use borrow.Author.Needs.{needs}
 use Rattle.lines.specs.Line.{linesOf}
-use Rattle.lines.specs.Valid.{valid-list}
 use Rattle.theory_bounds.specs.Verdict.{hasFalse}
 use Rattle.decide_false_line.specs.False.{false-found}
 use Rattle.decide.specs.Searched.{by-false}
@@ -15,7 +14,7 @@ write-false-requires : tie.Need-write-false-requires
 write-false-requires c κs =
     let t = c .before in
     let s = t .before .before .before in
-    (omega (arith, s .pre .room), omega (arith, t .if1 .taken, valid-list _ _ (s .pre .valid) .count))
+    (omega (arith, s .pre .room), omega (arith, t .if1 .taken, s .pre .valid .count))
 
 returns : tie.Need-returns
 returns c =

@@ -9,7 +9,7 @@ use lib.ListN.{length, set, length-set}
 use mir.Syntax.{w64}
 use mir.Val.{ofZ, toZ}
 use Rattle.integers.specs.Bits.{kept}
-use Rattle.lines.specs.Limits.{maxLines}
+use Rattle.lines.specs.Limits.{workLines}
 use Rattle.lines.specs.Line.{number}
 use Rattle.decide_written_walks.specs.Copy.{copiedTo, copied-none, copied-more}
 use Rattle.decide_written_walks.proofs.copy_numbers.Statement.{statement}
@@ -35,7 +35,7 @@ module _ (c : tie.After-refutation Inv-loop μ-loop) where
   same : toZ w64 (ofZ w64 z) ≡ z
   same = kept w64 z (c .refutation .given)
 
-  step : (k : ℕ) × (z ≡ pos k) × (k < 2 * maxLines)
+  step : (k : ℕ) × (z ≡ pos k) × (k < 2 * workLines)
   step = l .before .pre .2 (l .loop .i) (c .before .loop-test .taken)
 
   within : l .before .args .to + l .loop .i < length (l .before .args .refutation .now)

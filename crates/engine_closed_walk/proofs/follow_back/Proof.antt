@@ -9,7 +9,7 @@ use lib.ListN.{length, set, length-set}
 use mir.Syntax.{w64}
 use mir.Val.{SFits, toZ, ofZ}
 use mir.Facts.{toZ-ofZ, toZ-pos}
-use Rattle.lines.specs.Limits.{maxVariables, maxLines}
+use Rattle.lines.specs.Limits.{maxVariables, workLines}
 use Rattle.lines.specs.Valid.{lines-more}
 use Rattle.steps.specs.declared.Step.{Step}
 use Rattle.steps.specs.declared.NamedStep.the-variants.{Found}
@@ -86,7 +86,7 @@ module _ (found : tie.After-t Inv-loop μ-loop) where
   sum-is : toZ w64 (ofZ w64 (sum +ℤ toZ w64 (ofZ w64 (step .weight)))) ≡ sum +ℤ step .weight
   sum-is = rw weight-is (toZ-ofZ fits)
 
-  below : number < 2 * maxLines
+  below : number < 2 * workLines
   below = following-below _ _ _ _ _ (start .pre) _ _ _ _ (loop .loop .inv .1) low number step is
 
   number-is : toZ w64 number ≡ pos number

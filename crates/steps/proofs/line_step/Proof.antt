@@ -8,7 +8,7 @@ use mir.Val.{toZ, ofZ}
 use Rattle.integers.specs.Bits.{kept}
 use Rattle.lines.specs.declared.Line.{Line}
 use Rattle.lines.specs.Limits.{maxVariables}
-use Rattle.lines.specs.Valid.{LineOk}
+use Rattle.lines.specs.Valid.{LineWorks}
 use Rattle.steps.specs.declared.Side.{Side}
 use Rattle.steps.specs.declared.NamedStep.the-variants.{Found}
 use Rattle.steps.specs.Table.{entry, cell, digit, CellRule}
@@ -53,7 +53,7 @@ module _ (c : tie.Else1) where
   some-factor : entry (at d + 2) ≡ 0 → ⊥
   some-factor e = c .if1 .left (factor-is (c .before) ∙ e)
 
-  ok : LineOk maxVariables (l d)
+  ok : LineWorks maxVariables (l d)
   ok = start d .pre .0
 
   rule : CellRule (digit (l d .a)) (digit (l d .b)) (at d)

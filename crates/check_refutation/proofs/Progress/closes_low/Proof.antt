@@ -9,6 +9,7 @@ use mir.Facts.{toZ-ofZ}
 use Rattle.integers.specs.Integer.{half}
 use Rattle.integers.specs.Linear.{ints, zs}
 use Rattle.integers.specs.Bits.{kept}
+use Rattle.steps.specs.Step.{maxWeight}
 use Rattle.check_refutation.specs.declared.Progress.{Progress}
 use Rattle.check_refutation.specs.Progress.{closes}
 use Rattle.check_refutation.specs.Small.{Small, first-within, second-within}
@@ -34,10 +35,10 @@ returns-3 c =
     let e = f .before .before in
     rw (ne-eqb _ _ (e .if1 .left), eq-eqb _ _ (f .if2 .left), eq-eqb _ _ (t .if3 .taken), kept w64 (e .before .before .args .self .first) (c .struct-told .given .1 .1 .1 .1 .1 .1 .0 .1))
 
-halves-fit : (s : Progress) → Small s → SFits w64 (half (s .first) +ℤ half (s .second))
+halves-fit : (s : Progress) → Small maxWeight s → SFits w64 (half (s .first) +ℤ half (s .second))
 halves-fit s h =
-    let f = first-within s h in
-    let g = second-within s h in
+    let f = first-within maxWeight s h in
+    let g = second-within maxWeight s h in
     simp ints (omega zs)
 
 -- the two halves

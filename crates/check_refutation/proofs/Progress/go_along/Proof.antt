@@ -73,7 +73,7 @@ module _ (c : tie.After-struct-told2) where
       ∙ ap (λ (w : ℤ). cond (isFirst o) w (pos 0)) (kept w64 (t o .weight) (h .before .struct-told .given .1 .1 .0 .1))
 
   first-fits : SFits w64 (s o .first +ℤ added)
-  first-fits = sum-fits (s o .first) added (first-within (s o) (start o .pre .0)) (either (Within maxWeight) (isFirst o) (start o .pre .2) none-within)
+  first-fits = sum-fits (s o .first) added (first-within maxWeight (s o) (start o .pre .0)) (either (Within maxWeight) (isFirst o) (start o .pre .2) (none-within maxWeight))
 
 add-next : tie.Need-add-next
 add-next c = rw (first-is c, added-is c) (first-fits c)
@@ -97,7 +97,7 @@ module _ (c : tie.After-struct-told4) where
       ∙ ap (λ (w : ℤ). cond (isFirst (o f)) (pos 0) w) (kept w64 (t (o f) .weight) (h .before .struct-told3 .given .1 .1 .0 .1))
 
   second-fits : SFits w64 (s (o f) .second +ℤ added2)
-  second-fits = sum-fits (s (o f) .second) added2 (second-within (s (o f)) (start (o f) .pre .0)) (either (Within maxWeight) (isFirst (o f)) none-within (start (o f) .pre .2))
+  second-fits = sum-fits (s (o f) .second) added2 (second-within maxWeight (s (o f)) (start (o f) .pre .0)) (either (Within maxWeight) (isFirst (o f)) (none-within maxWeight) (start (o f) .pre .2))
 
 add-next-2 : tie.Need-add-next-2
 add-next-2 c = rw (second-is c, added2-is c) (second-fits c)
