@@ -91,7 +91,7 @@ fn refuted_by_walks(list: &[i32], n: usize, refutation: &mut [u32], work: &mut [
 }
 
 // Whether the list is refuted: by its lowest false line, else by walks.
-fn refuted(list: &[i32], n: usize, refutation: &mut [u32], work: &mut [i64]) -> bool
+pub fn refuted(list: &[i32], n: usize, refutation: &mut [u32], work: &mut [i64]) -> bool
     requires { ⌜ SearchReady n (now list) (now refutation) (now work) ⌝ }
     ensures { λ r. ⌜ Searched n (now (list .entry)) (now (refutation .entry)) (now (work .entry)) (now (refutation .exit)) (now (work .exit)) r ⌝ }
 {
