@@ -139,7 +139,10 @@ module _ (n : ℕ) (ls : List Line) (ok : AllOk n ls) (yes-verdict : verdictOf n
     sum-is : (t : Assignment) → value t p -ℤ value t q ≡ sumOf s x u y t
     sum-is t = opposed (value t p) (value t (point y u)) (value t q) (value-opposite t (point y u)) ∙ ap₂ (λ (v w : ℤ). v +ℤ w) (value-point t x s hs) (value-point t y u hu)
 
-    -- the greatest value of a sum is the tightened distance
+    -- where no walk limits a sum it has no greatest value; else that is the tightened distance
+    pub none-sum : tight D (point x s) (opposite (point y u)) ≡ none → NoGreatest ls (sumOf s x u y)
+    none-sum e = record { beyond = λ z. let g = no-greatest-difference n D closed p q p-below q-below e z in (g .0, table-solves (g .0) (g .1), subst (λ (v : ℤ). z ⩽ v) (sum-is (g .0)) (g .2)) }
+
     pub sum-written : GreatestWritten ls (sumOf s x u y) (greatestOf (tight D (point x s) (opposite (point y u))))
     sum-written = go (tight D p q) refl
       where
@@ -147,10 +150,7 @@ module _ (n : ℕ) (ls : List Line) (ok : AllOk n ls) (yes-verdict : verdictOf n
         go (some z) e =
             let g = greatest-difference n D closed p q p-below q-below z e in
             inl (record { bounds = λ t st. subst (λ (v : ℤ). v ⩽ z) (sum-is t) (g .0 t (to-table n ls ok t st)); taken-by = g .1 .0; solves = table-solves (g .1 .0) (g .1 .1); taken = sym (sum-is (g .1 .0)) ∙ g .1 .2 })
-        go none e = inr (
-            record { beyond = λ z. let g = no-greatest-difference n D closed p q p-below q-below e z in (g .0, table-solves (g .0) (g .1), subst (λ (v : ℤ). z ⩽ v) (sum-is (g .0)) (g .2)) },
-            refl,
-          )
+        go none e = inr (none-sum e, refl)
 
   least-at : (x : ℕ) → x < n → getD (boundsOf n ls) (2 * x) (pos 0) ≡ leastOf (halves D (point x 1))
   unfolding boundsOf
