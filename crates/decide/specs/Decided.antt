@@ -87,6 +87,16 @@ pub record Decided (n : ℕ) (L : List ℤ) (answer : Answer) (b a : Lent) : Typ
 pub used-room : (n : ℕ) → usedRoom n ≤ workRoom n
 used-room n = omega arith
 
+-- what was kept behind the used room is kept behind the named part, and the rest is cleared
+pub cleared-is : (n : ℕ) (w w₁ w₂ : List ℤ) → drop (usedRoom n) w₁ ≡ drop (usedRoom n) w → w₂ ≡ replicate (workRoom n) (pos 0) ++ drop (workRoom n) w₁ → w₂ ≡ cleared n w
+cleared-is n w w₁ w₂ k z = z ∙ ap (λ (x : List ℤ). replicate (workRoom n) (pos 0) ++ x) behind-room
+  where
+    behind-room : drop (workRoom n) w₁ ≡ drop (workRoom n) w
+    behind-room =
+        let i : workRoom n ≡ usedRoom n + (workRoom n - usedRoom n) = omega (arith, used-room n) in
+        ap (λ (j : ℕ). drop j w₁) i ∙ sym (drop-drop (workRoom n - usedRoom n) (usedRoom n) w₁) ∙ ap (drop (workRoom n - usedRoom n)) k
+        ∙ drop-drop (workRoom n - usedRoom n) (usedRoom n) w ∙ ap (λ (j : ℕ). drop j w) (sym i)
+
 -- ---- nothing is refused
 pub record DecideOk (n : ℕ) (L : List ℤ) (b : Lent) : Type 0 where
   pub list : validityOf n L ≡ Valid
@@ -136,15 +146,6 @@ module _ (n : ℕ) (L : List ℤ) (b : Lent) where
     pub start-small : tableStart (2 * n) * 8 < 2 ^ 32
     start-small = omega (arith, used-room n, work-small n few)
 
-    behind-room : (w₁ : List ℤ) → drop (usedRoom n) w₁ ≡ drop (usedRoom n) (b .work) → drop (workRoom n) w₁ ≡ drop (workRoom n) (b .work)
-    behind-room w₁ k =
-        let i : workRoom n ≡ usedRoom n + (workRoom n - usedRoom n) = omega (arith, used-room n) in
-        ap (λ (j : ℕ). drop j w₁) i ∙ sym (drop-drop (workRoom n - usedRoom n) (usedRoom n) w₁) ∙ ap (drop (workRoom n - usedRoom n)) k
-        ∙ drop-drop (workRoom n - usedRoom n) (usedRoom n) (b .work) ∙ ap (λ (j : ℕ). drop j (b .work)) (sym i)
-
-    cleared-is : (w₁ w₂ : List ℤ) → drop (usedRoom n) w₁ ≡ drop (usedRoom n) (b .work) → w₂ ≡ replicate (workRoom n) (pos 0) ++ drop (workRoom n) w₁ → w₂ ≡ cleared n (b .work)
-    cleared-is w₁ w₂ k z = z ∙ ap (λ (x : List ℤ). replicate (workRoom n) (pos 0) ++ x) (behind-room w₁ k)
-
     module _ (R₁ : List ℕ) (w₁ : List ℤ) where
       -- each step of the refutation that was found names a line, and there is room for the identifiers
       pub identifiers-ready : {t : Bool} → Searched n L (b .refutation) (b .work) R₁ w₁ t → t ≡ true → StepsNamed L R₁ × (stepsIn R₁ ≤ length (b .identifiers))
@@ -161,7 +162,7 @@ module _ (n : ℕ) (L : List ℤ) (b : Lent) where
           let r = k .on-no y in
           record {
             is = answer-no (k .verdict ∙ ap not y);
-            leaves = record { numbers = r .0; due = r .1; refutation = r .2; identifiers = i ∙ written (r .0) (r .1 .refutes) (r .2); model = refl; bounds = refl; groups = refl; work = cleared-is w₁ w₂ (k .behind) z };
+            leaves = record { numbers = r .0; due = r .1; refutation = r .2; identifiers = i ∙ written (r .0) (r .1 .refutes) (r .2); model = refl; bounds = refl; groups = refl; work = cleared-is n (b .work) w₁ w₂ (k .behind) z };
           }
         where
           written : (R : List ℕ) → Refutes L R → R₁ ≡ R ++ drop (length R) (b .refutation)
@@ -196,6 +197,6 @@ module _ (n : ℕ) (L : List ℤ) (b : Lent) where
                     groups = h .2 ∙ ap (λ (x : List ℕ). x ++ drop (groupsRoom n) (b .groups)) (ap (λ (q : List ℤ). tabulate (2 * n) (groupAt (tableOf (2 * n) q))) table-is ∙ groups-agree n L (ok .variables) (ok .lines));
                     refutation = k .on-yes refl .0;
                     identifiers = refl;
-                    work = cleared-is w₁ w₂ (k .behind) z;
+                    work = cleared-is n (b .work) w₁ w₂ (k .behind) z;
                   };
             }

@@ -1,6 +1,7 @@
 // The lent buffers of deciding: the room that each needs, refusals 7 and 8, and the clearing of the work area.
 use lines::Refusal;
 use lines::Validity;
+use lines::limits::MAX_VARIABLES;
 use lines::list_validity;
 ghost use mathlib.Core.Path.{_≡_};
 ghost use mathlib.Core.List.{_++_};
@@ -46,6 +47,9 @@ pub const FEW_IDENTIFIERS: usize = IDENTIFIERS_EACH * FEW_VARIABLES + IDENTIFIER
 pub const FEW_WORK: usize = WORK_PAIR * FEW_VARIABLES * FEW_VARIABLES
     + WORK_EACH * FEW_VARIABLES
     + WORK_MORE;
+
+// The room for a refutation of the most variables, for an array that is lent where none is asked for.
+pub const MOST_REFUTATION: usize = REFUTATION_EACH * MAX_VARIABLES + REFUTATION_MORE;
 
 // The room for the model.
 pub fn model_room(n: usize) -> usize

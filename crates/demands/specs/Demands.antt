@@ -35,7 +35,7 @@ use Rattle.check_pieces.specs.Cut.{Words, takePieces, joined, resumed, in-piece
 use Rattle.check_soundness.specs.Head.{kindOf, stepsIn}
 use Rattle.check_soundness.specs.Refutes.{Refutes}
 use Rattle.check_soundness.specs.Answered.{accepted-when, answers-longer, answers-no-solvable}
-use Rattle.theory_answers.specs.Semantics.{Agrees, IsModel, NoLeast, NoGreatest, Equal, Mirrored, AlwaysZero, SameVariable, SameSign, Written}
+use Rattle.theory_answers.specs.Semantics.{valueOf, Agrees, IsModel, NoLeast, NoGreatest, Equal, Mirrored, AlwaysZero, SameVariable, SameSign, Written}
 use Rattle.lines.specs.Limits.{absentLeast, absentGreatest}
 use Rattle.check_soundness.specs.BreaksAt.{BreaksAt}
 use Rattle.check_soundness.specs.Breaks.{breaks-once, breaks-unless-refutes, no-exactly-where}
@@ -120,7 +120,7 @@ pub record RightAnswer (n : ℕ) (L : List ℤ) (c : Call n L) : Type 0 where
   pub written : c .answer ≡ decide.Yes → Written n (linesOf L) (modelIn n (c .after)) (boundsIn n (c .after)) (groupsIn n (c .after))
   -- A bound's number is the absent one exactly if there is no bound.
   pub least-absent-exactly : c .answer ≡ decide.Yes → (x : ℕ) → x < n → (getD (boundsIn n (c .after)) (2 * x) (pos 0) ≡ absentLeast) ↔ NoLeast (linesOf L) x
-  pub greatest-absent-exactly : c .answer ≡ decide.Yes → (x : ℕ) → x < n → (getD (boundsIn n (c .after)) (2 * x + 1) (pos 0) ≡ absentGreatest) ↔ NoGreatest (linesOf L) x
+  pub greatest-absent-exactly : c .answer ≡ decide.Yes → (x : ℕ) → x < n → (getD (boundsIn n (c .after)) (2 * x + 1) (pos 0) ≡ absentGreatest) ↔ NoGreatest (linesOf L) (valueOf x)
   -- A yes is shown too: the model checker accepts the model, its limits included.
   pub yes-is-shown : c .answer ≡ decide.Yes → modelAnswer n L (modelIn n (c .after)) ≡ Yes
   pub beyond-model : drop (modelRoom n) (c .after .model) ≡ drop (modelRoom n) (c .before .model)

@@ -19,7 +19,7 @@ use Rattle.steps.specs.Step.{maxWeight, stepsOf}
 use Rattle.theory_walks.specs.Distance.{Distance, none, some, halfD}
 use Rattle.theory_walks.specs.Size.{best-within}
 use Rattle.theory_bounds.specs.Tight.{halves}
-use Rattle.theory_answers.specs.Semantics.{NoGreatest, IsGreatest, NoLeast, IsLeast, LeastWritten, GreatestWritten, Written}
+use Rattle.theory_answers.specs.Semantics.{valueOf, NoGreatest, IsGreatest, NoLeast, IsLeast, LeastWritten, GreatestWritten, Written}
 use Rattle.lines.specs.Limits.{absentLeast, absentGreatest}
 use Rattle.theory_walks.specs.Graph.{weights-small}
 use Rattle.theory_bounds.specs.Verdict.{distances, verdictOf}
@@ -65,15 +65,15 @@ module _ (n : ℕ) (L : List ℤ) (valid : Workable n L) where
         go (some z) e k = rw (one-least lines x w (negℤ z) (inl i) k) (above _ z size (halves-within (point x 1) z e .high))
         go none e k = absurd (no-both-least lines x w i (none-least n lines (lines-ok n L valid) yes-verdict x h e))
 
-    pub greatest-below : IsGreatest lines x w → w ⋖ absentGreatest
+    pub greatest-below : IsGreatest lines (valueOf x) w → w ⋖ absentGreatest
     greatest-below i = go (halves (distances n lines) (point x 0)) refl (greatest-written n lines (lines-ok n L valid) yes-verdict x h)
       where
         below : (m : ℕ) (z : ℤ) → m ≤ 2 * maxVariables * maxWeight → z ⩽ pos m → z ⋖ absentGreatest
         below m z = simp ints (omega arith)
 
-        go : (d : Distance) → halves (distances n lines) (point x 0) ≡ d → GreatestWritten lines x (greatestOf d) → w ⋖ absentGreatest
-        go (some z) e k = rw (one-greatest lines x w z (inl i) k) (below _ z size (halves-within (point x 0) z e .high))
-        go none e k = absurd (no-both-greatest lines x w i (none-greatest n lines (lines-ok n L valid) yes-verdict x h e))
+        go : (d : Distance) → halves (distances n lines) (point x 0) ≡ d → GreatestWritten lines (valueOf x) (greatestOf d) → w ⋖ absentGreatest
+        go (some z) e k = rw (one-greatest lines (valueOf x) w z (inl i) k) (below _ z size (halves-within (point x 0) z e .high))
+        go none e k = absurd (no-both-greatest lines (valueOf x) w i (none-greatest n lines (lines-ok n L valid) yes-verdict x h e))
 
   -- ---- the number written is the absent one exactly if there is no bound
   module _ (model bounds : List ℤ) (groups : List ℕ) (w : Written n lines model bounds groups) (x : ℕ) (h : x < n) where
@@ -90,9 +90,9 @@ module _ (n : ℕ) (L : List ℤ) (valid : Workable n L) where
         go v (inl a) = ((λ e. absurd (apart absentLeast v (least-above yes-verdict x h v a) (sym e))), (λ z. absurd (no-both-least lines x v a z)))
         go v (inr a) = ((λ _. a .0), (λ _. a .1))
 
-    pub greatest-absent : (getD bounds (2 * x + 1) (pos 0) ≡ absentGreatest) ↔ NoGreatest lines x
+    pub greatest-absent : (getD bounds (2 * x + 1) (pos 0) ≡ absentGreatest) ↔ NoGreatest lines (valueOf x)
     greatest-absent = go _ (w .greatest-is x h)
       where
-        go : (v : ℤ) → GreatestWritten lines x v → (v ≡ absentGreatest) ↔ NoGreatest lines x
-        go v (inl a) = ((λ e. absurd (apart v absentGreatest (greatest-below yes-verdict x h v a) e)), (λ z. absurd (no-both-greatest lines x v a z)))
+        go : (v : ℤ) → GreatestWritten lines (valueOf x) v → (v ≡ absentGreatest) ↔ NoGreatest lines (valueOf x)
+        go v (inl a) = ((λ e. absurd (apart v absentGreatest (greatest-below yes-verdict x h v a) e)), (λ z. absurd (no-both-greatest lines (valueOf x) v a z)))
         go v (inr a) = ((λ _. a .0), (λ _. a .1))

@@ -11,18 +11,31 @@ use lib.Seq.{ext-getD}
 use Rattle.integers.specs.Integer.{_⩽_, _⋖_}
 use Rattle.integers.specs.Linear.{ints}
 use Rattle.lines.specs.declared.Line.{Line}
-use Rattle.lines.specs.Limits.{lineSize}
+use Rattle.lines.specs.Limits.{lineSize, absentGreatest}
 use Rattle.lines.specs.Line.{linesOf, Assignment, assignmentOf, Solves, Solvable, Entails}
 use Rattle.lines.specs.Valid.{Workable}
 use Rattle.lines.specs.LineNumbers.{lines-append}
 use Rattle.lines.specs.Solutions.{solves-append}
-use Rattle.theory_answers.specs.Semantics.{IsModel, Equal, Mirrored, AlwaysZero, SameVariable, SameSign, LeastWritten, GreatestWritten, Written}
+use Rattle.theory_answers.specs.Semantics.{Form, valueOf, IsGreatest, IsModel, Equal, Mirrored, AlwaysZero, SameVariable, SameSign, LeastWritten, GreatestWritten, Written}
 use Rattle.theory_bounds.specs.Verdict.{verdictOf}
 use Rattle.theory_answers.specs.Meaning.{only-model}
 use Rattle.theory_answers.specs.Decided.{lines-ok, yes-solvable, no-unsolvable, solvable-yes, unsolvable-no}
 use Rattle.theory_answers.specs.Unique.{no-both-greatest, no-both-least, written-yes}
 use Rattle.theory_answers.specs.Groups.{shared-exactly, equal-exactly, mirrored-exactly}
 use Rattle.theory_answers.specs.Absent.{least-above, greatest-below}
+
+-- ---- a greatest value stays or falls: where it was absent it falls, since one that is there is below the absent number
+pub greatest-falls : (ls ks : List Line) → Entails ks ls → (form : Form) (v v′ : ℤ) → (IsGreatest ks form v′ → v′ ⋖ absentGreatest) → GreatestWritten ls form v → GreatestWritten ks form v′ → v′ ⩽ v
+greatest-falls ls ks entails form v v′ below = go
+  where
+    weaken : (v u : ℤ) → v ⋖ u → v ⩽ u
+    weaken v u = simp ints (omega arith)
+
+    go : GreatestWritten ls form v → GreatestWritten ks form v′ → v′ ⩽ v
+    go (inl a) (inl b) = rw (b .taken) at (a .bounds (b .taken-by) (entails (b .taken-by) (b .solves)))
+    go (inl a) (inr b) = absurd (no-both-greatest ls form v a (record { beyond = λ z. let t = b .0 .beyond z in (t .0, entails (t .0) (t .1), t .2) }))
+    go (inr a) (inl b) = rw (a .1) (weaken v′ _ (below b))
+    go (inr a) (inr b) = rw (a .1, b .1) (simp ints (omega arith))
 
 -- ---- two lists: every solution of K solves L
 module _ (n : ℕ) (L K : List ℤ) (valid : Workable n L) (valid′ : Workable n K) (entails : Entails (linesOf K) (linesOf L)) where
@@ -60,13 +73,7 @@ module _ (n : ℕ) (L K : List ℤ) (valid : Workable n L) (valid′ : Workable 
         go v v′ (inr a) (inr b) = rw (a .1, b .1) (simp ints (omega arith))
 
     pub greatest-stays-or-falls : (x : ℕ) → x < n → getD bounds′ (2 * x + 1) (pos 0) ⩽ getD bounds (2 * x + 1) (pos 0)
-    greatest-stays-or-falls x h = go _ _ (w .greatest-is x h) (w′ .greatest-is x h)
-      where
-        go : (v v′ : ℤ) → GreatestWritten ls x v → GreatestWritten ks x v′ → v′ ⩽ v
-        go v v′ (inl a) (inl b) = rw (b .taken) at (a .bounds (b .taken-by) (entails (b .taken-by) (b .solves)))
-        go v v′ (inl a) (inr b) = absurd (no-both-greatest ls x v a (record { beyond = λ z. let t = b .0 .beyond z in (t .0, entails (t .0) (t .1), t .2) }))
-        go v v′ (inr a) (inl b) = rw (a .1) (weaken v′ _ (greatest-below n K valid′ yes′ x h v′ b))
-        go v v′ (inr a) (inr b) = rw (a .1, b .1) (simp ints (omega arith))
+    greatest-stays-or-falls x h = greatest-falls ls ks entails (valueOf x) _ _ (λ i. greatest-below n K valid′ yes′ x h _ i) (w .greatest-is x h) (w′ .greatest-is x h)
 
     -- who shares a group variable goes on sharing one, with the same relative sign
     module _ (x y : ℕ) (h : x < n) (k : y < n) (e : SameVariable groups x y) where

@@ -1,11 +1,11 @@
 -- The computed answers have the meaning of the specification's section "Yes".
-use mathlib.Core.Path.{_≡_, refl, sym, ap, _∙_}
+use mathlib.Core.Path.{_≡_, refl, sym, ap, ap₂, subst, _∙_}
 use mathlib.Core.Logic.{_⊎_, inl, inr, _↔_}
 use mathlib.Core.Bool.{Bool, true, false}
 use mathlib.Core.List.{List}
 use Prim.Native.Nat.{ℕ, zero, suc, _+_, _*_, _/_, _%_, _<_}
 use native.Mathlib.Omega.{arith}
-use lib.IntN.{ℤ, pos}
+use lib.IntN.{ℤ, pos, negℤ, _+ℤ_, _-ℤ_}
 use lib.ListN.{getD}
 use lib.Signed.{leZ}
 use Rattle.integers.specs.Integer.{_⩽_}
@@ -15,12 +15,12 @@ use Rattle.integers.specs.Sequence.{length-tabulate, getD-tabulate}
 use Rattle.lines.specs.declared.Line.{Line}
 use Rattle.lines.specs.Line.{Assignment, assignmentOf, Solves}
 use Rattle.lines.specs.Valid.{AllOk}
-use Rattle.steps.specs.Point.{point, signed, value, value-plus, value-minus}
+use Rattle.steps.specs.Point.{point, opposite, signed, value, value-plus, value-minus, value-opposite}
 use Rattle.theory_walks.specs.Distance.{Distance, none, some, _⊑_, some-le, le-some}
-use Rattle.theory_bounds.specs.Points.{variableOf, value-cong, variable-below}
+use Rattle.theory_bounds.specs.Points.{variableOf, value-cong, variable-below, opposite-below}
 use Rattle.theory_bounds.specs.Tight.{Table, halves, tight}
-use Rattle.theory_bounds.specs.Table.{ClosedTable, Solution, tableModel, model-solves, model-nearest, model-unique, consecutive, greatest, no-greatest, least, no-least, equal-points}
-use Rattle.theory_answers.specs.Semantics.{Agrees, IsModel, Together, IsGroup, groupVariable, groupSign, LeastWritten, GreatestWritten, Written, NoGreatest, NoLeast}
+use Rattle.theory_bounds.specs.Table.{ClosedTable, Solution, tableModel, model-solves, model-nearest, model-unique, consecutive, greatest, no-greatest, least, no-least, greatest-difference, no-greatest-difference, equal-points}
+use Rattle.theory_answers.specs.Semantics.{valueOf, sumOf, Agrees, IsModel, Together, IsGroup, groupVariable, groupSign, LeastWritten, GreatestWritten, Written, NoGreatest, NoLeast}
 use Rattle.theory_bounds.specs.Verdict.{distances, verdictOf}
 use Rattle.theory_bounds.specs.Answers.{modelOf, greatestOf, leastOf, boundAt, bound-least, bound-greatest, boundsOf, notAbove0, samePoints, groupPoint, groupAt, group-variable, group-sign, groupsOf}
 use Rattle.integers.specs.Lowest.{Passed, NonePassed, lowest-known}
@@ -90,16 +90,16 @@ module _ (n : ℕ) (ls : List Line) (ok : AllOk n ls) (yes-verdict : verdictOf n
 
   -- ---- bounds
   -- where no walk limits a variable there is no bound
-  pub none-greatest : (x : ℕ) → x < n → halves D (point x 0) ≡ none → NoGreatest ls x
+  pub none-greatest : (x : ℕ) → x < n → halves D (point x 0) ≡ none → NoGreatest ls (valueOf x)
   none-greatest x h e = record { beyond = λ z. let g = no-greatest n D closed x h e z in (g .0, table-solves (g .0) (g .1), g .2) }
 
   pub none-least : (x : ℕ) → x < n → halves D (point x 1) ≡ none → NoLeast ls x
   none-least x h e = record { beyond = λ z. let g = no-least n D closed x h e z in (g .0, table-solves (g .0) (g .1), g .2) }
 
-  pub greatest-written : (x : ℕ) → x < n → GreatestWritten ls x (greatestOf (halves D (point x 0)))
+  pub greatest-written : (x : ℕ) → x < n → GreatestWritten ls (valueOf x) (greatestOf (halves D (point x 0)))
   greatest-written x h = go (halves D (point x 0)) refl
     where
-      go : (d : Distance) → halves D (point x 0) ≡ d → GreatestWritten ls x (greatestOf d)
+      go : (d : Distance) → halves D (point x 0) ≡ d → GreatestWritten ls (valueOf x) (greatestOf d)
       go (some z) e =
           let g = greatest n D closed x h z e in
           inl (record { bounds = λ t st. g .0 t (to-table n ls ok t st); taken-by = g .1 .0; solves = table-solves (g .1 .0) (g .1 .1); taken = g .1 .2 })
@@ -113,6 +113,44 @@ module _ (n : ℕ) (ls : List Line) (ok : AllOk n ls) (yes-verdict : verdictOf n
           let g = least n D closed x h z e in
           inl (record { bounds = λ t st. g .0 t (to-table n ls ok t st); taken-by = g .1 .0; solves = table-solves (g .1 .0) (g .1 .1); taken = g .1 .2 })
       go none e = inr (none-least x h e, refl)
+
+  -- a sum of two points is the difference of the one and the opposite of the other
+  opposed : (v w u : ℤ) → u ≡ negℤ w → v -ℤ u ≡ v +ℤ w
+  opposed v w u = simp ints (omega arith)
+
+  value-point : (t : Assignment) (x s : ℕ) → s < 2 → value t (point x s) ≡ signed s (t x)
+  value-point t x zero h = value-plus t x
+  value-point t x (suc zero) h = value-minus t x
+  value-point t x (suc (suc s)) h = absurd (omega arith)
+
+  module _ (s x u y : ℕ) (hs : s < 2) (hx : x < n) (hu : u < 2) (hy : y < n) where
+    abbrev p : ℕ
+    p = point x s
+
+    abbrev q : ℕ
+    q = opposite (point y u)
+
+    p-below : p < 2 * n
+    p-below = omega arith
+
+    q-below : q < 2 * n
+    q-below = opposite-below n (point y u) (omega arith)
+
+    sum-is : (t : Assignment) → value t p -ℤ value t q ≡ sumOf s x u y t
+    sum-is t = opposed (value t p) (value t (point y u)) (value t q) (value-opposite t (point y u)) ∙ ap₂ (λ (v w : ℤ). v +ℤ w) (value-point t x s hs) (value-point t y u hu)
+
+    -- where no walk limits a sum it has no greatest value; else that is the tightened distance
+    pub none-sum : tight D (point x s) (opposite (point y u)) ≡ none → NoGreatest ls (sumOf s x u y)
+    none-sum e = record { beyond = λ z. let g = no-greatest-difference n D closed p q p-below q-below e z in (g .0, table-solves (g .0) (g .1), subst (λ (v : ℤ). z ⩽ v) (sum-is (g .0)) (g .2)) }
+
+    pub sum-written : GreatestWritten ls (sumOf s x u y) (greatestOf (tight D (point x s) (opposite (point y u))))
+    sum-written = go (tight D p q) refl
+      where
+        go : (d : Distance) → tight D p q ≡ d → GreatestWritten ls (sumOf s x u y) (greatestOf d)
+        go (some z) e =
+            let g = greatest-difference n D closed p q p-below q-below z e in
+            inl (record { bounds = λ t st. subst (λ (v : ℤ). v ⩽ z) (sum-is t) (g .0 t (to-table n ls ok t st)); taken-by = g .1 .0; solves = table-solves (g .1 .0) (g .1 .1); taken = sym (sum-is (g .1 .0)) ∙ g .1 .2 })
+        go none e = inr (none-sum e, refl)
 
   least-at : (x : ℕ) → x < n → getD (boundsOf n ls) (2 * x) (pos 0) ≡ leastOf (halves D (point x 1))
   unfolding boundsOf

@@ -8,7 +8,7 @@ use lib.IntN.{ℤ}
 use Rattle.lines.specs.declared.Line.{Line}
 use Rattle.lines.specs.Line.{linesOf, Entails, SameSolutions}
 use Rattle.lines.specs.Valid.{Workable}
-use Rattle.theory_answers.specs.Semantics.{LeastWritten, GreatestWritten, Written}
+use Rattle.theory_answers.specs.Semantics.{Form, LeastWritten, GreatestWritten, Written}
 use Rattle.theory_bounds.specs.Verdict.{verdictOf}
 use Rattle.theory_bounds.specs.Answers.{modelOf, boundsOf, groupsOf}
 use Rattle.theory_answers.specs.Meaning.{computed-written}
@@ -28,7 +28,7 @@ module _ (ls ms : List Line) (same : SameSolutions ls ms) where
   least-too (inl a) = inl (record { bounds = λ t h. a .bounds t (from t h); taken-by = a .taken-by; solves = to _ (a .solves); taken = a .taken })
   least-too (inr a) = inr (record { beyond = λ z. let t = a .0 .beyond z in (t .0, to _ (t .1), t .2) }, a .1)
 
-  greatest-too : {x : ℕ} {z : ℤ} → GreatestWritten ls x z → GreatestWritten ms x z
+  greatest-too : {form : Form} {z : ℤ} → GreatestWritten ls form z → GreatestWritten ms form z
   greatest-too (inl a) = inl (record { bounds = λ t h. a .bounds t (from t h); taken-by = a .taken-by; solves = to _ (a .solves); taken = a .taken })
   greatest-too (inr a) = inr (record { beyond = λ z. let t = a .0 .beyond z in (t .0, to _ (t .1), t .2) }, a .1)
 

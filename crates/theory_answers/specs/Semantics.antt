@@ -3,7 +3,7 @@ use mathlib.Core.Path.{_≡_}
 use mathlib.Core.Logic.{_⊎_}
 use mathlib.Core.List.{List}
 use Prim.Native.Nat.{ℕ, _+_, _*_, _≤_, _<_}
-use lib.IntN.{ℤ, pos, negℤ, natAbs}
+use lib.IntN.{ℤ, pos, negℤ, natAbs, _+ℤ_}
 use lib.ListN.{length, getD}
 use Rattle.integers.specs.Integer.{_⩽_}
 use Rattle.lines.specs.declared.Line.{Line}
@@ -20,16 +20,28 @@ pub record IsModel (n : ℕ) (ls : List Line) (m : Assignment) : Type 0 where
   pub solves : Solves ls m
   pub nearest : (k : ℕ) → k < n → (t : Assignment) → Solves ls t → Agrees k t m → natAbs (m k) ≤ natAbs (t k)
 
--- z is the greatest value of x over all integer solutions
-pub record IsGreatest (ls : List Line) (x : ℕ) (z : ℤ) : Type 0 where
-  pub bounds : (t : Assignment) → Solves ls t → t x ⩽ z
+-- a form: a number that each assignment gives
+abbrev pub Form : Type 0
+Form = Assignment → ℤ
+
+-- the value of x
+abbrev pub valueOf : ℕ → Form
+valueOf x t = t x
+
+-- the sum of x and y, each with a sign (0 is plus, 1 is minus): x + y, x − y, −x + y or −x − y
+abbrev pub sumOf : (s x u y : ℕ) → Form
+sumOf s x u y t = signed s (t x) +ℤ signed u (t y)
+
+-- z is the greatest value of a form over all integer solutions
+pub record IsGreatest (ls : List Line) (form : Form) (z : ℤ) : Type 0 where
+  pub bounds : (t : Assignment) → Solves ls t → form t ⩽ z
   pub taken-by : Assignment
   pub solves : Solves ls taken-by
-  pub taken : taken-by x ≡ z
+  pub taken : form taken-by ≡ z
 
 -- there is none: the values pass every bound
-pub record NoGreatest (ls : List Line) (x : ℕ) : Type 0 where
-  pub beyond : (z : ℤ) → (t : Assignment) × Solves ls t × (z ⩽ t x)
+pub record NoGreatest (ls : List Line) (form : Form) : Type 0 where
+  pub beyond : (z : ℤ) → (t : Assignment) × Solves ls t × (z ⩽ form t)
 
 -- z is the least value of x over all integer solutions
 pub record IsLeast (ls : List Line) (x : ℕ) (z : ℤ) : Type 0 where
@@ -68,8 +80,8 @@ pub record IsGroup (ls : List Line) (x r sign : ℕ) : Type 0 where
 abbrev pub LeastWritten : List Line → ℕ → ℤ → Type 0
 LeastWritten ls x w = IsLeast ls x w ⊎ (NoLeast ls x × (w ≡ absentLeast))
 
-abbrev pub GreatestWritten : List Line → ℕ → ℤ → Type 0
-GreatestWritten ls x w = IsGreatest ls x w ⊎ (NoGreatest ls x × (w ≡ absentGreatest))
+abbrev pub GreatestWritten : List Line → Form → ℤ → Type 0
+GreatestWritten ls form w = IsGreatest ls form w ⊎ (NoGreatest ls form × (w ≡ absentGreatest))
 
 -- of each variable its group variable, then its sign
 abbrev pub groupVariable : List ℕ → ℕ → ℕ
@@ -91,6 +103,6 @@ pub record Written (n : ℕ) (ls : List Line) (model bounds : List ℤ) (groups 
   pub model-is : IsModel n ls (assignmentOf model)
   pub bounds-length : length bounds ≡ 2 * n
   pub least-is : (x : ℕ) → x < n → LeastWritten ls x (getD bounds (2 * x) (pos 0))
-  pub greatest-is : (x : ℕ) → x < n → GreatestWritten ls x (getD bounds (2 * x + 1) (pos 0))
+  pub greatest-is : (x : ℕ) → x < n → GreatestWritten ls (valueOf x) (getD bounds (2 * x + 1) (pos 0))
   pub groups-length : length groups ≡ 2 * n
   pub group-is : (x : ℕ) → x < n → IsGroup ls x (groupVariable groups x) (groupSign groups x)

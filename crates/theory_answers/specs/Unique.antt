@@ -14,7 +14,7 @@ use Rattle.integers.specs.Linear.{ints}
 use Rattle.lines.specs.declared.Line.{Line}
 use Rattle.lines.specs.Line.{linesOf, assignmentOf}
 use Rattle.lines.specs.Valid.{Workable}
-use Rattle.theory_answers.specs.Semantics.{IsGreatest, NoGreatest, IsLeast, NoLeast, Together, IsGroup, groupVariable, groupSign, LeastWritten, GreatestWritten, Written}
+use Rattle.theory_answers.specs.Semantics.{Form, valueOf, IsGreatest, NoGreatest, IsLeast, NoLeast, Together, IsGroup, groupVariable, groupSign, LeastWritten, GreatestWritten, Written}
 use Rattle.theory_bounds.specs.Verdict.{verdictOf}
 use Rattle.theory_bounds.specs.Answers.{modelOf, boundsOf, groupsOf}
 use Rattle.theory_answers.specs.Meaning.{only-model, computed-written}
@@ -29,19 +29,21 @@ not-past w z = simp ints (omega arith)
 not-before : (w z : ℤ) → z ⩽ w -ℤ pos 1 → w ⩽ z → ⊥
 not-before w z = simp ints (omega arith)
 
--- ---- one variable's bounds and group
-module _ (ls : List Line) (x : ℕ) where
-  pub no-both-greatest : (w : ℤ) → IsGreatest ls x w → NoGreatest ls x → ⊥
+-- ---- the greatest value of a form
+module _ (ls : List Line) (form : Form) where
+  pub no-both-greatest : (w : ℤ) → IsGreatest ls form w → NoGreatest ls form → ⊥
   no-both-greatest w a b = let t = b .beyond (w +ℤ pos 1) in not-past w _ (t .2) (a .bounds (t .0) (t .1))
 
-  pub no-both-least : (w : ℤ) → IsLeast ls x w → NoLeast ls x → ⊥
-  no-both-least w a b = let t = b .beyond (w -ℤ pos 1) in not-before w _ (t .2) (a .bounds (t .0) (t .1))
-
-  pub one-greatest : (v w : ℤ) → GreatestWritten ls x v → GreatestWritten ls x w → v ≡ w
+  pub one-greatest : (v w : ℤ) → GreatestWritten ls form v → GreatestWritten ls form w → v ≡ w
   one-greatest v w (inl a) (inl b) = both-ways v w (rw (a .taken) at (b .bounds (a .taken-by) (a .solves))) (rw (b .taken) at (a .bounds (b .taken-by) (b .solves)))
   one-greatest v w (inl a) (inr b) = absurd (no-both-greatest v a (b .0))
   one-greatest v w (inr a) (inl b) = absurd (no-both-greatest w b (a .0))
   one-greatest v w (inr a) (inr b) = a .1 ∙ sym (b .1)
+
+-- ---- one variable's least value and group
+module _ (ls : List Line) (x : ℕ) where
+  pub no-both-least : (w : ℤ) → IsLeast ls x w → NoLeast ls x → ⊥
+  no-both-least w a b = let t = b .beyond (w -ℤ pos 1) in not-before w _ (t .2) (a .bounds (t .0) (t .1))
 
   pub one-least : (v w : ℤ) → LeastWritten ls x v → LeastWritten ls x w → v ≡ w
   one-least v w (inl a) (inl b) = both-ways v w (rw (b .taken) at (a .bounds (b .taken-by) (b .solves))) (rw (a .taken) at (b .bounds (a .taken-by) (a .solves)))
@@ -91,7 +93,7 @@ module _ (n : ℕ) (L : List ℤ) (valid : Workable n L) where
     bound-at i (suc r) h e =
         let s : 2 * (i / 2) + 1 ≡ i = omega arith in
         let k : i / 2 < n = omega arith in
-        subst (λ (j : ℕ). getD bounds j (pos 0) ≡ getD (boundsOf n ls) j (pos 0)) s (one-greatest ls (i / 2) _ _ (w .greatest-is (i / 2) k) (computed .greatest-is (i / 2) k))
+        subst (λ (j : ℕ). getD bounds j (pos 0) ≡ getD (boundsOf n ls) j (pos 0)) s (one-greatest ls (valueOf (i / 2)) _ _ (w .greatest-is (i / 2) k) (computed .greatest-is (i / 2) k))
 
     pub written-bounds : bounds ≡ boundsOf n ls
     written-bounds =

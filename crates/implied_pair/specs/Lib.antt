@@ -1,0 +1,5 @@
+pub mod Pair
+pub mod Reading
+pub mod Called
+pub mod Meaning
+pub mod Places
