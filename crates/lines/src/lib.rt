@@ -11,7 +11,7 @@ ghost use mathlib.Core.Path.{_≡_};
 ghost use mathlib.Core.Bool.{not};
 ghost use Prim.Native.Nat.{_<_, _≤_};
 ghost use Rattle.lines.specs.Limits.{maxVariables};
-ghost use Rattle.lines.specs.Line.{lineAt, lineCount, linesOf, isFalse};
+ghost use Rattle.lines.specs.Line.{lineNumbers, lineAt, lineCount, linesOf, isFalse};
 ghost use Rattle.lines.specs.Refusal.{numberOf, placeOf, _orElse_, refuseIf, coefficientsOk, variableOk, variablesOk, loneOk, constantOk, identifierOk, lineValidity, linesValidity, validityOf};
 ghost use Rattle.integers.specs.Integer.{isBetween};
 
@@ -102,6 +102,13 @@ pub fn line_at(list: &[i32], k: usize) -> Line
         d: list[at + 4],
         identifier: list[at + 5],
     }
+}
+
+// The numbers of a line, in their order.
+pub fn line_numbers(line: Line) -> [i32; LINE_SIZE]
+    ensures { λ r. ⌜ r ≡ lineNumbers line ⌝ }
+{
+    [line.a, line.x, line.b, line.y, line.d, line.identifier]
 }
 
 // Whether low <= z <= high.

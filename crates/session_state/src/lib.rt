@@ -6,6 +6,7 @@ use lines::Line;
 use lines::limits::LINE_SIZE;
 use lines::limits::MAX_LINES;
 use lines::limits::MAX_VARIABLES;
+use lines::line_numbers;
 ghost use mathlib.Core.Path.{_≡_};
 ghost use mathlib.Core.Bool.{true};
 ghost use mathlib.Core.List.{_++_};
@@ -125,13 +126,6 @@ fn copy_lines(state: &[i64], list: &mut [i32])
     let head = read_head(state);
     let end = HEAD_SIZE + LINE_SIZE * head.count;
     narrow_to(&state[HEAD_SIZE..end], list);
-}
-
-// The numbers of a line, in their order.
-fn line_numbers(line: Line) -> [i32; LINE_SIZE]
-    ensures { λ r. ⌜ r ≡ lineNumbers line ⌝ }
-{
-    [line.a, line.x, line.b, line.y, line.d, line.identifier]
 }
 
 // Copies numbers to the front of a list.

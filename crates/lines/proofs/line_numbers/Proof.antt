@@ -1,9 +1,9 @@
--- `session_state::line_numbers` meets its contract.
+-- `lines::line_numbers` meets its contract.
 use mir.Syntax.{w32}
 use Rattle.integers.specs.Bits.{kept}
 use Rattle.lines.specs.Line.{lineNumbers}
-use Rattle.session_state.proofs.line_numbers.Statement.{statement}
-use Rattle.session_state.proofs.line_numbers.Tie as tie
+use Rattle.lines.proofs.line_numbers.Statement.{statement}
+use Rattle.lines.proofs.line_numbers.Tie as tie
 
 returns : tie.Need-returns
 unfolding lineNumbers
