@@ -15,7 +15,7 @@ use Rattle.lines.specs.declared.Validity.the-variants as validity
 use Rattle.lines.specs.Limits.{maxVariables}
 use Rattle.lines.specs.Line.{linesOf}
 use Rattle.lines.specs.Refusal.{validityOf, refuseIf}
-use Rattle.lines.specs.Valid.{ListOk, or-valid, not-refused, valid-list}
+use Rattle.lines.specs.Valid.{ListOk, or-valid, not-refused, valid-list, workable}
 use Rattle.theory_bounds.specs.Verdict.{distances, verdictOf}
 use Rattle.decide_buffers.specs.Room.{refutationRoom, workRoom, work-small}
 use Rattle.decide_rows.specs.Table.{tableStart}
@@ -82,7 +82,7 @@ module _ (n : ℕ) (L : List ℤ) (x y : ℕ) (w : List ℤ) where
     pub search-ready : SearchReady n L (replicate (refutationRoom maxVariables) 0) w
     search-ready =
         record {
-          valid = ok .list;
+          valid = workable n L (ok .list);
           room = omega (arith, length-replicate {A = ℕ} (refutationRoom maxVariables) 0, few);
           work-room = omega (arith, used-room n, ok .room);
         }

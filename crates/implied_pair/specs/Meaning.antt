@@ -16,7 +16,7 @@ use Rattle.lines.specs.declared.Validity.the-variants.{Valid}
 use Rattle.lines.specs.Limits.{absentGreatest}
 use Rattle.lines.specs.Line.{linesOf, Solvable, Entails}
 use Rattle.lines.specs.Refusal.{validityOf}
-use Rattle.lines.specs.Valid.{valid-list}
+use Rattle.lines.specs.Valid.{valid-list, workable}
 use Rattle.steps.specs.Point.{point, opposite, signed}
 use Rattle.theory_walks.specs.Distance.{Distance, none, some}
 use Rattle.theory_bounds.specs.Tight.{tight, halves}
@@ -67,7 +67,7 @@ module _ (n : ℕ) (L : List ℤ) (valid : validityOf n L ≡ Valid) (yes-verdic
   computed-pair =
       record {
         row-length = two;
-        greatest = λ s u hs hu. rw (number-is s u hs hu) (sum-written n ls (lines-ok n L valid) yes-verdict s x u y hs hx hu hy);
+        greatest = λ s u hs hu. rw (number-is s u hs hu) (sum-written n ls (lines-ok n L (workable n L valid)) yes-verdict s x u y hs hx hu hy);
       }
     where
       two : (s : ℕ) → length (rowFor computed s) ≡ 2
@@ -92,7 +92,7 @@ module _ (n : ℕ) (L : List ℤ) (valid : validityOf n L ≡ Valid) (yes-verdic
 
         go : (d : Distance) → tight (distances n ls) (point x s) (opposite (point y u)) ≡ d → GreatestWritten ls (sumOf s x u y) (greatestOf d) → w ⋖ absentGreatest
         go (some z) e k = rw (one-greatest ls (sumOf s x u y) w z (inl i) k) (below z (tight-short (point x s) (opposite (point y u)) z e))
-        go none e k = absurd (no-both-greatest ls (sumOf s x u y) w i (none-sum n ls (lines-ok n L valid) yes-verdict s x u y hs hx hu hy e))
+        go none e k = absurd (no-both-greatest ls (sumOf s x u y) w i (none-sum n ls (lines-ok n L (workable n L valid)) yes-verdict s x u y hs hx hu hy e))
 
 -- ---- whatever is the pair
 module _ (n : ℕ) (L : List ℤ) (valid : validityOf n L ≡ Valid) (yes-verdict : verdictOf n (linesOf L) ≡ true) (x y : ℕ) (hx : x < n) (hy : y < n) where
