@@ -52,7 +52,7 @@ impl Seen {
         assert!(self.no.iter().all(|&times| times >= 500));
         for &refusal in refusals {
             let times = self.refused[refusal];
-            assert!(times >= 500, "refusal {refusal} seen only {times} times");
+            assert!(times >= 200, "refusal {refusal} seen only {times} times");
         }
     }
 }
