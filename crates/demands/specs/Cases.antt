@@ -9,7 +9,7 @@ use lib.IntN.{ℤ, pos, negℤ}
 use lib.ListN.{length, take, drop, replicate}
 use Rattle.lines.specs.declared.Validity.the-variants.{Valid}
 use Rattle.lines.specs.Line.{lineAt, linesOf, isFalse}
-use Rattle.lines.specs.Refusal.{coefficientsOk, variableOk, variablesOk, constantOk, identifierOk, linesValidity, validityOf}
+use Rattle.lines.specs.Refusal.{lineTests, linesValidity, validityOf}
 use Rattle.steps.specs.declared.Step.{Step}
 use Rattle.steps.specs.Point.{opposite}
 use Rattle.steps.specs.Table.{entry, digit}
@@ -222,7 +222,7 @@ _then_ : {A B : Type 0} → A → B → A × B
 a then b = (a, b)
 
 pub all-cases : AllHold cases
-unfolding cases coefficientsOk variableOk variablesOk constantOk identifierOk linesValidity validityOf lineAt isFalse
+unfolding cases lineTests linesValidity validityOf lineAt isFalse
     opposite entry digit stepOf stepNumbered stepsOf
     countsOk isFalseStep headOn joins turns along advance run closes accepted verdict refutationValidity refutationAnswer
     relaxRow startRow rounds rowAt best noNegative

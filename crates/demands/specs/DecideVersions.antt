@@ -11,12 +11,12 @@ use Rattle.integers.specs.Laws.{never}
 use Rattle.integers.specs.Sequence.{tabulate}
 use Rattle.integers.specs.Lowest.{lowest}
 use Rattle.lines.specs.declared.Line.{Line}
-use Rattle.lines.specs.declared.Refusal.the-variants.{TooManyVariables, BrokenLength, TooManyLines, BadCoefficient, BadVariable, BadConstant, ShortOutput, ShortWorkArea}
+use Rattle.lines.specs.declared.Refusal.the-variants.{TooManyVariables, BrokenLength, TooManyLines, BadVariable, BadConstant, ShortOutput, ShortWorkArea}
 use Rattle.lines.specs.declared.Validity.{Validity}
 use Rattle.lines.specs.declared.Validity.the-variants as validity
 use Rattle.lines.specs.Limits.{lineSize, maxVariables, maxLines, maxConstant}
 use Rattle.lines.specs.Line.{lineAt, lineCount, linesOf, isFalse}
-use Rattle.lines.specs.Refusal.{_orElse_, refuseIf, Rule, firstBroken, coefficientsOk, variableOk, variablesOk, constantOk, identifierOk, linesValidity, validityOf}
+use Rattle.lines.specs.Refusal.{numberOf, _orElse_, refuseIf, Rule, lineRules, lineTests, firstBroken, linesValidity, validityOf}
 use Rattle.steps.specs.declared.Step.{Step}
 use Rattle.steps.specs.declared.NamedStep.the-variants.{Found, Nothing}
 use Rattle.steps.specs.Point.{opposite}
@@ -191,11 +191,11 @@ unfolding decideAnswer decideValidity roomsValidity validityOf linesValidity ver
 no-lines-yes = refl
 
 false-list-no : answerFor 0 falseList (room 0) ≡ No
-unfolding decideAnswer decideValidity roomsValidity validityOf linesValidity coefficientsOk variableOk variablesOk constantOk identifierOk lineAt isFalse verdictOf hasFalse
+unfolding decideAnswer decideValidity roomsValidity validityOf linesValidity lineTests lineAt isFalse verdictOf hasFalse
 false-list-no = refl
 
 pub list-8-no : answerFor 1 list-8 (roomWith 1 9) ≡ No
-unfolding decideAnswer decideValidity roomsValidity validityOf linesValidity coefficientsOk variableOk variablesOk constantOk identifierOk lineAt isFalse verdictOf hasFalse noNegative
+unfolding decideAnswer decideValidity roomsValidity validityOf linesValidity lineTests lineAt isFalse verdictOf hasFalse noNegative
     entry digit stepOf stepsOf relaxRow startRow rounds rowAt best
 list-8-no = refl
 
@@ -263,34 +263,42 @@ names-bounds-for-groups-breaks k =
     let e : Refused (ShortOutput 2) ≡ Refused (ShortOutput 3) = k 1 [] (shortAt 3) .is in
     let p : _≡_ {A = ℕ} 2 3 = cc in absurd (omega arith)
 
--- within a line it refuses 6 before 5
-abbrev constantRules : List Rule
-constantRules =
-    record { ok = λ n l. coefficientsOk l; refusal = BadCoefficient }
-    ∷ record { ok = λ n l. constantOk l; refusal = BadConstant }
-    ∷ record { ok = variablesOk; refusal = BadVariable }
-    ∷ []
+-- it refuses a list with these rules of a line in place of the specification's, and else answers and writes right
+abbrev linesBy : List Rule → ℕ → ℕ → List Line → Validity
+linesBy rules n k [] = validity.Valid
+linesBy rules n k (l ∷ ls) = firstBroken rules n k l orElse linesBy rules n (k + 1) ls
 
-abbrev constantsFirst : ℕ → ℕ → List Line → Validity
-constantsFirst n k [] = validity.Valid
-constantsFirst n k (l ∷ ls) = firstBroken constantRules n k l orElse constantsFirst n (k + 1) ls
-
-pub refusesConstantsFirst : Version
-refusesConstantsFirst =
+abbrev ruledBy : List Rule → Version
+ruledBy rules =
     refusingBy
     (λ n L b.
     refuseIf (ltb maxVariables n) TooManyVariables
     orElse refuseIf (not (eqb (length L % lineSize) 0)) BrokenLength
     orElse refuseIf (ltb maxLines (lineCount L)) TooManyLines
-    orElse constantsFirst n 0 (linesOf L)
-    orElse validityFor n L b)
+    orElse linesBy rules n 0 (linesOf L)
+    orElse roomsValidity n (lengthsOf b))
+
+-- those of the specification's rules whose number passes a test: one of them, and the others
+abbrev rulesThat : (ℕ → Bool) → List Rule → List Rule
+rulesThat p [] = []
+rulesThat p (r ∷ rs) = cond (p (numberOf (r .refusal 0))) (r ∷ rulesThat p rs) (rulesThat p rs)
+
+abbrev only : ℕ → List Rule
+only k = rulesThat (λ i. eqb i k) lineRules
+
+abbrev others : ℕ → List Rule
+others k = rulesThat (λ i. not (eqb i k)) lineRules
+
+-- within a line it refuses 6 first
+pub refusesConstantsFirst : Version
+refusesConstantsFirst = ruledBy (only 6 ++ others 6)
 
 -- variable 0 where there is none, and d beyond its limit
 abbrev twiceWrong : List ℤ
 twiceWrong = pos 1 ∷ pos 0 ∷ pos 0 ∷ pos 0 ∷ pos (maxConstant + 1) ∷ pos 0 ∷ []
 
 pub refuses-constants-first-breaks : Keeps refusesConstantsFirst → ⊥
-unfolding refusesConstantsFirst decideAnswer decideValidity roomsValidity validityOf linesValidity coefficientsOk variableOk variablesOk constantOk identifierOk lineAt
+unfolding refusesConstantsFirst decideAnswer decideValidity roomsValidity validityOf linesValidity lineTests lineAt
 refuses-constants-first-breaks k = let e : Refused (BadConstant 0) ≡ Refused (BadVariable 0) = k 0 twiceWrong (room 0) .is in never (cc)
 
 -- it says yes to every list, with a model of zeros
@@ -298,7 +306,7 @@ pub yesWithZeros : Version
 yesWithZeros n L b = outcome (unlessRefused (validityFor n L b) Yes) b (written n (replicate n (pos 0)) (boundsOf n (linesOf L)) (groupsOf n (linesOf L)) b) b
 
 pub yes-with-zeros-breaks : Keeps yesWithZeros → ⊥
-unfolding yesWithZeros decideValidity roomsValidity validityOf linesValidity coefficientsOk variableOk variablesOk constantOk identifierOk lineAt
+unfolding yesWithZeros decideValidity roomsValidity validityOf linesValidity lineTests lineAt
 yes-with-zeros-breaks k = let e : Yes ≡ No = k 0 falseList (room 0) .is ∙ false-list-no in never (cc)
 
 -- it says no to every list, with one stock refutation
@@ -336,7 +344,7 @@ pub absentBounds : Version
 absentBounds = leaving absentBoundsYes rightNo
 
 pub absent-bounds-breaks : Keeps absentBounds → ⊥
-unfolding absentBounds decideAnswer decideValidity roomsValidity validityOf linesValidity coefficientsOk variableOk variablesOk constantOk identifierOk lineAt isFalse verdictOf hasFalse noNegative consistentHalves
+unfolding absentBounds decideAnswer decideValidity roomsValidity validityOf linesValidity lineTests lineAt isFalse verdictOf hasFalse noNegative consistentHalves
     entry digit stepOf stepsOf relaxRow startRow rounds rowAt best opposite boundsOf halves
 absent-bounds-breaks k =
     let s = on-yes absentBoundsYes rightNo k 1 atMost5 (room 1) refl in
@@ -400,7 +408,7 @@ zeroModel = leaving zeroModelYes rightNo
 
 -- case 9: x is at least 4
 pub zero-model-breaks : Keeps zeroModel → ⊥
-unfolding zeroModel decideAnswer decideValidity roomsValidity validityOf linesValidity coefficientsOk variableOk variablesOk constantOk identifierOk lineAt isFalse verdictOf hasFalse noNegative consistentHalves
+unfolding zeroModel decideAnswer decideValidity roomsValidity validityOf linesValidity lineTests lineAt isFalse verdictOf hasFalse noNegative consistentHalves
     entry digit stepOf stepsOf relaxRow startRow rounds rowAt best opposite assign above atMost near halves tight limit pick model tableModel modelOf
 zero-model-breaks k =
     let s = on-yes zeroModelYes rightNo k 1 list-9 (room 1) refl in
@@ -417,12 +425,12 @@ pub stockRefutation : Version
 stockRefutation = leaving rightYes stockNo
 
 list-4-no : answerFor 3 list-4 (room 3) ≡ No
-unfolding decideAnswer decideValidity roomsValidity validityOf linesValidity coefficientsOk variableOk variablesOk constantOk identifierOk lineAt isFalse verdictOf hasFalse noNegative consistentHalves
+unfolding decideAnswer decideValidity roomsValidity validityOf linesValidity lineTests lineAt isFalse verdictOf hasFalse noNegative consistentHalves
     entry digit stepOf stepsOf relaxRow startRow rounds rowAt best opposite halves
 list-4-no = refl
 
 valid-4 : validityOf 3 list-4 ≡ validity.Valid
-unfolding validityOf linesValidity coefficientsOk variableOk variablesOk constantOk identifierOk lineAt
+unfolding validityOf linesValidity lineTests lineAt
 valid-4 = refl
 
 kind-of-4 : dueKind 3 (linesOf list-4) ≡ 2
@@ -431,7 +439,7 @@ kind-of-4 = refl
 
 -- case 4: what was written is no refutation, since the first step does not lead to the opposite of its start
 stock-not-accepted : refutationAnswer 3 list-4 (stock 2) ≡ check.No 3
-unfolding refutationAnswer refutationValidity validityOf linesValidity coefficientsOk variableOk variablesOk constantOk identifierOk lineAt isFalse countsOk headOn joins turns along advance run closes accepted brokenAt verdict
+unfolding refutationAnswer refutationValidity validityOf linesValidity lineTests lineAt isFalse countsOk headOn joins turns along advance run closes accepted brokenAt verdict
     opposite entry digit stepOf stepNumbered wrongAfter
 stock-not-accepted = refl
 
@@ -464,7 +472,7 @@ pub ownGroups : Version
 ownGroups = leaving (grouping ownVariable noSign) rightNo
 
 pub own-groups-breaks : Keeps ownGroups → ⊥
-unfolding ownGroups decideAnswer decideValidity roomsValidity validityOf linesValidity coefficientsOk variableOk variablesOk constantOk identifierOk lineAt isFalse verdictOf hasFalse noNegative consistentHalves
+unfolding ownGroups decideAnswer decideValidity roomsValidity validityOf linesValidity lineTests lineAt isFalse verdictOf hasFalse noNegative consistentHalves
     entry digit stepOf stepsOf relaxRow startRow rounds rowAt best opposite groupsOf halves tight
 own-groups-breaks k =
     let s = on-yes (grouping ownVariable noSign) rightNo k 2 equalPair (room 2) refl in
@@ -485,7 +493,7 @@ mirroredPair =
     ∷ []
 
 pub never-minus-breaks : Keeps neverMinus → ⊥
-unfolding neverMinus decideAnswer decideValidity roomsValidity validityOf linesValidity coefficientsOk variableOk variablesOk constantOk identifierOk lineAt isFalse verdictOf hasFalse noNegative consistentHalves
+unfolding neverMinus decideAnswer decideValidity roomsValidity validityOf linesValidity lineTests lineAt isFalse verdictOf hasFalse noNegative consistentHalves
     entry digit stepOf stepsOf relaxRow startRow rounds rowAt best opposite groupsOf halves tight
 never-minus-breaks k =
     let s = on-yes (grouping plusVariable noSign) rightNo k 2 mirroredPair (room 2) refl in
@@ -506,7 +514,7 @@ zeroList =
     ∷ []
 
 pub prefers-minus-breaks : Keeps prefersMinus → ⊥
-unfolding prefersMinus decideAnswer decideValidity roomsValidity validityOf linesValidity coefficientsOk variableOk variablesOk constantOk identifierOk lineAt isFalse verdictOf hasFalse noNegative consistentHalves
+unfolding prefersMinus decideAnswer decideValidity roomsValidity validityOf linesValidity lineTests lineAt isFalse verdictOf hasFalse noNegative consistentHalves
     entry digit stepOf stepsOf relaxRow startRow rounds rowAt best opposite groupsOf halves tight
 prefers-minus-breaks k =
     let s = on-yes (grouping rightVariable minusFirst) rightNo k 1 zeroList (room 1) refl in
@@ -531,7 +539,7 @@ other-last : _≡_ {A = List ℕ} (0 ∷ 0 ∷ 0 ∷ 1 ∷ 0 ∷ 1 ∷ []) (0 �
 other-last e = let l : _≡_ {A = ℕ} 1 0 = ap (λ (g : List ℕ). getD g 5 0) e in absurd (omega arith)
 
 pub signs-to-neighbour-breaks : Keeps signsToNeighbour → ⊥
-unfolding signsToNeighbour decideAnswer decideValidity roomsValidity validityOf linesValidity coefficientsOk variableOk variablesOk constantOk identifierOk lineAt isFalse verdictOf hasFalse noNegative consistentHalves
+unfolding signsToNeighbour decideAnswer decideValidity roomsValidity validityOf linesValidity lineTests lineAt isFalse verdictOf hasFalse noNegative consistentHalves
     entry digit stepOf stepsOf relaxRow startRow rounds rowAt best opposite groupsOf halves tight
 signs-to-neighbour-breaks k = other-last (on-yes (grouping rightVariable neighbourSign) rightNo k 3 mirroredTwice (room 3) refl .groups)
 
@@ -548,7 +556,7 @@ abbrev identifiedRefutation : List ℕ
 identifiedRefutation = 3 ∷ 1 ∷ 0 ∷ 0 ∷ []
 
 identified-no : answerFor 0 identifiedList (room 0) ≡ No
-unfolding decideAnswer decideValidity roomsValidity validityOf linesValidity coefficientsOk variableOk variablesOk constantOk identifierOk lineAt isFalse verdictOf hasFalse
+unfolding decideAnswer decideValidity roomsValidity validityOf linesValidity lineTests lineAt isFalse verdictOf hasFalse
 identified-no = refl
 
 kind-identified : dueKind 0 (linesOf identifiedList) ≡ 3

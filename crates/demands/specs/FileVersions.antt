@@ -10,7 +10,7 @@ use Rattle.integers.specs.Laws.{never}
 use Rattle.lines.specs.declared.Refusal.the-variants.{BadCoefficient}
 use Rattle.lines.specs.Limits.{lineSize, maxVariables}
 use Rattle.lines.specs.Line.{lineAt, lineNumbers, numbersOf}
-use Rattle.lines.specs.Refusal.{coefficientsOk, variableOk, variablesOk, constantOk, identifierOk, linesValidity, validityOf}
+use Rattle.lines.specs.Refusal.{lineTests, linesValidity, validityOf}
 use Rattle.file_records.specs.declared.FileRefusal.the-variants.{Cut, UnknownKind, WrongLength, OutOfPlace, Trailing, NoRoom, NoIdentifier, List as OfList}
 use Rattle.file_records.specs.declared.Next.{Next}
 use Rattle.file_records.specs.declared.Next.the-variants as next
@@ -88,7 +88,7 @@ a then b = (a, b)
 
 pub all-read : AllRead fileCases
 unfolding fileCases bodySize isLine recordPlace taken nextRecord scanFrom scan lineIn fileList lineNumbers numbersOf listValidity readAnswer
-    lineAt coefficientsOk variableOk variablesOk constantOk identifierOk linesValidity validityOf
+    lineAt lineTests linesValidity validityOf
 all-read =
     refl then refl then refl then refl
     then refl

@@ -15,7 +15,7 @@ use Rattle.lines.specs.declared.Validity.{Validity}
 use Rattle.lines.specs.declared.Validity.the-variants as validity
 use Rattle.lines.specs.Limits.{lineSize}
 use Rattle.lines.specs.Line.{number, lineNumbers, numbersOf, lineAt, isFalse}
-use Rattle.lines.specs.Refusal.{coefficientsOk, variableOk, variablesOk, constantOk, identifierOk, linesValidity, validityOf}
+use Rattle.lines.specs.Refusal.{lineTests, linesValidity, validityOf}
 use Rattle.steps.specs.Point.{opposite}
 use Rattle.steps.specs.Table.{entry, digit}
 use Rattle.steps.specs.Step.{stepOf, stepsOf}
@@ -102,11 +102,11 @@ unfolding validityOf linesValidity numbersOf
 none-valid = refl
 
 most-valid : validityOf 1 (numbersOf (most ∷ [])) ≡ validity.Valid
-unfolding validityOf linesValidity numbersOf lineNumbers coefficientsOk variableOk variablesOk constantOk identifierOk lineAt
+unfolding validityOf linesValidity numbersOf lineNumbers lineTests lineAt
 most-valid = refl
 
 both-valid : validityOf 1 (numbersOf (most ∷ least ∷ [])) ≡ validity.Valid
-unfolding validityOf linesValidity numbersOf lineNumbers coefficientsOk variableOk variablesOk constantOk identifierOk lineAt
+unfolding validityOf linesValidity numbersOf lineNumbers lineTests lineAt
 both-valid = refl
 
 one : pos 1 ≡ pos 0 → ⊥
@@ -169,7 +169,7 @@ pub countsRefused : List ℤ → Line → Lent → Added
 countsRefused s l b = record { answer = addAnswer s l b; state = pushedAnyway s l (addAnswer s l b); after = rightAdd s l b .after }
 
 twice-refused : answerFor 1 (numbersOf (twice ∷ [])) (roomWith 1 9) ≡ decide.Refused (BadCoefficient 0)
-unfolding decideAnswer decideValidity validityOf linesValidity numbersOf lineNumbers coefficientsOk lineAt
+unfolding decideAnswer decideValidity validityOf linesValidity numbersOf lineNumbers lineTests lineAt
 twice-refused = refl
 
 pub counts-refused-breaks : KeepsAdd countsRefused → ⊥
@@ -190,7 +190,7 @@ withoutFirst s l b =
     }
 
 least-yes : answerFor 1 (drop lineSize (numbersOf (most ∷ least ∷ []))) (roomWith 1 9) ≡ decide.Yes
-unfolding numbersOf lineNumbers decideAnswer decideValidity roomsValidity validityOf linesValidity coefficientsOk variableOk variablesOk constantOk identifierOk lineAt isFalse verdictOf hasFalse
+unfolding numbersOf lineNumbers decideAnswer decideValidity roomsValidity validityOf linesValidity lineTests lineAt isFalse verdictOf hasFalse
     noNegative consistentHalves entry digit stepOf stepsOf relaxRow startRow rounds rowAt best opposite
 least-yes = refl
 

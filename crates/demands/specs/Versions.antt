@@ -13,7 +13,7 @@ use Rattle.lines.specs.declared.Refusal.the-variants.{TooManyVariables}
 use Rattle.lines.specs.declared.Validity.the-variants.{Valid}
 use Rattle.lines.specs.Limits.{maxRefutation}
 use Rattle.lines.specs.Line.{lineAt, leftSide, isFalse}
-use Rattle.lines.specs.Refusal.{coefficientsOk, variableOk, variablesOk, constantOk, identifierOk, linesValidity, validityOf}
+use Rattle.lines.specs.Refusal.{lineTests, linesValidity, validityOf}
 use Rattle.check_answers.specs.declared.CheckAnswer.{CheckAnswer}
 use Rattle.check_answers.specs.declared.CheckAnswer.the-variants.{Yes, No, Refused}
 use Rattle.check_answers.specs.Answer.{unlessRefused}
@@ -35,7 +35,7 @@ falseRefutation : List ℕ
 falseRefutation = 3 ∷ 1 ∷ 0 ∷ 0 ∷ []
 
 case-3 : refutationAnswer 0 falseList falseRefutation ≡ Yes
-unfolding refutationAnswer refutationValidity validityOf linesValidity coefficientsOk variableOk variablesOk constantOk identifierOk lineAt isFalse falseRefutation countsOk isFalseStep headOn advance run closes accepted verdict
+unfolding refutationAnswer refutationValidity validityOf linesValidity lineTests lineAt isFalse falseRefutation countsOk isFalseStep headOn advance run closes accepted verdict
 case-3 = refl
 
 -- no numbers are no refutation, of no lines
@@ -48,7 +48,7 @@ pub acceptsNothing : ℕ → List ℤ → List ℕ → CheckAnswer
 acceptsNothing n L R = unlessRefused (refutationValidity n L R) (No 0)
 
 pub accepts-nothing-breaks : KeepsRefutation acceptsNothing → ⊥
-unfolding acceptsNothing refutationValidity validityOf linesValidity coefficientsOk variableOk variablesOk constantOk identifierOk lineAt falseRefutation
+unfolding acceptsNothing refutationValidity validityOf linesValidity lineTests lineAt falseRefutation
 accepts-nothing-breaks k = let e : No 0 ≡ Yes = k 0 falseList falseRefutation ∙ case-3 in never (cc)
 
 -- it accepts everything that is not refused
@@ -118,7 +118,7 @@ KeepsModel f = (n : ℕ) (L m : List ℤ) → f n L m ≡ modelAnswer n L m
 
 -- no values for no variables fail line 0, 0 ≤ -1
 first-line-fails : modelAnswer 0 falseList [] ≡ No 0
-unfolding modelAnswer modelValidity validityOf linesValidity coefficientsOk variableOk variablesOk constantOk identifierOk lineAt leftSide valuesValidity firstFailing
+unfolding modelAnswer modelValidity validityOf linesValidity lineTests lineAt leftSide valuesValidity firstFailing
 first-line-fails = refl
 
 no-lines-met : modelAnswer 0 [] [] ≡ Yes
@@ -130,7 +130,7 @@ pub saysYes : ℕ → List ℤ → List ℤ → CheckAnswer
 saysYes n L m = unlessRefused (modelValidity n L m) Yes
 
 pub says-yes-breaks : KeepsModel saysYes → ⊥
-unfolding saysYes modelValidity validityOf linesValidity coefficientsOk variableOk variablesOk constantOk identifierOk lineAt valuesValidity
+unfolding saysYes modelValidity validityOf linesValidity lineTests lineAt valuesValidity
 says-yes-breaks k = let e : Yes ≡ No 0 = k 0 falseList [] ∙ first-line-fails in never (cc)
 
 -- it says no to every model, at the first line

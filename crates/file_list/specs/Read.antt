@@ -18,7 +18,7 @@ use Rattle.file_list.specs.declared.ReadAnswer.{ReadAnswer}
 use Rattle.file_list.specs.declared.ReadAnswer.the-variants.{Read, Refused}
 use Rattle.file_list.specs.File.{fileList}
 
--- 1, with a limit of one's own; then 1 to 6 and 13
+-- 1, with a limit of one's own; then the list's refusals
 unfoldable pub listValidity : ℕ → ℕ → List ℤ → Validity
 listValidity most n L = refuseIf (ltb most n) TooManyVariables orElse validityOf n L
 

@@ -18,7 +18,7 @@ abbrev pub unlessRefused : Validity → WriteAnswer → WriteAnswer
 unlessRefused validity.Valid a = a
 unlessRefused (validity.Refused r) a = Refused (OfList r)
 
--- 1 to 6, 13; then 25 with place 0; then how many bytes are written
+-- the list's refusals; then 25 with place 0; then how many bytes are written
 unfoldable pub writeAnswer : ℕ → List ℤ → ℕ → WriteAnswer
 writeAnswer n L room = unlessRefused (validityOf n L) (cond (ltb room (fileSize L)) (Refused (NoRoom 0)) (Written (fileSize L)))
 

@@ -26,7 +26,7 @@ module _ (n : ℕ) (L : List ℤ) (b a : List ℕ) where
   abbrev bySize : Bool → WriteAnswer
   bySize t = cond t (Refused (NoRoom 0)) (Written size)
 
-  -- 1 to 6, 13
+  -- the list's refusals
   pub list-refused : (r : ListRefusal) → validityOf n L ≡ validity.Refused r → a ≡ b → WriteDone n L (Refused (OfList r)) b a
   unfolding writeAnswer
   list-refused r e h = record { is = sym (ap (λ (v : Validity). unlessRefused v (bySize (ltb (length b) size))) e); leaves = h }

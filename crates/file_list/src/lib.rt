@@ -195,7 +195,7 @@ pub fn decode_lines(bytes: &[u8], lines: usize, numbers: &mut [i32])
     }
 }
 
-// Whether the list of a file is refused: by 1, with a limit of the caller's own, then by 1 to 6 and 13. Its numbers are
+// Whether the list of a file is refused: by 1, with a limit of the caller's own, then by those of the list. Its numbers are
 // looked at beside the caller's buffer, which a refusal must leave as it was.
 fn file_validity(bytes: &[u8], most: usize, n: usize, lines: usize) -> Validity
     requires { ⌜ (most ≤ maxVariables) × Lines (now bytes) lines ⌝ }

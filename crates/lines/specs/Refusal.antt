@@ -87,6 +87,11 @@ lineRules =
     ∷ record { ok = λ n l. identifierOk l; refusal = BadIdentifier }
     ∷ []
 
+-- the tests of these rules in one name: an `unfolding` line that names it unfolds each of them, wherever the validity of a list is computed
+unfoldable pub lineTests : Unit {0}
+unfolding coefficientsOk variableOk variablesOk constantOk identifierOk
+lineTests = tt
+
 -- the first rule that line number k breaks
 abbrev pub firstBroken : List Rule → ℕ → ℕ → Line → Validity
 firstBroken [] n k l = Valid
