@@ -103,6 +103,8 @@ static const char *advice(int number)
         return "This line has a coefficient other than -1, 0 and 1: correct it.";
     case UTVPI_BAD_VARIABLE:
         return "This line names a variable that is not there: correct its number.";
+    case UTVPI_MISPLACED_COEFFICIENT:
+        return "This line's only variable stands in the second place: write it in the first.";
     case UTVPI_BAD_BOUND:
         return "This line's bound is beyond 1,000,000: choose a coarser unit.";
     case UTVPI_BAD_IDENTIFIER:

@@ -13,7 +13,7 @@
  *
  *     a   the first coefficient: -1, 0 or 1
  *     x   the number of its variable; 0 where a is 0
- *     b   the second coefficient: -1, 0 or 1
+ *     b   the second coefficient: -1, 0 or 1; 0 where a is 0
  *     y   the number of its variable; 0 where b is 0
  *     d   the bound, from -1,000,000 to 1,000,000
  *     identifier   of the message that the line came from, from 0 to
@@ -21,9 +21,9 @@
  *         changes no answer, and comes back with a refutation.
  *
  * So a list of k lines is UTVPI_LINE_NUMBERS*k numbers, or UTVPI_LINE_BYTES*k
- * bytes. x and y may be the same variable. A line on one variable may use either
- * place. With both coefficients 0 the line says 0 <= d. At most
- * UTVPI_MOST_VARIABLES variables and UTVPI_MOST_LINES lines.
+ * bytes. x and y may be the same variable. A line on one variable has it in the
+ * first place, with b and y 0. With both coefficients 0 the line says 0 <= d. At
+ * most UTVPI_MOST_VARIABLES variables and UTVPI_MOST_LINES lines.
  *
  * A MODEL is one value for each variable, in order, each a signed 64-bit number,
  * for the checks as eight bytes. It is a yes if it meets every line.
@@ -40,8 +40,8 @@
  *      x - y <= d      x+ to y+    y- to x-    d
  *     -x + y <= d      x- to y-    y+ to x+    d
  *     -x - y <= d      x- to y+    y- to x+    d
- *      x     <= d      x+ to x-    none        2*d    (x in either place)
- *     -x     <= d      x- to x+    none        2*d    (x in either place)
+ *      x     <= d      x+ to x-    none        2*d
+ *     -x     <= d      x- to x+    none        2*d
  *      0     <= d      none        none
  *
  * In a walk each step begins at the point where the one before it ends. A
@@ -389,10 +389,10 @@ utvpi_file_written utvpi_write_list(uint64_t n, const int32_t *list, size_t list
 #define UTVPI_REFUSAL_PLACE(result) ((int)(-(result) % UTVPI_REFUSAL_UNIT))
 
 /* The refusals. Where several apply, the one given is the first of: 1, 2, 3;
- * then line by line from the first, in each line 4, 5, 6, 13; then 7 and 8 for
+ * then line by line from the first, in each line 4, 5, 12, 6, 13; then 7 and 8 for
  * deciding, 9 and 10 for a model, 11 for a refutation. Starting a session gives 1, then
- * 7; adding a line 7 for the state, 30, 3, then for the new line 4, 5, 6, 13, then 7 for
- * the other buffers and 8; withdrawing one 7, then 31.
+ * 7; adding a line 7 for the state, 30, 3, then for the new line 4, 5, 12, 6, 13, then 7
+ * for the other buffers and 8; withdrawing one 7, then 31.
  */
 enum utvpi_refusal {
     /* n is above UTVPI_MOST_VARIABLES: use fewer variables. */
@@ -441,6 +441,11 @@ enum utvpi_refusal {
      * each: look for a shorter one. A list that no whole numbers meet always has
      * one of at most 4*n + 4 numbers. */
     UTVPI_LONG_REFUTATION = 11,
+
+    /* The first coefficient of the line at this place is 0 and the second is not:
+     * write the second term, with its variable, in the first place, and 0 and 0 in
+     * the second. */
+    UTVPI_MISPLACED_COEFFICIENT = 12,
 
     /* The identifier of the line at this place is below 0 or above
      * UTVPI_MOST_IDENTIFIER: give the message's own, which has at most 29 bits, or 0

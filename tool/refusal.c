@@ -61,6 +61,12 @@ static struct words words_of(enum utvpi_refusal number)
                               " numbers",
                               "look for a shorter one; with --numbers this program gives one",
                               NOTHING};
+    case UTVPI_MISPLACED_COEFFICIENT:
+        return (struct words){"the first coefficient is 0 and the second, the third number, is"
+                              " not",
+                              "move the third and fourth number to the front, and write 0 and 0"
+                              " in their places",
+                              RULE_AT_PLACE};
     case UTVPI_BAD_IDENTIFIER:
         return (struct words){"the identifier is below 0 or above "
                               AS_TEXT(UTVPI_MOST_IDENTIFIER),

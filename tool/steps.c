@@ -27,12 +27,11 @@ bool same_point(struct point one, struct point other)
 
 /* The step with this number, which has to be there. Side 0 leads from the first
  * term to the second with its sign turned round, side 1 from the second to the
- * first turned round. A lone term is taken for both. */
+ * first turned round. A lone term, which stands first, is taken for both. */
 struct step step_of(const struct list *list, uint32_t number)
 {
     const int32_t *line = line_of(list, number);
     struct point first = {line[0], (uint64_t)line[1]}, second = {line[2], (uint64_t)line[3]};
-    first = first.sign == 0 ? second : first;
     second = second.sign == 0 ? first : second;
     bool turned = number % 2 == 1;
     return (struct step){turned ? second : first, opposite(turned ? first : second)};

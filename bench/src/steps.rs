@@ -41,8 +41,8 @@ pub fn steps(list: &[Line]) -> Vec<Step> {
         };
         match (a, b) {
             (0, 0) => {}
+            // A lone coefficient stands in the first place.
             (_, 0) => add(point(a, x), point(-a, x), 2 * d, 0),
-            (0, _) => add(point(b, y), point(-b, y), 2 * d, 0),
             _ => {
                 add(point(a, x), point(-b, y), d, 0);
                 add(point(b, y), point(-a, x), d, 1);

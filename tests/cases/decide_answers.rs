@@ -96,7 +96,7 @@ fn small_lists_by_all_values() {
 }
 
 /// Every list of two lines over one variable or two, of bounds within ±2: nothing
-/// is left to chance.
+/// is left to chance. A lone coefficient in the second place is refused.
 #[test]
 fn all_lists_of_two_lines() {
     let mut chance = Chance::new(22);
@@ -113,7 +113,11 @@ fn all_lists_of_two_lines() {
             for second in &all {
                 let mut lines = [*first, *second];
                 identify(&mut chance, &mut lines);
-                let due = brute::verdict(n as usize, &lines);
+                let misplaced = |line: &Line| line[0] == 0 && line[2] != 0;
+                let due = match lines.iter().position(misplaced) {
+                    Some(place) => Verdict::Refused(12, place),
+                    None => brute::verdict(n as usize, &lines),
+                };
                 let decision = decide(&mut chance, n as u64, &lines);
                 assert_eq!(decision.verdict, due, "n: {n}\nlines: {lines:?}");
             }

@@ -9,7 +9,9 @@ use utvpi_tests::decision::{
 use utvpi_tests::document::{largest, CASE_4};
 use utvpi_tests::limits::{LARGEST_BOUND, LAST_VARIABLE, MOST_LINES, MOST_N, MOST_VARIABLES};
 use utvpi_tests::limits::{NO_IDENTIFIERS, SMALL_VARIABLES};
-use utvpi_tests::lines::{identified, identify, line, lone, zero, Line, BOUND, IDENTIFIER, X, Y};
+use utvpi_tests::lines::{
+    identified, identify, line, lone, misplaced, zero, Line, BOUND, IDENTIFIER, X, Y,
+};
 use utvpi_tests::{brute, closure};
 
 /// The numbers that stand for no least and no greatest value.
@@ -129,11 +131,8 @@ fn case_8_one_variable_between_two_bounds() {
     no(1, &[lone(1, 0, 3), lone(-1, 0, -4)], Reason::ClosedWalk);
     yes(1, &[lone(1, 0, 3), lone(-1, 0, -3)], &[3], &[3, 3], &[0]);
     // The same lines with the variable in the other place.
-    no(
-        1,
-        &[line(0, 0, 1, 0, 3), line(0, 0, -1, 0, -4)],
-        Reason::ClosedWalk,
-    );
+    let other = identified(&[lone(1, 0, 3), misplaced(-1, 0, -4)]);
+    assert_eq!(decided(1, &other).verdict, Verdict::Refused(12, 1));
 }
 
 #[test]

@@ -4,7 +4,7 @@ use utvpi_tests::bytes;
 use utvpi_tests::document::{largest, CASE_4};
 use utvpi_tests::limits::NO_IDENTIFIERS;
 use utvpi_tests::limits::{LINE_BYTES, LINE_NUMBERS, MOST_LINES, MOST_N, MOST_VARIABLES};
-use utvpi_tests::lines::{identified, line, lone, zero, Line, BOUND, IDENTIFIER};
+use utvpi_tests::lines::{identified, line, lone, misplaced, zero, Line, BOUND, IDENTIFIER};
 use utvpi_tests::second::Answer::{self, No, Refused, Yes};
 
 /// The answer that is given to these lines as they are, and to the same ones with other
@@ -102,8 +102,9 @@ fn case_8_one_variable_between_two_bounds() {
     assert_eq!(model(1, &yes, &[4]), No(0));
     assert_eq!(model(1, &yes, &[2]), No(1));
     // The same lines with the variable in the other place.
-    let other = [line(0, 0, 1, 0, 3), line(0, 0, -1, 0, -4)];
-    assert_eq!(refutation(1, &other, &[1, 2, 0, 2, 0]), Yes);
+    let other = [lone(1, 0, 3), misplaced(-1, 0, -4)];
+    assert_eq!(refutation(1, &other, &[1, 2, 0, 2, 0]), Refused(12, 1));
+    assert_eq!(model(1, &other, &[3]), Refused(12, 1));
 }
 
 #[test]
@@ -192,7 +193,7 @@ fn case_12_variables_and_coefficients() {
         {
             for line in [
                 lone(1, variable, 0),
-                line(0, 0, 1, variable, 0),
+                misplaced(1, variable, 0),
                 line(-1, 0, -1, variable, 0),
                 line(0, variable, 1, 0, 0),
             ] {
@@ -232,15 +233,13 @@ const X: Point = (0, 1);
 const Y: Point = (1, 1);
 const NOT_X: Point = (0, -1);
 const NOT_Y: Point = (1, -1);
-const TABLE: [Row; 9] = [
+const TABLE: [Row; 7] = [
     (1, 1, Some((X, NOT_Y)), Some((Y, NOT_X)), 1),
     (1, -1, Some((X, Y)), Some((NOT_Y, NOT_X)), 1),
     (-1, 1, Some((NOT_X, NOT_Y)), Some((Y, X)), 1),
     (-1, -1, Some((NOT_X, Y)), Some((NOT_Y, X)), 1),
     (1, 0, Some((X, NOT_X)), None, 2),
-    (0, 1, Some((Y, NOT_Y)), None, 2),
     (-1, 0, Some((NOT_X, X)), None, 2),
-    (0, -1, Some((NOT_Y, Y)), None, 2),
     (0, 0, None, None, 1),
 ];
 

@@ -105,7 +105,7 @@ fn the_longest() {
 }
 
 /// Two lines with any faults, behind another that has none: the first faulty line is
-/// named, with the first of 4, 5, 6 and 13 that it has, in writing and in reading.
+/// named, with the first of 4, 5, 12, 6 and 13 that it has, in writing and in reading.
 #[test]
 fn the_order_within_a_line() {
     let mut chance = Chance::new(148);

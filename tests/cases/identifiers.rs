@@ -49,7 +49,7 @@ fn lists() -> [Vec<Line>; 5] {
     [
         vec![line(1, 0, -1, 1, 5), lone(-1, 1, 2), zero(0)],
         vec![line(1, 0, -1, 1, -1), line(1, 1, -1, 0, 0)],
-        vec![lone(1, 1, 3), line(0, 0, -1, 1, -4)],
+        vec![lone(1, 1, 3), lone(-1, 1, -4)],
         vec![line(1, 0, 1, 0, 1), line(-1, 0, -1, 0, -1)],
         vec![zero(0), zero(-1), lone(1, 0, -1), lone(-1, 0, 0)],
     ]
@@ -117,7 +117,7 @@ fn in_every_line() {
 }
 
 /// Two lines with any faults, behind another that has none: the first faulty line is
-/// named, with the first of 4, 5, 6 and 13 that it has.
+/// named, with the first of 4, 5, 12, 6 and 13 that it has.
 #[test]
 fn the_order_within_a_line() {
     let mut chance = Chance::new(132);

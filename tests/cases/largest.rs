@@ -78,7 +78,7 @@ fn chain(chance: &mut Chance, most: i32) -> Vec<Line> {
     for x in 1..=LAST_VARIABLE {
         lines.push(line(direction(x - 1), x - 1, -direction(x), x, -1));
     }
-    lines.push(line(0, 0, direction(LAST_VARIABLE), LAST_VARIABLE, most));
+    lines.push(lone(direction(LAST_VARIABLE), LAST_VARIABLE, most));
     filled(chance, lines)
 }
 
@@ -175,7 +175,7 @@ fn random_lists() {
         let near = |x: &usize| solved.bounds[2 * x + 1].abs() < LARGEST_BOUND;
         let x = (0..MOST_VARIABLES).find(near).unwrap();
         let greatest = solved.bounds[2 * x + 1] as i32;
-        lines[MOST_LINES - 1] = line(0, 0, -1, x as i32, -greatest - 1);
+        lines[MOST_LINES - 1] = lone(-1, x as i32, -greatest - 1);
         identify(&mut chance, &mut lines);
         let verdict = decided(&mut chance, &lines).verdict;
         assert!(matches!(verdict, Verdict::No(_)), "{verdict:?}");

@@ -20,7 +20,7 @@ const LINES: [Line; 7] = [
     // 4: x to -x, 6; 5 is none.
     lone(1, 0, 3),
     // 6: -x to x, -8; 7 is none.
-    line(0, 0, -1, 0, -4),
+    lone(-1, 0, -4),
     // 8 and 9 are none; the line is false.
     zero(-1),
     // 10 and 11 are none; the line is true.
@@ -184,7 +184,7 @@ fn some_right(chance: &mut Chance, long: usize) -> Refuted {
             make::near_refutation(chance, n)
         };
         let (sign, variable) = (chance.pick(&[-1, 1]), chance.below(n as usize) as i32);
-        lines.push(chance.pick(&[lone(sign, variable, 0), line(0, 0, sign, variable, 0)]));
+        lines.push(lone(sign, variable, 0));
         lines.push(zero(make::bound(chance)));
         identify(chance, &mut lines);
         if chance.one_in(long) && proposal.kind != 3 {

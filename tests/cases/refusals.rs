@@ -4,7 +4,7 @@
 use utvpi_tests::bytes;
 use utvpi_tests::limits::{LARGEST_VALUE, LAST_IDENTIFIER, LAST_VARIABLE, LINE_BYTES, MOST_LINES};
 use utvpi_tests::limits::{MOST_N, MOST_REFUTATION, MOST_VARIABLES};
-use utvpi_tests::lines::{identified, line, lone, zero, Line, BOUND, IDENTIFIER, X};
+use utvpi_tests::lines::{identified, line, lone, misplaced, zero, Line, BOUND, IDENTIFIER, X, Y};
 use utvpi_tests::make;
 use utvpi_tests::second::Answer::{self, No, Refused, Yes};
 use utvpi_tests::{model, refutation};
@@ -18,6 +18,7 @@ enum Fault {
     Lines,
     Coefficient(usize),
     Variable(usize),
+    Misplaced(usize),
     Bound(usize),
     Identifier(usize),
     ModelLength,
@@ -33,10 +34,11 @@ impl Fault {
             Variables => ((1, 0, 0), Refused(1, 0)),
             ListLength => ((2, 0, 0), Refused(2, 0)),
             Lines => ((3, 0, 0), Refused(3, 0)),
-            Coefficient(line) => ((4, line, 4), Refused(4, line)),
-            Variable(line) => ((4, line, 5), Refused(5, line)),
-            Bound(line) => ((4, line, 6), Refused(6, line)),
-            Identifier(line) => ((4, line, 13), Refused(13, line)),
+            Coefficient(line) => ((4, line, 0), Refused(4, line)),
+            Variable(line) => ((4, line, 1), Refused(5, line)),
+            Misplaced(line) => ((4, line, 2), Refused(12, line)),
+            Bound(line) => ((4, line, 3), Refused(6, line)),
+            Identifier(line) => ((4, line, 4), Refused(13, line)),
             ModelLength => ((9, 0, 0), Refused(9, 0)),
             ModelValue(index) => ((10, index, 0), Refused(10, index)),
             LongRefutation => ((11, 0, 0), Refused(11, 0)),
@@ -44,19 +46,22 @@ impl Fault {
     }
 }
 
-const FAULTS: [Fault; 18] = [
+const FAULTS: [Fault; 21] = [
     Variables,
     ListLength,
     Lines,
     Coefficient(0),
     Variable(0),
+    Misplaced(0),
     Bound(0),
     Identifier(0),
     Coefficient(1),
     Variable(1),
+    Misplaced(1),
     Bound(1),
     Identifier(1),
     Coefficient(MOST_LINES - 1),
+    Misplaced(MOST_LINES - 1),
     Bound(MOST_LINES - 1),
     Identifier(MOST_LINES - 1),
     ModelLength,
@@ -80,7 +85,8 @@ fn answers(faults: &[Fault]) -> [Answer; 2] {
     for fault in faults {
         match *fault {
             Coefficient(line) => lines[line][2] = 2,
-            Variable(line) => lines[line][X] = 2 * LAST_VARIABLE,
+            Variable(line) => lines[line][Y] = 2 * LAST_VARIABLE,
+            Misplaced(line) => lines[line][..=X].fill(0),
             Bound(line) => lines[line][BOUND] = -1_000_001,
             Identifier(line) => lines[line][IDENTIFIER] = LAST_IDENTIFIER + 1,
             ModelValue(index) => values[index] = -LARGEST_VALUE - 1,
@@ -185,7 +191,7 @@ fn coefficients_and_variables() {
     ] {
         for bad in [
             lone(coefficient, 0, 0),
-            line(0, 0, coefficient, 0, 0),
+            misplaced(coefficient, 0, 0),
             line(1, 7, coefficient, 99, i32::MAX),
         ] {
             let packed = list(&[line(1, 0, 1, 1, 0), bad]);
@@ -201,8 +207,11 @@ fn coefficients_and_variables() {
         {
             let there = variable >= 0 && variable < n;
             for sign in [-1, 1] {
-                for line in [lone(sign, variable, 0), line(0, 0, sign, variable, 0)] {
-                    let expected = if there { Yes } else { Refused(5, 0) };
+                for (line, otherwise) in [
+                    (lone(sign, variable, 0), Yes),
+                    (misplaced(sign, variable, 0), Refused(12, 0)),
+                ] {
+                    let expected = if there { otherwise } else { Refused(5, 0) };
                     let values = vec![0; 8 * n as usize];
                     assert_eq!(model(n as u64, &list(&[line]), &values), expected);
                 }
@@ -352,7 +361,7 @@ fn the_length_of_a_refutation() {
 fn the_first_line_that_a_model_fails() {
     for first in (0..MOST_LINES).step_by(13).chain([MOST_LINES - 1]) {
         let mut lines: Vec<Line> = vec![line(1, 0, 1, 1, 0); MOST_LINES];
-        lines[first] = line(0, 0, -1, 0, -1);
+        lines[first] = lone(-1, 0, -1);
         assert_eq!(model(2, &list(&lines), &[0; 16]), No(first));
         lines[first..].fill(line(-1, 0, 1, 1, -1));
         assert_eq!(model(2, &list(&lines), &[0; 16]), No(first));
@@ -363,7 +372,7 @@ fn the_first_line_that_a_model_fails() {
 fn the_left_side_of_a_line() {
     let values = [LARGEST_VALUE, -LARGEST_VALUE, 999_999, -500_000, 1, 0];
     for a in [-1, 0, 1] {
-        for b in [-1, 0, 1] {
+        for b in if a == 0 { 0..=0 } else { -1..=1 } {
             for x in 0..if a == 0 { 1 } else { 6 } {
                 for y in 0..if b == 0 { 1 } else { 6 } {
                     let left = make::left_side(&line(a, x, b, y, 0), &values);

@@ -90,13 +90,9 @@ fn halves_that_are_named() {
 fn a_lone_variable_counts_twice() {
     for s in -3..=3 {
         for t in -3..=3 {
-            for lines in [
-                [lone(1, 0, s), line(0, 0, -1, 0, t)],
-                [line(0, 0, 1, 0, s), lone(-1, 0, t)],
-            ] {
-                assert_eq!(kind_1(1, &lines, &[0, 2]), yes_if_low(2, s + t < 0));
-                assert_eq!(kind_2(1, &lines, &[0], &[2]), yes_if_low(2, s + t < 0));
-            }
+            let lines = [lone(1, 0, s), lone(-1, 0, t)];
+            assert_eq!(kind_1(1, &lines, &[0, 2]), yes_if_low(2, s + t < 0));
+            assert_eq!(kind_2(1, &lines, &[0], &[2]), yes_if_low(2, s + t < 0));
             // x ≤ s and -2x ≤ t.
             let mixed = [lone(1, 0, s), line(-1, 0, -1, 0, t)];
             assert_eq!(kind_1(1, &mixed, &[0, 2]), yes_if_low(2, 2 * s + t < 0));
@@ -115,7 +111,7 @@ fn accepted() -> [(u64, Vec<Line>, Vec<u32>); 5] {
         zero(-1),
         zero(0),
         lone(1, 1, 4),
-        line(0, 0, -1, 1, -5),
+        lone(-1, 1, -5),
         line(1, 2, 1, 2, 1),
         line(-1, 2, -1, 2, -1),
     ];
@@ -303,10 +299,7 @@ fn long_walks_of_the_largest_weights() {
             );
         }
         // x ≤ d and -x ≤ d, there and back, with the weight 2d.
-        let lone = [
-            line(0, 0, 1, 0, sign * 1_000_000),
-            lone(-1, 0, sign * 1_000_000),
-        ];
+        let lone = [lone(1, 0, sign * 1_000_000), lone(-1, 0, sign * 1_000_000)];
         for rounds in [
             1,
             536,

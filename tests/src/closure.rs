@@ -51,7 +51,7 @@ impl Square {
             match (a, b) {
                 (0, 0) => {}
                 (_, 0) => square.lower(point(a, x), point(-a, x), 2 * d),
-                (0, _) => square.lower(point(b, y), point(-b, y), 2 * d),
+                (0, _) => unreachable!("a lone coefficient stands in the first place"),
                 _ => {
                     square.lower(point(a, x), point(-b, y), d);
                     square.lower(point(b, y), point(-a, x), d);

@@ -6,7 +6,9 @@ use crate::chance::Chance;
 use crate::limits::{EDGE_IDENTIFIERS, LAST_IDENTIFIER, NO_IDENTIFIERS};
 use crate::limits::{LARGEST_BOUND, LARGEST_VALUE, LAST_VARIABLE, LINE_BYTES, LINE_NUMBERS};
 use crate::limits::{MOST_LINES, MOST_N, MOST_NUMBERS, NUMBER_BYTES};
-use crate::lines::{identifier, line, lone, of_message, zero, Line, BOUND, IDENTIFIER, X, Y};
+use crate::lines::{
+    identifier, line, lone, misplaced, of_message, zero, Line, BOUND, IDENTIFIER, X, Y,
+};
 
 /// Numbers at which a wrong width or a wrong limit shows.
 const EXTREMES: [i64; 12] = [
@@ -84,7 +86,7 @@ fn damage_list(chance: &mut Chance, list: &mut Vec<u8>) {
     }
     let at = LINE_BYTES * chance.below(lines);
     let line: Vec<u8> = list[at..at + LINE_BYTES].to_vec();
-    match chance.below(7) {
+    match chance.below(8) {
         0 => drop(list.drain(at..at + LINE_BYTES)),
         1 => drop(list.splice(at..at, line)),
         2 => swap(list, at, LINE_BYTES * chance.below(lines), LINE_BYTES),
@@ -103,6 +105,8 @@ fn damage_list(chance: &mut Chance, list: &mut Vec<u8>) {
             let identifier = other_identifier(chance);
             put(list, at + NUMBER_BYTES * IDENTIFIER, identifier);
         }
+        // The first coefficient and its variable are 0.
+        6 => list[at..at + NUMBER_BYTES * (X + 1)].fill(0),
         // The number of a variable that is just not there, or of one beside 0.
         _ => {
             let place = at + NUMBER_BYTES * chance.pick(&[X, Y]);
@@ -213,7 +217,7 @@ fn damage_number(chance: &mut Chance, n: u64, list: &mut [i32]) {
     let variable = line + chance.pick(&[X, Y]);
     let coefficient = variable - 1;
     let n = n as i32;
-    match chance.below(10) {
+    match chance.below(11) {
         0 => list[coefficient] = chance.pick(&[2, -2, 3, 255, 257, 65_537, i32::MIN, i32::MAX]),
         1 => list[variable] = chance.pick(&[n, n.wrapping_add(1), -1, LAST_VARIABLE + 1, 1 << 16]),
         2 => list[variable] = chance.pick(&[i32::MIN, i32::MAX, 1 << 24, -1 << 16]),
@@ -222,14 +226,15 @@ fn damage_number(chance: &mut Chance, n: u64, list: &mut [i32]) {
         5 => list[line + BOUND] = chance.pick(&BOUNDS),
         6 => list[line + BOUND] = chance.pick(&[i32::MIN, i32::MAX, 1 << 30, -1 << 24]),
         7 => list[line + IDENTIFIER] = other_identifier(chance),
-        8 => list[chance.below(LINE_NUMBERS) + line] ^= 1 << chance.below(32),
+        8 => list[line..=line + X].fill(0),
+        9 => list[chance.below(LINE_NUMBERS) + line] ^= 1 << chance.below(32),
         _ => list.swap(line + chance.below(LINE_NUMBERS), chance.below(list.len())),
     }
 }
 
 /// The refusals of a line, in the order in which they are given. A set of them is a
 /// number with a bit for each.
-const LINE_REFUSALS: [u8; 4] = [4, 5, 6, 13];
+const LINE_REFUSALS: [u8; 5] = [4, 5, 12, 6, 13];
 
 /// All sets, the empty one first.
 pub fn fault_sets() -> Range<usize> {
@@ -250,13 +255,19 @@ pub fn first_fault(faults: usize) -> Option<u8> {
 /// A line of two variables with just these faults.
 pub fn faulty_line(chance: &mut Chance, faults: usize) -> Line {
     let mut line = of_message(line(1, 0, -1, 1, 7), identifier(chance));
-    let variable = chance.pick(&[X, Y]);
+    let has = |refusal| {
+        let at = LINE_REFUSALS.iter().position(|&one| one == refusal);
+        faults >> at.unwrap() & 1 == 1
+    };
+    // With a lone coefficient in the second place, what else is wrong is wrong there.
+    let variable = if has(12) { Y } else { chance.pick(&[X, Y]) };
     let coefficient = variable - 1;
-    for (at, refusal) in LINE_REFUSALS.into_iter().enumerate() {
-        if faults >> at & 1 == 1 {
+    for refusal in LINE_REFUSALS {
+        if has(refusal) {
             match refusal {
                 4 => line[coefficient] = chance.pick(&[2, -2, i32::MIN, i32::MAX]),
                 5 => line[variable] = chance.pick(&[-1, 2, LAST_VARIABLE + 1, i32::MIN, i32::MAX]),
+                12 => line[..=X].fill(0),
                 6 => line[BOUND] = chance.pick(&[BOUNDS[0], BOUNDS[3], i32::MIN, i32::MAX]),
                 _ => line[IDENTIFIER] = chance.pick(&NO_IDENTIFIERS),
             }
@@ -266,7 +277,7 @@ pub fn faulty_line(chance: &mut Chance, faults: usize) -> Line {
 }
 
 /// Lists that are refused, each with its n, and the refusal's number and place.
-pub fn refused_lists() -> [(u64, Vec<i32>, (u8, usize)); 11] {
+pub fn refused_lists() -> [(u64, Vec<i32>, (u8, usize)); 15] {
     let low = |line| of_message(line, -1);
     let high = |line| of_message(line, LAST_IDENTIFIER + 1);
     [
@@ -276,6 +287,10 @@ pub fn refused_lists() -> [(u64, Vec<i32>, (u8, usize)); 11] {
         (2, [zero(0), lone(2, 9, 0)].concat(), (4, 1)),
         (2, lone(1, 2, 1_000_001).to_vec(), (5, 0)),
         (2, line(0, 0, 0, 1, 1_000_001).to_vec(), (5, 0)),
+        (2, misplaced(1, 2, 0).to_vec(), (5, 0)),
+        (2, misplaced(-1, 0, 0).to_vec(), (12, 0)),
+        (2, low(misplaced(1, 1, 1_000_001)).to_vec(), (12, 0)),
+        (2, [misplaced(1, 1, 0), lone(2, 0, 0)].concat(), (12, 0)),
         (2, [zero(1_000_001), lone(2, 0, 0)].concat(), (6, 0)),
         (2, low(zero(1_000_001)).to_vec(), (6, 0)),
         (2, high(zero(0)).to_vec(), (13, 0)),

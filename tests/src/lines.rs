@@ -24,6 +24,11 @@ pub const fn lone(a: i32, x: i32, d: i32) -> Line {
     line(a, x, 0, 0, d)
 }
 
+/// The same with its variable in the second place, where it is refused.
+pub const fn misplaced(a: i32, x: i32, d: i32) -> Line {
+    line(0, 0, a, x, d)
+}
+
 /// The line 0 ≤ d.
 pub const fn zero(d: i32) -> Line {
     line(0, 0, 0, 0, d)

@@ -51,14 +51,18 @@ pub fn bound(chance: &mut Chance) -> i32 {
     bound as i32
 }
 
-/// A valid line of any of the nine coefficient pairs, with a bound and an identifier.
+/// A valid line of any of the seven coefficient pairs, with a bound and an identifier.
 pub fn some_line(chance: &mut Chance, n: u64) -> Line {
     let mut line = of_message(zero(bound(chance)), identifier(chance));
-    for place in [0, 2] {
-        if n > 0 && !chance.one_in(4) {
-            line[place] = chance.pick(&[-1, 1]);
-            line[place + 1] = chance.below(n as usize) as i32;
-        }
+    let terms = match chance.below(16) {
+        _ if n == 0 => 0,
+        0 => 0,
+        1..=6 => 1,
+        _ => 2,
+    };
+    for place in [0, 2].into_iter().take(terms) {
+        line[place] = chance.pick(&[-1, 1]);
+        line[place + 1] = chance.below(n as usize) as i32;
     }
     line
 }
@@ -103,7 +107,7 @@ pub fn lines_met_by(chance: &mut Chance, values: &[i64], count: usize) -> Vec<Li
 fn line_between(chance: &mut Chance, from: Point, to: Point) -> (Line, u32) {
     let ((v, s), (w, t)) = (from, to);
     let (mut line, side) = if to == opposite(from) && chance.one_in(2) {
-        (chance.pick(&[lone(s, v, 0), line(0, 0, s, v, 0)]), 0)
+        (lone(s, v, 0), 0)
     } else {
         chance.pick(&[(line(s, v, -t, w, 0), 0), (line(-t, w, s, v, 0), 1)])
     };

@@ -12,8 +12,7 @@ fn some_line(chance: &mut Chance, n: u64) -> Line {
     let mut term = || [chance.pick(&[-1, 1]), chance.below(n as usize) as i32];
     let [one, two] = [term(), term()];
     match chance.below(12) {
-        0 => lone(one[0], one[1], 0),
-        1 => line(0, 0, two[0], two[1], 0),
+        0 | 1 => lone(one[0], one[1], 0),
         _ => line(one[0], one[1], two[0], two[1], 0),
     }
 }

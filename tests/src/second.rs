@@ -58,6 +58,8 @@ impl Line {
             Some(4)
         } else if !variable_ok(self.a, self.x) || !variable_ok(self.b, self.y) {
             Some(5)
+        } else if self.a == 0 && self.b != 0 {
+            Some(12)
         } else if i64::from(self.d).abs() > LARGEST_BOUND {
             Some(6)
         } else if self.identifier < 0 || self.identifier > LAST_IDENTIFIER {
@@ -88,9 +90,7 @@ impl Line {
             (-1, 1) => [step(minus(x), minus(y), d), step(plus(y), plus(x), d)],
             (-1, -1) => [step(minus(x), plus(y), d), step(minus(y), plus(x), d)],
             (1, 0) => [step(plus(x), minus(x), 2 * d), None],
-            (0, 1) => [step(plus(y), minus(y), 2 * d), None],
             (-1, 0) => [step(minus(x), plus(x), 2 * d), None],
-            (0, -1) => [step(minus(y), plus(y), 2 * d), None],
             _ => [None, None],
         }
     }

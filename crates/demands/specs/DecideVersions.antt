@@ -11,7 +11,7 @@ use Rattle.integers.specs.Laws.{never}
 use Rattle.integers.specs.Sequence.{tabulate}
 use Rattle.integers.specs.Lowest.{lowest}
 use Rattle.lines.specs.declared.Line.{Line}
-use Rattle.lines.specs.declared.Refusal.the-variants.{TooManyVariables, BrokenLength, TooManyLines, BadVariable, BadConstant, ShortOutput, ShortWorkArea}
+use Rattle.lines.specs.declared.Refusal.the-variants.{TooManyVariables, BrokenLength, TooManyLines, BadVariable, MisplacedCoefficient, BadConstant, ShortOutput, ShortWorkArea}
 use Rattle.lines.specs.declared.Validity.{Validity}
 use Rattle.lines.specs.declared.Validity.the-variants as validity
 use Rattle.lines.specs.Limits.{lineSize, maxVariables, maxLines, maxConstant}
@@ -300,6 +300,31 @@ twiceWrong = pos 1 ∷ pos 0 ∷ pos 0 ∷ pos 0 ∷ pos (maxConstant + 1) ∷ p
 pub refuses-constants-first-breaks : Keeps refusesConstantsFirst → ⊥
 unfolding refusesConstantsFirst decideAnswer decideValidity roomsValidity validityOf linesValidity lineTests lineAt
 refuses-constants-first-breaks k = let e : Refused (BadConstant 0) ≡ Refused (BadVariable 0) = k 0 twiceWrong (room 0) .is in never (cc)
+
+-- within a line it refuses 12 last
+pub refusesLoneLate : Version
+refusesLoneLate = ruledBy (others 12 ++ only 12)
+
+-- a lone coefficient in the second place, and this d
+abbrev loneSecond : ℕ → List ℤ
+loneSecond d = pos 0 ∷ pos 0 ∷ pos 1 ∷ pos 0 ∷ pos d ∷ pos 0 ∷ []
+
+pub refuses-lone-late-breaks : Keeps refusesLoneLate → ⊥
+unfolding refusesLoneLate decideAnswer decideValidity roomsValidity validityOf linesValidity lineTests lineAt
+refuses-lone-late-breaks k =
+    let e : Refused (BadConstant 0) ≡ Refused (MisplacedCoefficient 0) = k 1 (loneSecond (maxConstant + 1)) (room 1) .is in never (cc)
+
+-- it takes a lone coefficient in either place
+pub takesLoneSecond : Version
+takesLoneSecond = ruledBy (others 12)
+
+pub takes-lone-second-breaks : Keeps takesLoneSecond → ⊥
+unfolding takesLoneSecond decideAnswer decideValidity roomsValidity validityOf linesValidity lineTests lineAt
+takes-lone-second-breaks k = answered (verdictOf 1 (linesOf (loneSecond 5))) (k 1 (loneSecond 5) (room 1) .is)
+  where
+    answered : (v : Bool) → cond v Yes No ≡ Refused (MisplacedCoefficient 0) → ⊥
+    answered true e = never (cc)
+    answered false e = never (cc)
 
 -- it says yes to every list, with a model of zeros
 pub yesWithZeros : Version

@@ -10,7 +10,7 @@ use lib.ListN.{length}
 use Rattle.integers.specs.Integer.{_⩽_, _⋖_}
 use Rattle.lines.specs.declared.Line.{Line}
 use Rattle.lines.specs.declared.Refusal.{Refusal}
-use Rattle.lines.specs.declared.Refusal.the-variants.{TooManyVariables, BrokenLength, TooManyLines, BadCoefficient, BadVariable, BadConstant, BadIdentifier, WrongModelLength, BadValue, LongRefutation}
+use Rattle.lines.specs.declared.Refusal.the-variants.{TooManyVariables, BrokenLength, TooManyLines, BadCoefficient, BadVariable, MisplacedCoefficient, BadConstant, BadIdentifier, WrongModelLength, BadValue, LongRefutation}
 use Rattle.lines.specs.Limits.{lineSize, maxVariables, maxLines, maxConstant, maxIdentifier, maxValue, maxRefutation}
 use Rattle.lines.specs.Line.{number, lineAt, lineCount}
 use Rattle.little_endian.specs.Bytes.{int32s, int64s}
@@ -41,6 +41,10 @@ IsCoefficient c = (c ≡ negℤ (pos 1)) ⊎ (c ≡ pos 0) ⊎ (c ≡ pos 1)
 abbrev pub WrongVariable : ℕ → ℤ → ℤ → Type 0
 WrongVariable n a x = ((a ≡ pos 0 → ⊥) × ((x ⋖ pos 0) ⊎ (pos n ⩽ x))) ⊎ ((a ≡ pos 0) × (x ≡ pos 0 → ⊥))
 
+-- the first coefficient is 0, and the second is not
+abbrev pub LoneSecond : Line → Type 0
+LoneSecond l = (l .a ≡ pos 0) × (l .b ≡ pos 0 → ⊥)
+
 -- below -m or above m
 abbrev pub Outside : ℕ → ℤ → Type 0
 Outside m z = (z ⋖ negℤ (pos m)) ⊎ (pos m ⋖ z)
@@ -63,11 +67,12 @@ abbrev pub rowsFrom : ℕ → ℕ → (ℕ → List Row) → List Row
 rowsFrom k zero rows = []
 rowsFrom k (suc count) rows = rows k ++ rowsFrom (k + 1) count rows
 
--- within a line 4, 5, 6, 13
+-- within a line 4, 5, 12, 6, 13
 abbrev pub lineTable : ℕ → ℕ → Line → List Row
 lineTable n k l =
     BadCoefficient k when ((IsCoefficient (l .a) → ⊥) ⊎ (IsCoefficient (l .b) → ⊥))
     ∷ BadVariable k when (WrongVariable n (l .a) (l .x) ⊎ WrongVariable n (l .b) (l .y))
+    ∷ MisplacedCoefficient k when LoneSecond l
     ∷ BadConstant k when Outside maxConstant (l .d)
     ∷ BadIdentifier k when WrongIdentifier (l .identifier)
     ∷ []

@@ -23,7 +23,7 @@ use Rattle.lines.specs.declared.Validity.{Validity}
 use Rattle.lines.specs.declared.Validity.the-variants.{Valid, Refused}
 use Rattle.lines.specs.Limits.{lineSize, maxVariables, maxLines, maxConstant, maxIdentifier, maxValue, maxRefutation}
 use Rattle.lines.specs.Line.{number, lineAt, lineCount, linesOf}
-use Rattle.lines.specs.Refusal.{placeOf, _orElse_, refuseIf, coefficientsOk, variableOk, variablesOk, constantOk, identifierOk, Rule, lineRules, firstBroken, lineValidity, linesValidity, validityOf}
+use Rattle.lines.specs.Refusal.{placeOf, _orElse_, refuseIf, coefficientsOk, variableOk, variablesOk, loneOk, constantOk, identifierOk, Rule, lineRules, firstBroken, lineValidity, linesValidity, validityOf}
 use Rattle.lines.specs.Laws.{validity-from, validity-past}
 use Rattle.check_answers.specs.declared.CheckAnswer.{CheckAnswer}
 use Rattle.check_answers.specs.declared.CheckAnswer.the-variants as check
@@ -49,7 +49,7 @@ use Rattle.c_checking.specs.Calls.{valueBytes, modelOfValues, refutationOfNumbe
 use Rattle.c_checking.specs.Laws.{model-bytes-below, refutation-bytes-below}
 use Rattle.c_deciding.specs.Calls.{decideCode}
 use Rattle.c_deciding.specs.Laws.{decision-below, decisions-apart}
-use Rattle.demands.specs.Refusals.{Asked, deciding, checking-model, checking-refutation, checking-model-bytes, checking-refutation-bytes, IsCoefficient, WrongVariable, WrongIdentifier, Outside, Row, _when_, rowsFrom, lineTable, linesTable, listTable, bytesTable, valuesTable, roomsTable, refusalTable, NoneApplies, FirstApplies, IsRefused, returned}
+use Rattle.demands.specs.Refusals.{Asked, deciding, checking-model, checking-refutation, checking-model-bytes, checking-refutation-bytes, IsCoefficient, WrongVariable, LoneSecond, WrongIdentifier, Outside, Row, _when_, rowsFrom, lineTable, linesTable, listTable, bytesTable, valuesTable, roomsTable, refusalTable, NoneApplies, FirstApplies, IsRefused, returned}
 
 -- ---- a validity, read along the rows
 pub data Gives : List Row → Validity → Type 1 where
@@ -192,6 +192,14 @@ variables-test : (n : ℕ) (l : Line) → Tells (not (variablesOk n l)) (WrongVa
 unfolding variablesOk
 variables-test n l = either-test (variableOk n (l .a) (l .x)) (variableOk n (l .b) (l .y)) (variable-test n (l .a) (l .x)) (variable-test n (l .b) (l .y))
 
+lone-test : (l : Line) → Tells (not (loneOk l)) (LoneSecond l)
+unfolding loneOk
+lone-test l = go (eqZ (l .a) (pos 0)) (zero-test (l .a))
+  where
+    go : (t : Bool) → Tells t (l .a ≡ pos 0) → Tells (not (cond t (eqZ (l .b) (pos 0)) true)) (LoneSecond l)
+    go true z = let u = not-test (zero-test (l .b)) in ((λ e. (z .0 refl, u .0 e)), (λ w. u .1 (w .1)))
+    go false z = ((λ e. absurd (false≢true e)), (λ w. absurd (false≢true (z .1 (w .0)))))
+
 constant-test : (l : Line) → Tells (not (constantOk l)) (Outside maxConstant (l .d))
 unfolding constantOk
 constant-test l = outside-test maxConstant (l .d)
@@ -217,7 +225,7 @@ rows-give n k l (r ∷ rs) (row ∷ rows) h = rw (h .0) (gives-row (h .1) (rows-
 -- ---- the rows of a line, of a list, and of what is asked
 pub line-gives : (n k : ℕ) (l : Line) → Gives (lineTable n k l) (lineValidity n k l)
 unfolding Rows
-line-gives n k l = rows-give n k l lineRules (lineTable n k l) (search (coefficients-test l, variables-test n l, constant-test l, identifier-test l))
+line-gives n k l = rows-give n k l lineRules (lineTable n k l) (search (coefficients-test l, variables-test n l, lone-test l, constant-test l, identifier-test l))
 
 list-gives : (n : ℕ) (L : List ℤ) → Gives (listTable n L) (validityOf n L)
 unfolding validityOf

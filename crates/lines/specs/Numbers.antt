@@ -7,7 +7,7 @@ use borrow.Author.Tests.{ltb-true}
 use lib.Dec.{eqb, ltb}
 use Rattle.integers.specs.Laws.{and-true}
 use Rattle.lines.specs.declared.Refusal.{Refusal}
-use Rattle.lines.specs.declared.Refusal.the-variants.{TooManyVariables, BrokenLength, TooManyLines, BadCoefficient, BadVariable, BadConstant, ShortOutput, ShortWorkArea, WrongModelLength, BadValue, LongRefutation, BadIdentifier, AfterNo, NoLines}
+use Rattle.lines.specs.declared.Refusal.the-variants.{TooManyVariables, BrokenLength, TooManyLines, BadCoefficient, BadVariable, BadConstant, ShortOutput, ShortWorkArea, WrongModelLength, BadValue, LongRefutation, MisplacedCoefficient, BadIdentifier, AfterNo, NoLines}
 use Rattle.lines.specs.Refusal.{numberOf, placeOf}
 
 -- every refusal, at place k
@@ -24,6 +24,7 @@ allAt k =
     ∷ WrongModelLength
     ∷ BadValue k
     ∷ LongRefutation
+    ∷ MisplacedCoefficient k
     ∷ BadIdentifier k
     ∷ AfterNo
     ∷ NoLines
@@ -53,6 +54,7 @@ known ShortWorkArea = (refl, refl)
 known WrongModelLength = (refl, refl)
 known (BadValue k) = (refl, refl)
 known LongRefutation = (refl, refl)
+known (MisplacedCoefficient k) = (refl, refl)
 known (BadIdentifier k) = (refl, refl)
 known AfterNo = (refl, refl)
 known NoLines = (refl, refl)

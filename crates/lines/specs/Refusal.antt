@@ -10,7 +10,7 @@ use Rattle.integers.specs.Integer.{eqZ, isBetween, isWithin}
 use Rattle.lines.specs.declared.Line.{Line}
 use Rattle.lines.specs.declared.Numbered.{Numbered}
 use Rattle.lines.specs.declared.Refusal.{Refusal}
-use Rattle.lines.specs.declared.Refusal.the-variants.{TooManyVariables, BrokenLength, TooManyLines, BadCoefficient, BadVariable, BadConstant, ShortOutput, ShortWorkArea, WrongModelLength, BadValue, LongRefutation, BadIdentifier, AfterNo, NoLines}
+use Rattle.lines.specs.declared.Refusal.the-variants.{TooManyVariables, BrokenLength, TooManyLines, BadCoefficient, BadVariable, BadConstant, ShortOutput, ShortWorkArea, WrongModelLength, BadValue, LongRefutation, MisplacedCoefficient, BadIdentifier, AfterNo, NoLines}
 use Rattle.lines.specs.declared.Validity.{Validity}
 use Rattle.lines.specs.declared.Validity.the-variants.{Valid, Refused}
 use Rattle.lines.specs.Limits.{lineSize, maxVariables, maxLines, maxConstant, maxIdentifier}
@@ -32,6 +32,7 @@ numberAndPlace ShortWorkArea = numberedAt 8 0
 numberAndPlace WrongModelLength = numberedAt 9 0
 numberAndPlace (BadValue k) = numberedAt 10 k
 numberAndPlace LongRefutation = numberedAt 11 0
+numberAndPlace (MisplacedCoefficient k) = numberedAt 12 k
 numberAndPlace (BadIdentifier k) = numberedAt 13 k
 numberAndPlace AfterNo = numberedAt 30 0
 numberAndPlace NoLines = numberedAt 31 0
@@ -65,6 +66,10 @@ variableOk n a x = cond (eqZ a (pos 0)) (eqZ x (pos 0)) (leZ (pos 0) x && ltZ x 
 unfoldable pub variablesOk : ℕ → Line → Bool
 variablesOk n l = variableOk n (l .a) (l .x) && variableOk n (l .b) (l .y)
 
+-- 12: a lone coefficient stands in the first place, so that where the first is 0 the second is too
+unfoldable pub loneOk : Line → Bool
+loneOk l = cond (eqZ (l .a) (pos 0)) (eqZ (l .b) (pos 0)) true
+
 -- 6: d lies within its limit
 unfoldable pub constantOk : Line → Bool
 constantOk l = isWithin maxConstant (l .d)
@@ -78,18 +83,19 @@ pub record Rule : Type 0 where
   pub ok : ℕ → Line → Bool
   pub refusal : ℕ → Refusal
 
--- within a line 4, 5, 6, 13
+-- within a line 4, 5, 12, 6, 13
 abbrev pub lineRules : List Rule
 lineRules =
     record { ok = λ n l. coefficientsOk l; refusal = BadCoefficient }
     ∷ record { ok = variablesOk; refusal = BadVariable }
+    ∷ record { ok = λ n l. loneOk l; refusal = MisplacedCoefficient }
     ∷ record { ok = λ n l. constantOk l; refusal = BadConstant }
     ∷ record { ok = λ n l. identifierOk l; refusal = BadIdentifier }
     ∷ []
 
 -- the tests of these rules in one name: an `unfolding` line that names it unfolds each of them, wherever the validity of a list is computed
 unfoldable pub lineTests : Unit {0}
-unfolding coefficientsOk variableOk variablesOk constantOk identifierOk
+unfolding coefficientsOk variableOk variablesOk loneOk constantOk identifierOk
 lineTests = tt
 
 -- the first rule that line number k breaks

@@ -12,7 +12,7 @@ ghost use mathlib.Core.Bool.{not};
 ghost use Prim.Native.Nat.{_<_, _≤_};
 ghost use Rattle.lines.specs.Limits.{maxVariables};
 ghost use Rattle.lines.specs.Line.{lineAt, lineCount, linesOf, isFalse};
-ghost use Rattle.lines.specs.Refusal.{numberOf, placeOf, _orElse_, refuseIf, coefficientsOk, variableOk, variablesOk, constantOk, identifierOk, lineValidity, linesValidity, validityOf};
+ghost use Rattle.lines.specs.Refusal.{numberOf, placeOf, _orElse_, refuseIf, coefficientsOk, variableOk, variablesOk, loneOk, constantOk, identifierOk, lineValidity, linesValidity, validityOf};
 ghost use Rattle.integers.specs.Integer.{isBetween};
 
 // One line: a·x + b·y <= d. x and y are the numbers of variables (the field's term: a UTVPI constraint). The identifier is that of the message
@@ -40,6 +40,7 @@ pub enum Refusal {
     WrongModelLength,
     BadValue(usize),
     LongRefutation,
+    MisplacedCoefficient(usize),
     BadIdentifier(usize),
     AfterNo,
     NoLines,
@@ -80,6 +81,7 @@ pub fn number_and_place(r: Refusal) -> Numbered
         Refusal::WrongModelLength => numbered_at(9, 0),
         Refusal::BadValue(k) => numbered_at(10, k),
         Refusal::LongRefutation => numbered_at(11, 0),
+        Refusal::MisplacedCoefficient(k) => numbered_at(12, k),
         Refusal::BadIdentifier(k) => numbered_at(13, k),
         Refusal::AfterNo => numbered_at(30, 0),
         Refusal::NoLines => numbered_at(31, 0),
@@ -135,6 +137,16 @@ fn variables_ok(n: usize, line: Line) -> bool
     variable_ok(n, line.a, line.x) && variable_ok(n, line.b, line.y)
 }
 
+// Rule 12: a lone coefficient stands in the first place.
+fn lone_ok(line: Line) -> bool
+    ensures { λ r. ⌜ r ≡ loneOk line ⌝ }
+{
+    if line.a != 0 {
+        return true;
+    }
+    line.b == 0
+}
+
 // Rule 6: d lies within its limit.
 fn constant_ok(line: Line) -> bool
     ensures { λ r. ⌜ r ≡ constantOk line ⌝ }
@@ -170,6 +182,7 @@ pub fn line_validity(n: usize, k: usize, line: Line) -> Validity
     let found = Validity::Valid;
     let found = or_unless(found, coefficients_ok(line), Refusal::BadCoefficient(k));
     let found = or_unless(found, variables_ok(n, line), Refusal::BadVariable(k));
+    let found = or_unless(found, lone_ok(line), Refusal::MisplacedCoefficient(k));
     let found = or_unless(found, constant_ok(line), Refusal::BadConstant(k));
     let found = or_unless(found, identifier_ok(line), Refusal::BadIdentifier(k));
     found

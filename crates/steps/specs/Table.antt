@@ -1,4 +1,4 @@
--- The specification's table of steps, over the nine coefficient pairs, and the one rule that all its entries obey.
+-- The specification's table of steps, over the nine coefficient pairs, of which a valid list has seven, and the one rule that all its entries obey.
 use mathlib.Core.Path.{_≡_, refl, sym, ap, subst₂, _∙_}
 use mathlib.Core.Bool.{Bool, true, not, cond, _&&_, _||_}
 use mathlib.Core.List.{List, [], _∷_}

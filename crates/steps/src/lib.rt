@@ -26,8 +26,9 @@ pub enum NamedStep {
 }
 
 // For the coefficients -1, 0, 1 of x and, below each, of y: side 0's start, end and weight factor, then side 1's. An end
-// is a place of the line and a sign: 0 is x+, 1 is x-, 2 is y+, 3 is y-. A factor of 0 says that there is no step. Entries are bytes:
-// the compiler lays the table out anew wherever it is read.
+// is a place of the line and a sign: 0 is x+, 1 is x-, 2 is y+, 3 is y-. A factor of 0 says that there is no step. The lines of
+// a valid list take seven of the pairs, since a lone coefficient stands first; the table has all nine, as the field has them. Entries are
+// bytes: the compiler lays the table out anew wherever it is read.
 const STEP_TABLE: [u8; 54] = [
     1,
     2,

@@ -8,13 +8,15 @@ use Rattle.lines.proofs.line_validity.Tie as tie
 
 returns : tie.Need-returns
 returns c =
-    let a = c .before .before .before .before .before .before .before .before .args in
+    let a = c .before .before .before .before .before .before .before .before .before .before .args in
     cc (found-from Valid lineRules (a .n) (a .k) (a .line))
 
 pub line-validity-spec : {M : Type 1} → statement M
 line-validity-spec =
     tie.close
     (tie.spec
+    (λ c κs. search needs)
+    (λ c κs. search needs)
     (λ c κs. search needs)
     (λ c κs. search needs)
     (λ c κs. search needs)
