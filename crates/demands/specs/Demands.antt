@@ -18,12 +18,15 @@ use Prim.Native.Nat.{ℕ, _+_, _*_, _/_, _%_, _<_, _≤_}
 use lib.IntN.{ℤ, pos, natAbs}
 use lib.ListN.{length, drop, getD}
 use Rattle.integers.specs.Integer.{_⩽_}
+use Rattle.integers.specs.Laws.{never}
 use Rattle.lines.specs.declared.Refusal.{Refusal}
-use Rattle.lines.specs.declared.Validity.the-variants.{Valid}
+use Rattle.lines.specs.declared.Refusal.the-variants.{MisplacedCoefficient}
+use Rattle.lines.specs.declared.Validity.the-variants.{Valid, Refused}
 use Rattle.lines.specs.Limits.{lineSize, maxRefutation, maxIdentifier}
-use Rattle.lines.specs.Line.{Assignment, Solves, Solvable, SameSolutions, lineAt, lineCount, linesOf, assignmentOf, isFalse}
-use Rattle.lines.specs.Refusal.{validityOf}
+use Rattle.lines.specs.Line.{Assignment, Solves, Solvable, SameSolutions, lineAt, lineCount, linesOf, assignmentOf, isFalse, number}
+use Rattle.lines.specs.Refusal.{lineTests, linesValidity, validityOf}
 use Rattle.lines.specs.Bare.{OnlyIdentifiers, lines-same}
+use Rattle.lines.specs.Terms.{termsOf, line-by-terms}
 use Rattle.lines.specs.Valid.{LineOk, valid-list, shorter-valid}
 use Rattle.check_answers.specs.declared.CheckAnswer.the-variants.{Yes, No}
 use Rattle.check_model.specs.Model.{modelAnswer}
@@ -407,6 +410,37 @@ identifiers-change-nothing n L M o c d =
       same-kind = λ e. call-due c e .kind ∙ same-kind n (linesOf L) (linesOf M) s ∙ sym (call-due d (sym same ∙ e) .kind);
       checked-alike = same-checked L M o n (call-valid c) (call-valid d);
     }
+
+-- ---- one place for a lone coefficient
+
+-- A line that is not refused is determined by its terms that are not zero, in order, its d and its identifier: two such lines, each of a valid list, which
+-- agree in these have the same numbers.
+pub line-by-its-terms : (n m : ℕ) (L M : List ℤ) → ValidFor n L → ValidFor m M → (j k : ℕ) → j < lineCount L → k < lineCount M
+    → termsOf (lineAt L j) ≡ termsOf (lineAt M k) → lineAt L j .d ≡ lineAt M k .d → lineAt L j .identifier ≡ lineAt M k .identifier → lineAt L j ≡ lineAt M k
+line-by-its-terms n m L M v w j k h i = line-by-terms n m j k (lineAt L j) (lineAt M k) (valid-list n L v .each j h) (valid-list m M w .each k i)
+
+-- So two lists whose lines mean the same are one, with one file (`same-terms-same-file` in Files.antt). Without rule 12 that would not hold: x ≤ 5 has the
+-- same terms in both places, and is refused in the second.
+abbrev pub loneFirst : List ℤ
+loneFirst = pos 1 ∷ pos 0 ∷ pos 0 ∷ pos 0 ∷ pos 5 ∷ pos 0 ∷ []
+
+abbrev pub loneSecond : List ℤ
+loneSecond = pos 0 ∷ pos 0 ∷ pos 1 ∷ pos 0 ∷ pos 5 ∷ pos 0 ∷ []
+
+pub second-place-is-refused : (termsOf (lineAt loneFirst 0) ≡ termsOf (lineAt loneSecond 0)) × ValidFor 1 loneFirst × (validityOf 1 loneSecond ≡ Refused (MisplacedCoefficient 0))
+unfolding validityOf linesValidity lineTests lineAt termsOf
+second-place-is-refused = (refl, refl, refl)
+
+-- The order of two terms is left to the tools: x + y ≤ 5 and y + x ≤ 5 are both valid, and two lists.
+abbrev pub xPlusY : List ℤ
+xPlusY = pos 1 ∷ pos 0 ∷ pos 1 ∷ pos 1 ∷ pos 5 ∷ pos 0 ∷ []
+
+abbrev pub yPlusX : List ℤ
+yPlusX = pos 1 ∷ pos 1 ∷ pos 1 ∷ pos 0 ∷ pos 5 ∷ pos 0 ∷ []
+
+pub terms-in-either-order : ValidFor 2 xPlusY × ValidFor 2 yPlusX × (xPlusY ≡ yPlusX → ⊥)
+unfolding validityOf linesValidity lineTests lineAt
+terms-in-either-order = (refl, refl, (λ e. let x : pos 0 ≡ pos 1 = ap (λ (L : List ℤ). number L 1) e in never (cc)))
 
 -- ---- the model checker
 

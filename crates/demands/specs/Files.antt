@@ -7,6 +7,7 @@ use lib.IntN.{ℤ, pos}
 use lib.ListN.{length, drop, take}
 use Rattle.lines.specs.Limits.{lineSize, maxVariables}
 use Rattle.lines.specs.Line.{lineNumbers, lineAt, lineCount}
+use Rattle.lines.specs.Terms.{SameTerms, list-by-terms}
 use Rattle.little_endian.specs.Bytes.{AreBytes}
 use Rattle.little_endian.specs.Writing.{bytesOf}
 use Rattle.theory_answers.specs.Semantics.{Written}
@@ -57,6 +58,10 @@ identifiers-read-back n L v k = ap (λ (M : List ℤ). lineAt M k .identifier) (
 
 pub other-identifier-other-file : (n : ℕ) (L M : List ℤ) → ValidFor n L → ValidFor n M → (k : ℕ) → (lineAt L k .identifier ≡ lineAt M k .identifier → ⊥) → fileOf n L ≡ fileOf n M → ⊥
 other-identifier-other-file n L M v w k h e = h (ap (λ (N : List ℤ). lineAt N k .identifier) (one-list n n L M v w e .1))
+
+-- Two tools that mean the same terms in the same order, line by line, write the same numbers and the same file.
+pub same-terms-same-file : (n : ℕ) (L M : List ℤ) → ValidFor n L → ValidFor n M → SameTerms L M → (L ≡ M) × (fileOf n L ≡ fileOf n M)
+same-terms-same-file n L M v w same = let e = list-by-terms n n L M v w same in (e, ap (fileOf n) e)
 
 -- What a call of the writer wrote, a call of the reader reads back into any buffer with room: n and the list, and what lies beyond it is untouched.
 pub written-then-read : (n : ℕ) (L : List ℤ) (k : ℕ) (b a : List ℕ) (answer : ReadAnswer) (before after : List ℤ)

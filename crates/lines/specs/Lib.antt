@@ -9,3 +9,4 @@ pub mod Fits
 pub mod Solutions
 pub mod Places
 pub mod Bare
+pub mod Terms
