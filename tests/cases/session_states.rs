@@ -7,7 +7,7 @@ use utvpi_tests::chance::Chance;
 use utvpi_tests::damage::{fault_sets, faulty_line, first_fault};
 use utvpi_tests::decision::Verdict;
 use utvpi_tests::limits::{session_room, LINE_NUMBERS, MOST_LINES, MOST_VARIABLES};
-use utvpi_tests::lines::{lone, zero};
+use utvpi_tests::lines::{lone, misplaced, zero, X};
 use utvpi_tests::make_lists::small;
 use utvpi_tests::second::Answer::{self, Refused};
 use utvpi_tests::session_calls::{both_calls, met, within_a_minute, Pair};
@@ -101,7 +101,7 @@ fn states_with_bad_lines() {
                     Verdict::Refused(first_fault(faults).unwrap(), at)
                 };
                 let mut pair = Pair::at(&mut chance, session);
-                for line in [zero(0), zero(-1), lone(2, 0, 0)] {
+                for line in [zero(0), zero(-1), lone(2, 0, 0), misplaced(1, 0, 0)] {
                     assert_eq!(pair.add(&mut chance, line), due);
                 }
                 for _ in 0..count.min(9) {
@@ -136,6 +136,11 @@ fn changed(chance: &mut Chance) -> Vec<i64> {
             _ => HEAD + chance.below(LINE_NUMBERS * (count + 1)),
         };
         numbers[at] = some_number(chance);
+    }
+    // The first coefficient of a line and its variable are 0.
+    if count > 0 && chance.one_in(8) {
+        let at = HEAD + LINE_NUMBERS * chance.below(count);
+        numbers[at..=at + X].fill(0);
     }
     if chance.one_in(16) {
         numbers.truncate(chance.below(numbers.len()));
@@ -193,7 +198,7 @@ fn any_numbers() {
         }
         println!("{answered} answered, refused by number {refused:?}");
         assert!(answered >= 1_000);
-        for number in [4, 5, 6, 7, 13, 30] {
+        for number in [4, 5, 6, 7, 12, 13, 30] {
             assert!(refused[number] >= 100, "refusal {number} in {refused:?}");
         }
     });

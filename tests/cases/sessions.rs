@@ -7,7 +7,7 @@ use utvpi_tests::chance::Chance;
 use utvpi_tests::damage::{fault_sets, faulty_line};
 use utvpi_tests::decision::{Reason, Solved, Verdict};
 use utvpi_tests::limits::{MOST_LINES, MOST_N, MOST_VARIABLES};
-use utvpi_tests::lines::{line, lone, zero, Line, BOUND};
+use utvpi_tests::lines::{line, lone, misplaced, zero, Line, BOUND};
 use utvpi_tests::make::left_side;
 use utvpi_tests::make_lists::{near_zero, small, tied};
 use utvpi_tests::second::Answer::Refused;
@@ -115,7 +115,7 @@ fn random_sequences() {
             some_call(&mut chance, &mut pair, line, &mut seen);
         }
     }
-    seen.must_include(&[4, 5, 6, 7, 8, 13, 30, 31]);
+    seen.must_include(&[4, 5, 6, 7, 8, 12, 13, 30, 31]);
 }
 
 /// A line that is added and taken away leaves every number as it was, and adding it
@@ -246,7 +246,7 @@ fn after_a_no() {
         }
         for _ in 0..3 {
             assert_eq!(pair.add(&mut chance, clash), Verdict::No(reason));
-            for line in [zero(0), zero(-1), clash, lone(2, 0, 0)] {
+            for line in [zero(0), zero(-1), clash, lone(2, 0, 0), misplaced(1, 0, 0)] {
                 let verdict = pair.add(&mut chance, line);
                 assert_eq!(verdict, Verdict::Refused(30, 0));
             }
@@ -290,7 +290,7 @@ fn the_most_lines() {
         let mut pair = Pair::at(&mut chance, session);
         for _ in 0..2 {
             assert!(matches!(pair.add(&mut chance, zero(0)), Verdict::Yes(_)));
-            for line in [zero(0), zero(-1), lone(2, -1, 0)] {
+            for line in [zero(0), zero(-1), lone(2, -1, 0), misplaced(1, 0, 0)] {
                 assert_eq!(pair.add(&mut chance, line), Verdict::Refused(3, 0));
                 let verdict = add_short(&mut chance, &mut pair, line);
                 assert_eq!(verdict, Verdict::Refused(3, 0));
