@@ -28,7 +28,7 @@ module _ (ls ms : List Line) (same : SameSolutions ls ms) where
   least-too (inl a) = inl (record { bounds = λ t h. a .bounds t (from t h); taken-by = a .taken-by; solves = to _ (a .solves); taken = a .taken })
   least-too (inr a) = inr (record { beyond = λ z. let t = a .0 .beyond z in (t .0, to _ (t .1), t .2) }, a .1)
 
-  greatest-too : {form : Form} {z : ℤ} → GreatestWritten ls form z → GreatestWritten ms form z
+  pub greatest-too : {form : Form} {z : ℤ} → GreatestWritten ls form z → GreatestWritten ms form z
   greatest-too (inl a) = inl (record { bounds = λ t h. a .bounds t (from t h); taken-by = a .taken-by; solves = to _ (a .solves); taken = a .taken })
   greatest-too (inr a) = inr (record { beyond = λ z. let t = a .0 .beyond z in (t .0, to _ (t .1), t .2) }, a .1)
 
