@@ -8,4 +8,7 @@ pub mod Exists
 pub mod Shown
 pub mod Accepted
 pub mod Pieces
+pub mod PairCalls
+pub mod ImpliedVersions
 pub mod Demands
+pub mod Implied
