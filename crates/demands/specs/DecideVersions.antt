@@ -176,11 +176,11 @@ abbrev room : ℕ → Lent
 room n = roomWith n 0
 
 -- x at most 5
-abbrev atMost5 : List ℤ
+abbrev pub atMost5 : List ℤ
 atMost5 = pos 1 ∷ pos 0 ∷ pos 0 ∷ pos 0 ∷ pos 5 ∷ pos 0 ∷ []
 
 -- x and y equal
-abbrev equalPair : List ℤ
+abbrev pub equalPair : List ℤ
 equalPair =
     pos 1 ∷ pos 0 ∷ negℤ (pos 1) ∷ pos 1 ∷ pos 0 ∷ pos 0
     ∷ negℤ (pos 1) ∷ pos 0 ∷ pos 1 ∷ pos 1 ∷ pos 0 ∷ pos 0

@@ -10,8 +10,11 @@ pub mod Shown
 pub mod Accepted
 pub mod Pieces
 pub mod Program
+pub mod PairCalls
+pub mod ImpliedVersions
 pub mod Demands
 pub mod Exported
 pub mod Files
 pub mod SessionVersions
 pub mod Sessions
+pub mod Implied

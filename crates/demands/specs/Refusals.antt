@@ -4,30 +4,35 @@
 use mathlib.Core.Path.{_≡_}
 use mathlib.Core.Logic.{_⊎_}
 use mathlib.Core.List.{List, [], _∷_, _++_}
-use Prim.Native.Nat.{ℕ, zero, suc, _+_, _*_, _%_, _<_}
+use Prim.Native.Nat.{ℕ, zero, suc, _+_, _*_, _%_, _<_, _≤_}
 use lib.IntN.{ℤ, pos, negℤ}
 use lib.ListN.{length}
 use Rattle.integers.specs.Integer.{_⩽_, _⋖_}
 use Rattle.lines.specs.declared.Line.{Line}
 use Rattle.lines.specs.declared.Refusal.{Refusal}
-use Rattle.lines.specs.declared.Refusal.the-variants.{TooManyVariables, BrokenLength, TooManyLines, BadCoefficient, BadVariable, MisplacedCoefficient, BadConstant, BadIdentifier, WrongModelLength, BadValue, LongRefutation}
+use Rattle.lines.specs.declared.Refusal.the-variants.{TooManyVariables, BrokenLength, TooManyLines, BadCoefficient, BadVariable, MisplacedCoefficient, BadConstant, BadIdentifier, ShortWorkArea, WrongModelLength, BadValue, LongRefutation}
 use Rattle.lines.specs.Limits.{lineSize, maxVariables, maxLines, maxConstant, maxIdentifier, maxValue, maxRefutation}
 use Rattle.lines.specs.Line.{number, lineAt, lineCount}
 use Rattle.little_endian.specs.Bytes.{int32s, int64s}
 use Rattle.check_answers.specs.declared.CheckAnswer.the-variants as check
-use Rattle.decide_buffers.specs.Room.{Lent, Lengths, lengthsOf, Room, lentRooms}
+use Rattle.decide_buffers.specs.Room.{Lent, Lengths, lengthsOf, Room, workRoom, lentRooms}
 use Rattle.check_model.specs.Model.{modelAnswer}
 use Rattle.check_refutation.specs.Answer.{refutationAnswer}
 use Rattle.decide.specs.declared.Answer.the-variants as decide
 use Rattle.decide.specs.Decided.{answerFor}
+use Rattle.implied_pair.specs.declared.PairOutcome.the-variants as implied
+use Rattle.implied_pair.specs.Pair.{pairCall}
 use Rattle.c_codes.specs.CheckCode.{checkCode}
 use Rattle.c_codes.specs.ListBytes.{numberBytes}
 use Rattle.c_checking.specs.Calls.{valueBytes, modelOfBytes, refutationOfBytes, checkModel, checkRefutation}
 use Rattle.c_deciding.specs.Calls.{decideCode}
+use Rattle.c_implied.specs.Calls.{outcomeCode}
 
--- What is asked, for n variables: to decide a list, with these lent buffers; to check a model of a list, or a refutation; and from C both checks on bytes.
+-- What is asked, for n variables: to decide a list, with these lent buffers; what two variables of a list imply about each other, with this work area; to
+-- check a model of a list, or a refutation; and from C both checks on bytes.
 pub data Asked : Type 0 where
   deciding : (n : ℕ) (list : List ℤ) (lent : Lent) → Asked
+  asking-pair : (n : ℕ) (list : List ℤ) (x y : ℕ) (work : List ℤ) → Asked
   checking-model : (n : ℕ) (list values : List ℤ) → Asked
   checking-refutation : (n : ℕ) (list : List ℤ) (numbers : List ℕ) → Asked
   checking-model-bytes : (n : ℕ) (list values : List ℕ) → Asked
@@ -98,9 +103,14 @@ abbrev pub roomsTable : List Room → ℕ → Lengths → List Row
 roomsTable [] n s = []
 roomsTable (r ∷ rs) n s = r .refusal when (r .size s < r .room n) ∷ roomsTable rs n s
 
--- then 7, 8 for deciding, 9, 10 for a model, 11 for a refutation
+-- 5, at place 0 for x and at place 1 for y: a variable that the list has not; then 8
+abbrev pub pairTable : ℕ → ℕ → ℕ → ℕ → List Row
+pairTable n x y size = BadVariable 0 when (n ≤ x) ∷ BadVariable 1 when (n ≤ y) ∷ ShortWorkArea when (size < workRoom n) ∷ []
+
+-- then 7, 8 for deciding, 5, 8 for a pair, 9, 10 for a model, 11 for a refutation
 abbrev pub refusalTable : Asked → List Row
 refusalTable (deciding n L lent) = listTable n L ++ roomsTable lentRooms n (lengthsOf lent)
+refusalTable (asking-pair n L x y w) = listTable n L ++ pairTable n x y (length w)
 refusalTable (checking-model n L m) = listTable n L ++ WrongModelLength when (length m ≡ n → ⊥) ∷ valuesTable m
 refusalTable (checking-refutation n L R) = listTable n L ++ LongRefutation when (maxRefutation < length R) ∷ []
 refusalTable (checking-model-bytes n b m) = bytesTable n b ++ WrongModelLength when (length m ≡ valueBytes * n → ⊥) ∷ valuesTable (int64s m)
@@ -123,6 +133,7 @@ pub record FirstApplies (rows : List Row) (r : Refusal) : Type 1 where
 -- ---- what is answered
 abbrev pub IsRefused : Asked → Refusal → Type 0
 IsRefused (deciding n L lent) r = answerFor n L lent ≡ decide.Refused r
+IsRefused (asking-pair n L x y w) r = pairCall n L x y w .answer .outcome ≡ implied.Refused r
 IsRefused (checking-model n L m) r = modelAnswer n L m ≡ check.Refused r
 IsRefused (checking-refutation n L R) r = refutationAnswer n L R ≡ check.Refused r
 IsRefused (checking-model-bytes n b m) r = modelOfBytes n b m ≡ check.Refused r
@@ -131,6 +142,7 @@ IsRefused (checking-refutation-bytes n b R) r = refutationOfBytes n b R ≡ chec
 -- the number that stands for the answer in C
 abbrev pub returned : Asked → ℤ
 returned (deciding n L lent) = decideCode (answerFor n L lent)
+returned (asking-pair n L x y w) = outcomeCode (pairCall n L x y w .answer .outcome)
 returned (checking-model n L m) = checkCode (modelAnswer n L m)
 returned (checking-refutation n L R) = checkCode (refutationAnswer n L R)
 returned (checking-model-bytes n b m) = checkModel n b m

@@ -6,9 +6,9 @@ use mathlib.Core.Path.{_≡_, refl, ap, subst}
 use mathlib.Core.Logic.{_↔_, _⊎_, inl, inr, ⊎-elim, Iff·rfl, Iff·trans}
 use mathlib.Core.Bool.{Bool, true, false, not, cond, _&&_, false≢true}
 use mathlib.Core.List.{List, [], _∷_, _++_}
-use Prim.Native.Nat.{ℕ, zero, suc, _+_, _*_, _/_, _%_, _<_}
+use Prim.Native.Nat.{ℕ, zero, suc, _+_, _*_, _/_, _%_, _<_, _≤_}
 use native.Mathlib.Omega.{arith}
-use borrow.Author.Tests.{ltb-true, lt-ltb, eqb-true, eq-eqb, not-true}
+use borrow.Author.Tests.{ltb-true, ltb-false, lt-ltb, le-ltb, eqb-true, eq-eqb, not-true}
 use lib.Dec.{eqb, ltb}
 use lib.IntN.{ℤ, pos, negsuc, negℤ}
 use lib.ListN.{length, drop}
@@ -28,8 +28,8 @@ use Rattle.lines.specs.Laws.{validity-from, validity-past}
 use Rattle.check_answers.specs.declared.CheckAnswer.{CheckAnswer}
 use Rattle.check_answers.specs.declared.CheckAnswer.the-variants as check
 use Rattle.check_answers.specs.Answer.{NotRefused, unlessRefused, refused-when}
-use Rattle.decide_buffers.specs.Room.{Lent, Lengths, lengthsOf, Room, lentRooms, firstShort, roomsValidity, decideValidity}
-use Rattle.theory_bounds.specs.Verdict.{verdictOf}
+use Rattle.decide_buffers.specs.Room.{Lent, Lengths, lengthsOf, Room, workRoom, lentRooms, firstShort, roomsValidity, decideValidity}
+use Rattle.theory_bounds.specs.Verdict.{distances, verdictOf}
 use Rattle.little_endian.specs.Bytes.{le32, int32, int64, int32s, nat32s, int64s, length-firstOf}
 use Rattle.check_model.specs.Model.{valuesValidity, modelValidity}
 use Rattle.check_model.specs.Laws.{values-from, values-past}
@@ -41,7 +41,10 @@ use Rattle.check_refutation.specs.Answer.{refutationValidity, verdict, refutati
 use Rattle.check_refutation.specs.Places as refutation-places
 use Rattle.decide.specs.declared.Answer.the-variants as decide
 use Rattle.decide.specs.Decided as decision
-use Rattle.decide.specs.Decided.{decideAnswer, answerFor, validityFor}
+use Rattle.decide.specs.Decided.{cleared, decideAnswer, answerFor, validityFor}
+use Rattle.implied_pair.specs.declared.PairOutcome.the-variants as implied
+use Rattle.implied_pair.specs.Pair as pair
+use Rattle.implied_pair.specs.Pair.{pairIn, pairValidity, called, judged, pairCall}
 use Rattle.c_codes.specs.Codes.{refusalUnit, refusalCode}
 use Rattle.c_codes.specs.CheckCode.{checkCode, answers-apart}
 use Rattle.c_codes.specs.ListBytes.{numberBytes, bytesValidity}
@@ -49,7 +52,9 @@ use Rattle.c_checking.specs.Calls.{valueBytes, modelOfValues, refutationOfNumbe
 use Rattle.c_checking.specs.Laws.{model-bytes-below, refutation-bytes-below}
 use Rattle.c_deciding.specs.Calls.{decideCode}
 use Rattle.c_deciding.specs.Laws.{decision-below, decisions-apart}
-use Rattle.demands.specs.Refusals.{Asked, deciding, checking-model, checking-refutation, checking-model-bytes, checking-refutation-bytes, IsCoefficient, WrongVariable, LoneSecond, WrongIdentifier, Outside, Row, _when_, rowsFrom, lineTable, linesTable, listTable, bytesTable, valuesTable, roomsTable, refusalTable, NoneApplies, FirstApplies, IsRefused, returned}
+use Rattle.c_implied.specs.Calls.{outcomeCode}
+use Rattle.c_implied.specs.Laws.{pair-below, outcomes-apart}
+use Rattle.demands.specs.Refusals.{Asked, deciding, asking-pair, checking-model, checking-refutation, checking-model-bytes, checking-refutation-bytes, IsCoefficient, WrongVariable, LoneSecond, WrongIdentifier, Outside, Row, _when_, rowsFrom, lineTable, linesTable, listTable, bytesTable, valuesTable, roomsTable, refusalTable, NoneApplies, FirstApplies, IsRefused, returned}
 
 -- ---- a validity, read along the rows
 pub data Gives : List Row → Validity → Type 1 where
@@ -145,6 +150,9 @@ true-test t = Iff·rfl
 
 pub less-test : (a b : ℕ) → Tells (ltb a b) (a < b)
 less-test a b = (ltb-true a b, lt-ltb a b)
+
+at-most-test : (a b : ℕ) → Tells (not (ltb a b)) (b ≤ a)
+at-most-test a b = ((λ e. ltb-false a b (not-true (ltb a b) e)), (λ h. rw (le-ltb a b h)))
 
 unequal-test : (a b : ℕ) → Tells (not (eqb a b)) (a ≡ b → ⊥)
 unequal-test a b = not-test (eqb-true a b, eq-eqb a b)
@@ -265,6 +273,7 @@ module _ (n : ℕ) (b : List ℕ) where
 -- the first refusal that applies, as it is computed
 abbrev pub computed : Asked → Validity
 computed (deciding n L lent) = validityFor n L lent
+computed (asking-pair n L x y w) = pairValidity n L x y (length w)
 computed (checking-model n L m) = modelValidity n L m
 computed (checking-refutation n L R) = refutationValidity n L R
 computed (checking-model-bytes n b m) =
@@ -275,8 +284,10 @@ computed (checking-refutation-bytes n b R) =
     orElse cond (eqb (length R % numberBytes) 0) (refutationValidity n (int32s b) (nat32s R)) Valid
 
 table-gives : (a : Asked) → Gives (refusalTable a) (computed a)
-unfolding decideValidity roomsValidity modelValidity refutationValidity
+unfolding decideValidity roomsValidity pairValidity modelValidity refutationValidity
 table-gives (deciding n L lent) = gives-or (list-gives n L) (rooms-give lentRooms n (lengthsOf lent))
+table-gives (asking-pair n L x y w) =
+    gives-or (list-gives n L) (gives-row (at-most-test x n) (gives-row (at-most-test y n) (gives-last (less-test (length w) (workRoom n)))))
 table-gives (checking-model n L m) = gives-or (list-gives n L) (gives-row (unequal-test (length m) n) (values-give m))
 table-gives (checking-refutation n L R) = gives-or (list-gives n L) (gives-last (less-test maxRefutation (length R)))
 table-gives (checking-model-bytes n b m) =
@@ -312,6 +323,16 @@ decision-refused n L lent r = (fore (validityFor n L lent) (verdictOf n (linesOf
     fore Valid false e = never (cc)
     fore (Refused q) t e = cc
 
+pair-refused : (n : ℕ) (L : List ℤ) (x y : ℕ) (w : List ℤ) (r : Refusal)
+    → (pairCall n L x y w .answer .outcome ≡ implied.Refused r) ↔ (pairValidity n L x y (length w) ≡ Refused r)
+unfolding pairCall
+pair-refused n L x y w r = (fore (pairValidity n L x y (length w)) (verdictOf n (linesOf L)), (λ e. rw e))
+  where
+    fore : (v : Validity) (t : Bool) → pair.unlessRefused v (called (judged t (pairIn (distances n (linesOf L)) x y)) (cleared n w)) w .answer .outcome ≡ implied.Refused r → v ≡ Refused r
+    fore Valid true e = never (cc)
+    fore Valid false e = never (cc)
+    fore (Refused q) t e = cc
+
 refutation-refused : (n : ℕ) (L : List ℤ) (R : List ℕ) (r : Refusal) → (refutationAnswer n L R ≡ check.Refused r) ↔ (refutationValidity n L R ≡ Refused r)
 unfolding refutationAnswer verdict
 refutation-refused n L R = refused-when (refutationValidity n L R) (verdict (run L start R)) (either NotRefused (accepted (run L start R)) tt tt)
@@ -323,6 +344,7 @@ check-unless (Refused q) v a r h = ((λ e. cc), (λ e. cc))
 answer-refused : (a : Asked) (r : Refusal) → IsRefused a r ↔ (computed a ≡ Refused r)
 unfolding modelOfBytes modelOfValues refutationOfBytes refutationOfNumbers
 answer-refused (deciding n L lent) r = decision-refused n L lent r
+answer-refused (asking-pair n L x y w) r = pair-refused n L x y w r
 answer-refused (checking-model n L m) r = refused-exactly n L m r
 answer-refused (checking-refutation n L R) r = refutation-refused n L R r
 answer-refused (checking-model-bytes n b m) r =
@@ -360,6 +382,7 @@ list-valid n L = gives-valid (list-gives n L)
 -- the number returned is a refusal's exactly if that refusal is given
 pub code-refused : (a : Asked) (r : Refusal) → placeOf r < refusalUnit → (returned a ≡ refusalCode r) ↔ IsRefused a r
 code-refused (deciding n L lent) r h = (decisions-apart _ (decide.Refused r) (decision-below n L lent) h, ap decideCode)
+code-refused (asking-pair n L x y w) r h = (outcomes-apart _ (implied.Refused r) (pair-below n L x y w) h, ap outcomeCode)
 code-refused (checking-model n L m) r h = (answers-apart _ (check.Refused r) (model-places.answer-below refusalUnit (omega arith) (omega arith) n L m) h, ap checkCode)
 code-refused (checking-refutation n L R) r h = (answers-apart _ (check.Refused r) (refutation-places.answer-below refusalUnit (omega arith) (omega arith) n L R) h, ap checkCode)
 code-refused (checking-model-bytes n b m) r h = (answers-apart _ (check.Refused r) (model-bytes-below n b m) h, ap checkCode)
