@@ -17,7 +17,7 @@ use Rattle.integers.specs.Integer.{_⩽_}
 use Rattle.lines.specs.declared.Refusal.{Refusal}
 use Rattle.lines.specs.Limits.{absentGreatest}
 use Rattle.lines.specs.Line.{linesOf, Solvable, SameSolutions}
-use Rattle.lines.specs.Valid.{valid-list}
+use Rattle.lines.specs.Valid.{valid-list, workable}
 use Rattle.theory_bounds.specs.Verdict.{verdictOf}
 use Rattle.theory_answers.specs.Semantics.{valueOf, sumOf, IsGreatest, NoGreatest}
 use Rattle.theory_answers.specs.Decided.{yes-solvable, no-unsolvable, solvable-yes, unsolvable-no}
@@ -79,9 +79,10 @@ pair-of {n} {L} {x} {y} c i =
 pub right-pair : (n : ℕ) (L : List ℤ) (x y : ℕ) (c : PairAsked n L x y) → RightPair n L x y c
 right-pair n L x y c =
     let o = asked-ok c in
+    let works = workable n L (o .list) in
     record {
-      implied-exactly = ((λ i. yes-solvable n L (o .list) (implied-verdict c i)), (λ s. verdict-implied c (solvable-yes n L (o .list) s)));
-      unsolvable-exactly = ((λ i. no-unsolvable n L (o .list) (unsolvable-verdict c i)), (λ f. verdict-unsolvable c (unsolvable-no n L (o .list) f)));
+      implied-exactly = ((λ i. yes-solvable n L works (implied-verdict c i)), (λ s. verdict-implied c (solvable-yes n L works s)));
+      unsolvable-exactly = ((λ i. no-unsolvable n L works (unsolvable-verdict c i)), (λ f. verdict-unsolvable c (unsolvable-no n L works f)));
       zeros = λ i. ap (λ (a : PairAnswer). a .pair) (asked-answer c false (unsolvable-verdict c i));
       greatest = pair-of c;
       absent = λ i s u hs hu. absent-exactly n L (o .list) (implied-verdict c i) x y (o .x-below) (o .y-below) (c .answer .pair) (pair-of c i) s u hs hu;
@@ -118,7 +119,7 @@ pair-stays-or-falls n L M x y c d i =
     let k = asked-ok d in
     let more = longer-entails L M (valid-list n L (o .list) .whole) in
     let v = implied-verdict d i in
-    let j = verdict-implied c (yes-before n L (L ++ M) (o .list) (k .list) more v) in
+    let j = verdict-implied c (yes-before n L (L ++ M) (workable n L (o .list)) (workable n (L ++ M) (k .list)) more v) in
     (j, number-falls n (L ++ M) (k .list) v x y (k .x-below) (k .y-below) L more (c .answer .pair) (d .answer .pair) (pair-of c j) (pair-of d i))
 
 -- Answers depend on the solutions alone: two lists with the same solutions have the same answer, whatever stood in the work area.
@@ -126,7 +127,7 @@ pub pair-by-solutions-alone : (n : ℕ) (L M : List ℤ) (x y : ℕ) (c : PairAs
 pair-by-solutions-alone n L M x y c d same = go (verdictOf n (linesOf L)) refl
   where
     verdicts : verdictOf n (linesOf L) ≡ verdictOf n (linesOf M)
-    verdicts = same-verdict n L M (asked-ok c .list) (asked-ok d .list) same
+    verdicts = same-verdict n L M (workable n L (asked-ok c .list)) (workable n M (asked-ok d .list)) same
 
     go : (t : Bool) → verdictOf n (linesOf L) ≡ t → c .answer ≡ d .answer
     go false e = asked-answer c false e ∙ sym (asked-answer d false (sym verdicts ∙ e))

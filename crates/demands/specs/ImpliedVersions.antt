@@ -9,7 +9,7 @@ use Rattle.integers.specs.Laws.{never}
 use Rattle.lines.specs.declared.Line.{Line}
 use Rattle.lines.specs.Limits.{absentGreatest}
 use Rattle.lines.specs.Line.{lineAt, linesOf, isFalse}
-use Rattle.lines.specs.Refusal.{coefficientsOk, variableOk, variablesOk, constantOk, identifierOk, linesValidity, validityOf}
+use Rattle.lines.specs.Refusal.{lineTests, linesValidity, validityOf}
 use Rattle.steps.specs.Point.{point, opposite}
 use Rattle.steps.specs.Table.{entry, digit}
 use Rattle.steps.specs.Step.{stepOf, stepsOf}
@@ -62,7 +62,7 @@ swapsRows = giving swapped
 
 -- x at most 5, asked with itself: x + x has 10 and x − x has 0, but −x + x has 0 and −x − x none
 pub swaps-rows-breaks : Keeps swapsRows → ⊥
-unfolding swapsRows pairCall pairValidity validityOf linesValidity coefficientsOk variableOk variablesOk constantOk identifierOk lineAt isFalse verdictOf hasFalse noNegative consistentHalves
+unfolding swapsRows pairCall pairValidity validityOf linesValidity lineTests lineAt isFalse verdictOf hasFalse noNegative consistentHalves
     entry digit stepOf stepsOf relaxRow startRow rounds rowAt best opposite halves tight
 swaps-rows-breaks k = let e : pos 0 ∷ absentGreatest ∷ [] ≡ pos 10 ∷ pos 0 ∷ [] = ap plusRow (k 1 atMost5 0 0 (room 1)) in never (cc)
 
@@ -78,7 +78,7 @@ addsBounds = giving added
 
 -- x and y equal: x − y has 0, though neither has a bound
 pub adds-bounds-breaks : Keeps addsBounds → ⊥
-unfolding addsBounds pairCall pairValidity validityOf linesValidity coefficientsOk variableOk variablesOk constantOk identifierOk lineAt isFalse verdictOf hasFalse noNegative consistentHalves
+unfolding addsBounds pairCall pairValidity validityOf linesValidity lineTests lineAt isFalse verdictOf hasFalse noNegative consistentHalves
     entry digit stepOf stepsOf relaxRow startRow rounds rowAt best opposite halves tight
 adds-bounds-breaks k =
     let e : absentGreatest ≡ pos 0 = ap (λ (c : PairCall). getD (plusRow c) 1 (pos 0)) (k 2 equalPair 0 1 (room 2)) in
@@ -92,6 +92,6 @@ pub absentForAll : Version
 absentForAll = giving (λ D x y. record { plus = absentRow; minus = absentRow })
 
 pub absent-for-all-breaks : Keeps absentForAll → ⊥
-unfolding absentForAll pairCall pairValidity validityOf linesValidity coefficientsOk variableOk variablesOk constantOk identifierOk lineAt isFalse verdictOf hasFalse noNegative consistentHalves
+unfolding absentForAll pairCall pairValidity validityOf linesValidity lineTests lineAt isFalse verdictOf hasFalse noNegative consistentHalves
     entry digit stepOf stepsOf relaxRow startRow rounds rowAt best opposite halves tight
 absent-for-all-breaks k = let e : absentRow ≡ pos 10 ∷ pos 0 ∷ [] = ap plusRow (k 1 atMost5 0 0 (room 1)) in never (cc)
