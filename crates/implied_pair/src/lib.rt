@@ -12,7 +12,7 @@ use lines::list_validity;
 use steps::opposite_of;
 ghost use mathlib.Core.Path.{_≡_};
 ghost use Prim.Native.Nat.{_*_, _<_};
-ghost use Rattle.steps.specs.Point.{point, opposite};
+ghost use Rattle.steps.specs.Point.{opposite};
 ghost use Rattle.theory_bounds.specs.Tight.{tight};
 ghost use Rattle.decide_rows.specs.Stored.{stored};
 ghost use Rattle.decide_stored_table.specs.Table.{tableOf, ShortTable};
