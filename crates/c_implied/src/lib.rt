@@ -48,5 +48,9 @@ pub extern "C" fn utvpi_implied_pair(
     let plus = pair.plus;
     let minus = pair.minus;
     let result = outcome_code(outcome);
-    CPair { result, plus, minus }
+    CPair {
+        result,
+        plus,
+        minus,
+    }
 }

@@ -6,7 +6,6 @@ use native.Mathlib.Omega.{arith}
 use lib.IntN.{ℤ, pos}
 use lib.ListN.{length, getD, replicate}
 use Rattle.integers.specs.Laws.{never}
-use Rattle.lines.specs.declared.Line.{Line}
 use Rattle.lines.specs.Limits.{absentGreatest}
 use Rattle.lines.specs.Line.{lineAt, linesOf, isFalse}
 use Rattle.lines.specs.Refusal.{lineTests, linesValidity, validityOf}

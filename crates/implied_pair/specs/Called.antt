@@ -26,7 +26,6 @@ use Rattle.decide.specs.Decided.{cleared, used-room, cleared-is}
 use Rattle.implied_pair.specs.declared.Pair.{Pair}
 use Rattle.implied_pair.specs.declared.PairOutcome.{PairOutcome}
 use Rattle.implied_pair.specs.declared.PairOutcome.the-variants.{Implied, Unsolvable, Refused}
-use Rattle.implied_pair.specs.declared.PairAnswer.{PairAnswer}
 use Rattle.implied_pair.specs.Pair.{pairIn, noPair, pairValidity, PairCall, called, judged, unlessRefused, pairCall}
 use Rattle.implied_pair.specs.Reading.{pair-agrees}
 

@@ -18,7 +18,7 @@ use Rattle.decide_buffers.specs.Room.{workRoom}
 use Rattle.implied_pair.specs.declared.Pair.{Pair}
 use Rattle.implied_pair.specs.declared.PairOutcome.{PairOutcome}
 use Rattle.implied_pair.specs.declared.PairOutcome.the-variants.{Implied, Unsolvable, Refused}
-use Rattle.implied_pair.specs.Pair.{pairValidity, PairCall, called, judged, unlessRefused, pairCall}
+use Rattle.implied_pair.specs.Pair.{pairValidity, called, judged, unlessRefused, pairCall}
 
 abbrev pub Below : ℕ → PairOutcome → Type 0
 Below m Implied = Unit {0}

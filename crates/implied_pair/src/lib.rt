@@ -12,7 +12,7 @@ use lines::list_validity;
 use steps::opposite_of;
 ghost use mathlib.Core.Path.{_≡_};
 ghost use Prim.Native.Nat.{_*_, _<_};
-ghost use Rattle.steps.specs.Point.{point, opposite};
+ghost use Rattle.steps.specs.Point.{opposite};
 ghost use Rattle.theory_bounds.specs.Tight.{tight};
 ghost use Rattle.decide_rows.specs.Stored.{stored};
 ghost use Rattle.decide_stored_table.specs.Table.{tableOf, ShortTable};
@@ -106,18 +106,27 @@ pub fn implied_pair(n: usize, list: &[i32], x: usize, y: usize, work: &mut [i64]
     let found = pair_validity(n, list, x, y, work.len());
     if let Validity::Refused(r) = found {
         let pair = no_pair();
-        return PairAnswer { outcome: PairOutcome::Refused(r), pair };
+        return PairAnswer {
+            outcome: PairOutcome::Refused(r),
+            pair,
+        };
     }
     let room = work_room(n);
     let mut refutation = [0; MOST_REFUTATION];
     if refuted(list, n, &mut refutation, work) {
         clear(work, room);
         let pair = no_pair();
-        return PairAnswer { outcome: PairOutcome::Unsolvable, pair };
+        return PairAnswer {
+            outcome: PairOutcome::Unsolvable,
+            pair,
+        };
     }
     let size = 2 * n;
     let start = (size + 1) * size;
     let pair = pair_in(&work[start..start + size * size], n, x, y);
     clear(work, room);
-    PairAnswer { outcome: PairOutcome::Implied, pair }
+    PairAnswer {
+        outcome: PairOutcome::Implied,
+        pair,
+    }
 }
