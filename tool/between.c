@@ -25,7 +25,7 @@ static bool can_reach(struct list *list, struct point one, struct point other, i
                       int expected)
 {
     int64_t line[UTVPI_LINE_NUMBERS] = {-one.sign, (int64_t)one.variable, -other.sign,
-                                        (int64_t)other.variable, -value};
+                                        (int64_t)other.variable, turned(value)};
     return is_answered(list, line, expected);
 }
 

@@ -33,15 +33,14 @@ static bool is_implied(struct list *list, const int32_t *line)
     return is_answered(list, opposite, STATUS_NO);
 }
 
-/* Prints values that meet the rules and break a line of the one asked about, once they
- * are found to do so. */
-static int answer_broken(const struct list *list, const int32_t *line)
+/* Prints the values, and that they break a line of the rule asked about. */
+static void print_broken_line(const struct list *list, const int32_t *line)
 {
-    if (!values_hold(list, (size_t)list->variables, model)) {
-        return disagree("the library answered no, but its values fail the library's own check");
-    }
-    if (left_side(line, model) <= line[BOUND]) {
-        return disagree("the library answered no, but its values meet the rule");
+    if (list->variables == 0) {
+        fputs("No. There are no events, and no rule is false but ", stdout);
+        show(stdout, list->at_hand.rule);
+        puts(".");
+        return;
     }
     fputs("No. These values meet all the rules, but not ", stdout);
     show(stdout, list->at_hand.rule);
@@ -51,6 +50,19 @@ static int answer_broken(const struct list *list, const int32_t *line)
     print_terms(list, line, 1);
     printf(" <= %" PRId32 ", but there it is %" PRId64 ".\n", line[BOUND],
            left_side(line, model));
+}
+
+/* Says that a line of the rule asked about is not implied, once the values are found to
+ * meet the rules and to break it. */
+static int answer_broken(const struct list *list, const int32_t *line)
+{
+    if (!values_hold(list, (size_t)list->variables, model)) {
+        return disagree("the library answered no, but its values fail the library's own check");
+    }
+    if (left_side(line, model) <= line[BOUND]) {
+        return disagree("the library answered no, but its values meet the rule");
+    }
+    print_broken_line(list, line);
     return STATUS_NO;
 }
 

@@ -14,7 +14,7 @@ const char event_advice[] =
  * is one that the library takes. */
 static void name_events(struct list *list)
 {
-    static char named[UTVPI_MOST_VARIABLES][24];
+    static char named[UTVPI_MOST_VARIABLES][MOST_NAME + 1];
     for (size_t v = 0; list->form != FORM_NAMES && v < list->variables; v++) {
         int length = snprintf(named[v], sizeof named[v], "x%zu", v);
         list->names[v] = (struct text){named[v], (size_t)length};
