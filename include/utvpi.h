@@ -1,11 +1,12 @@
 /* The C interface: a function that decides a list, and two that check a proposed
  * model of a list, and a proposed refutation of a list; a check of a refutation that
  * arrives in pieces, three functions for sessions, in which lines come one at a time,
- * and two for lists in files. A program links one file, libutvpi.a, which
- * ./build-library makes in target/lib/.
+ * two that say what a list implies, about two variables or of one line more, and two
+ * for lists in files. A program links one file, libutvpi.a, which ./build-library makes
+ * in target/lib/.
  *
- * Deciding and sessions take and write numbers, as the machine holds them. The two
- * checks take bytes, the lowest byte of each number first.
+ * Deciding, sessions and what a list implies take and write numbers, as the machine
+ * holds them. The two checks take bytes, the lowest byte of each number first.
  *
  * A LIST has n variables, numbered 0 to n-1, each standing for a whole number,
  * and lines of the form  a*x + b*y <= d.  A line is UTVPI_LINE_NUMBERS signed
@@ -15,7 +16,7 @@
  *     x   the number of its variable; 0 where a is 0
  *     b   the second coefficient: -1, 0 or 1; 0 where a is 0
  *     y   the number of its variable; 0 where b is 0
- *     d   the bound, from -1,000,000 to 1,000,000
+ *     d   the bound, from -UTVPI_MOST_BOUND to UTVPI_MOST_BOUND
  *     identifier   of the message that the line came from, from 0 to
  *         UTVPI_MOST_IDENTIFIER, all 29 bits of it; 0 where there is none. It
  *         changes no answer, and comes back with a refutation.
@@ -68,17 +69,21 @@
 extern "C" {
 #endif
 
-/* Deciding, checking and sessions return one number:
+/* Deciding, checking, sessions and what a list implies return one number; of two
+ * variables it is the result of a struct:
  *
- *     0                              yes; of starting a session and of withdrawing a
- *                                    line, that it was done
- *     1,000,000 + k                  no. For deciding, and for a line added to a
- *                                    session, k is always 0. For a model, k is the
- *                                    first line that it does not meet.
+ *     0                              yes; of starting a session, of withdrawing a line
+ *                                    and of two variables, that it was done
+ *     1,000,000 + k                  no. For deciding, for a line added to a session
+ *                                    and for a line that may be implied, k is always
+ *                                    0. For a model, k is the first line that it does
+ *                                    not meet.
  *                                    For a refutation, k is the index of the
  *                                    first number that is wrong: see WHERE A
  *                                    REFUTATION BREAKS. Lines and indexes count
  *                                    from 0.
+ *     2,000,000                      of what a list implies: the list can't be met, so
+ *                                    that there is nothing to say
  *     -(refusal * 100,000 + place)   a refusal: there is no answer. The refusal
  *                                    is one of the numbers below; the place is
  *                                    a line, an index or a buffer where the
@@ -96,21 +101,15 @@ extern "C" {
 #define UTVPI_MOST_LINES 4096
 #define UTVPI_MOST_REFUTATION 65536
 
+/* The greatest bound of a line; the least is its opposite. */
+#define UTVPI_MOST_BOUND 1000000
+
 /* The greatest identifier of a message: 29 bits. */
 #define UTVPI_MOST_IDENTIFIER 536870911
 
 /* The numbers of a line, and its bytes. */
 #define UTVPI_LINE_NUMBERS 6
 #define UTVPI_LINE_BYTES ((size_t)4 * UTVPI_LINE_NUMBERS)
-
-/* The most stack that a call takes, in bytes. utvpi_check_model,
- * utvpi_check_refutation and utvpi_read_list hold the longest list there, however
- * short the one at hand is, utvpi_session_add holds it and one line more, and
- * utvpi_check_model the longest model; the last part is for all else, and the other
- * calls take no more than that. A thread that calls them needs this much and what it
- * takes itself. No call takes memory from the heap. */
-#define UTVPI_MOST_STACK \
-    (UTVPI_LINE_BYTES * (UTVPI_MOST_LINES + 1) + (size_t)8 * UTVPI_MOST_VARIABLES + (size_t)4096)
 
 /* The room that deciding a list of n variables needs, in numbers, for n up to
  * UTVPI_MOST_VARIABLES. With a constant n these are constants, fit for the
@@ -127,8 +126,20 @@ extern "C" {
 #define UTVPI_WORK_ROOM(n) \
     ((size_t)16 * (size_t)(n) * (size_t)(n) + (size_t)64 * (size_t)(n) + (size_t)64)
 
-/* In the bounds: a variable that has no least value, and one that has no
- * greatest. */
+/* The most stack that a call takes, in bytes. utvpi_check_model,
+ * utvpi_check_refutation and utvpi_read_list hold the longest list there, however
+ * short the one at hand is; utvpi_session_add and utvpi_implied_line hold it and one
+ * line more. utvpi_check_model also holds the longest model, and utvpi_implied_line and
+ * utvpi_implied_pair hold the longest refutation that is handed over, which takes more
+ * than a model; the last part is for all else, and the other calls take no more than
+ * that. A thread that calls them needs this much and what it takes itself. No call takes
+ * memory from the heap. */
+#define UTVPI_MOST_STACK \
+    (UTVPI_LINE_BYTES * (UTVPI_MOST_LINES + 1) + \
+     (size_t)4 * UTVPI_REFUTATION_ROOM(UTVPI_MOST_VARIABLES) + (size_t)4096)
+
+/* In the bounds: a variable that has no least value, and one that has no greatest; so
+ * the latter of a sum of two variables, too. */
 #define UTVPI_NO_LEAST INT64_MIN
 #define UTVPI_NO_GREATEST INT64_MAX
 
@@ -279,7 +290,7 @@ int64_t utvpi_refutation_end(utvpi_progress kept, uint64_t n,
  * state and every buffer are left as they were. */
 #define UTVPI_SESSION_ROOM(n) ((size_t)3 + (size_t)UTVPI_LINE_NUMBERS * UTVPI_MOST_LINES)
 
-/* A line, by value. */
+/* A line, by value. The head of this file says what its numbers are. */
 typedef struct utvpi_line {
     int32_t a, x, b, y, d, identifier;
 } utvpi_line;
@@ -313,6 +324,44 @@ int64_t utvpi_session_add(int64_t *state, size_t state_len, utvpi_line line,
  * It is refused where the numbers are no state, and then as UTVPI_NO_LINES, where there
  * is no line. */
 int64_t utvpi_session_withdraw(int64_t *state, size_t state_len);
+
+/* WHAT A LIST IMPLIES, for all the ways to meet it: how large sums and differences of two
+ * variables can be, and whether a line more would add nothing. Lengths are in numbers. The
+ * list is only read; the pointers are as for utvpi_decide, and the work area is that of
+ * utvpi_decide, with UTVPI_WORK_ROOM(n) numbers, which are 0 after every answer that is
+ * no refusal. On a refusal every buffer is left as it was. */
+
+/* Of two variables, result says whether the list can be met: 0 where it can, else
+ * UTVPI_UNSOLVABLE or a refusal, and then the four numbers are 0. */
+typedef struct utvpi_pair {
+    int64_t result, plus[2], minus[2];
+} utvpi_pair;
+
+/* How large can the sum and the difference of the variables x and y be, with either sign
+ * of each? Over all the ways to meet the list, plus[0] is the greatest value of x + y and
+ * plus[1] that of x - y, minus[0] that of -x + y and minus[1] that of -x - y; where there
+ * is none, UTVPI_NO_GREATEST. So the least value of x + y is -minus[1], and that of x - y
+ * is -minus[0]. x and y may be the same variable: x - x has 0, and x + x twice the
+ * greatest value of x.
+ *
+ * It is refused, in this order: as utvpi_decide refuses the list; as UTVPI_BAD_VARIABLE
+ * at place 0, where x is not below n, and at place 1, where y is not; as
+ * UTVPI_SHORT_WORK_AREA. */
+utvpi_pair utvpi_implied_pair(uint64_t n, const int32_t *list, size_t list_len,
+                              uint64_t x, uint64_t y, int64_t *work, size_t work_len);
+
+/* Does every way to meet the list meet this line, too? 0 for a yes. For a no the model is
+ * written, as utvpi_decide would write it for the list with the opposite line behind it,
+ * -a*x - b*y <= -d - 1, which may have one line more than UTVPI_MOST_LINES, and a bound
+ * one beyond: it meets the list and breaks the line. The room of the model is
+ * UTVPI_MODEL_ROOM(n). UTVPI_UNSOLVABLE where the list can't be met. Only a no writes the
+ * model.
+ *
+ * It is refused, in this order: as utvpi_decide refuses the list; by the rules of a line,
+ * with the number of lines in the list as the place; as UTVPI_SHORT_OUTPUT, place
+ * UTVPI_OUTPUT_MODEL; as UTVPI_SHORT_WORK_AREA. */
+int64_t utvpi_implied_line(uint64_t n, const int32_t *list, size_t list_len, utvpi_line line,
+                           int64_t *model, size_t model_len, int64_t *work, size_t work_len);
 
 /* A FILE for a list is records, each a two-byte length of its body, a two-byte
  * kind and the body, all with the lowest byte first: one of kind 1 and length
@@ -368,19 +417,22 @@ typedef struct utvpi_file_written {
 utvpi_file_written utvpi_write_list(uint64_t n, const int32_t *list, size_t list_len,
                                     uint8_t *out, size_t out_len);
 
-/* A no, as a result: a line's or a place's number is added. And what a refusal's
- * number counts: every place in a result is below it. */
+/* A no, as a result: a line's or a place's number is added. That a list can't be met,
+ * where it is asked what it implies: every no is below it. And what a refusal's number
+ * counts: every place in a result is below it. */
 #define UTVPI_NO 1000000
+#define UTVPI_UNSOLVABLE 2000000
 #define UTVPI_REFUSAL_UNIT 100000
 
 /* What a result says, and its parts. Each takes a result as its argument. */
 #define UTVPI_IS_YES(result) ((result) == 0)
-#define UTVPI_IS_NO(result) ((result) >= UTVPI_NO)
+#define UTVPI_IS_NO(result) ((result) / UTVPI_NO == 1)
+#define UTVPI_IS_UNSOLVABLE(result) ((result) == UTVPI_UNSOLVABLE)
 #define UTVPI_IS_REFUSAL(result) ((result) < 0)
 
 /* Of a no on a model: the first line that it does not meet. Of a no on a
- * refutation: the index of the number where it breaks. Of a no of deciding, both
- * are 0 and say nothing. */
+ * refutation: the index of the number where it breaks. Of any other no, both are 0 and
+ * say nothing. */
 #define UTVPI_NO_LINE(result) ((int)((result) - UTVPI_NO))
 #define UTVPI_NO_PLACE(result) ((int)((result) - UTVPI_NO))
 
@@ -390,9 +442,12 @@ utvpi_file_written utvpi_write_list(uint64_t n, const int32_t *list, size_t list
 
 /* The refusals. Where several apply, the one given is the first of: 1, 2, 3;
  * then line by line from the first, in each line 4, 5, 12, 6, 13; then 7 and 8 for
- * deciding, 9 and 10 for a model, 11 for a refutation. Starting a session gives 1, then
- * 7; adding a line 7 for the state, 30, 3, then for the new line 4, 5, 12, 6, 13, then 7
- * for the other buffers and 8; withdrawing one 7, then 31.
+ * deciding, 9 and 10 for a model, 11 for a refutation; 5 for x, 5 for y and 8 for what
+ * two variables imply; 4, 5, 12, 6, 13 of the line, 7 and 8 for a line that may be
+ * implied. Starting a session gives 1, then 7; adding a line 7 for the state, 30, 3, then
+ * for the new line 4, 5, 12, 6, 13, then 7 for the other buffers and 8; withdrawing one
+ * 7, then 31. The place of a line that is handed over alone is the number of lines in the
+ * list, or in the session.
  */
 enum utvpi_refusal {
     /* n is above UTVPI_MOST_VARIABLES: use fewer variables. */
@@ -413,21 +468,24 @@ enum utvpi_refusal {
     UTVPI_BAD_COEFFICIENT = 4,
 
     /* The line at this place names a variable below 0 or not below n, or has a
-     * variable number other than 0 beside the coefficient 0: correct it. */
+     * variable number other than 0 beside the coefficient 0: correct it. Or, where it is
+     * asked what two variables imply and no line is at fault, x (place 0) or y (place 1)
+     * is not below n: correct that. */
     UTVPI_BAD_VARIABLE = 5,
 
-    /* The bound d of the line at this place is below -1,000,000 or above
-     * 1,000,000: choose a coarser unit, or an origin nearer to the values. */
+    /* The bound d of the line at this place is below -UTVPI_MOST_BOUND or above
+     * UTVPI_MOST_BOUND, 1,000,000: choose a coarser unit, or an origin nearer to the
+     * values. */
     UTVPI_BAD_BOUND = 6,
 
     /* A buffer for output is too short: lend a longer one. The place is the
      * first that is short, one of enum utvpi_output. Or the numbers lent as the state of
-     * a session are none: hand over a state that one of the calls left. Only deciding
-     * and sessions give this. */
+     * a session are none: hand over a state that one of the calls left. Only deciding,
+     * sessions and a line that may be implied give this. */
     UTVPI_SHORT_OUTPUT = 7,
 
     /* The work area is too short: lend one of UTVPI_WORK_ROOM(n) numbers. Only
-     * deciding gives this, and adding a line to a session. */
+     * deciding gives this, adding a line to a session, and what a list implies. */
     UTVPI_SHORT_WORK_AREA = 8,
 
     /* The model is not exactly 8*n bytes: give one value for each variable. */

@@ -6,10 +6,11 @@ mod header;
 
 /// The limits, lengths, kinds and parts of results that the header defines, by their
 /// names without UTVPI_.
-const LIMITS: [&str; 14] = [
+const LIMITS: [&str; 16] = [
     "MOST_VARIABLES",
     "MOST_LINES",
     "MOST_REFUTATION",
+    "MOST_BOUND",
     "MOST_IDENTIFIER",
     "MOST_STACK",
     "LINE_NUMBERS",
@@ -20,6 +21,7 @@ const LIMITS: [&str; 14] = [
     "KIND_END",
     "KIND_IDENTIFIED_LINE",
     "NO",
+    "UNSOLVABLE",
     "REFUSAL_UNIT",
 ];
 

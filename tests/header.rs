@@ -81,7 +81,8 @@ fn defined(header: &str, name: &str) -> String {
 }
 
 /// The formula that the header defines under this name, without its casts to size_t, and
-/// with their own formulas in place of other names.
+/// with their own formulas in place of other names. What stands in brackets behind the
+/// name of a formula of n is put in place of n.
 fn formula(header: &str, name: &str) -> Option<String> {
     let text = header.replace("\\\n", " ");
     let start = format!("#define {name} ");
@@ -91,7 +92,15 @@ fn formula(header: &str, name: &str) -> Option<String> {
         let of_name = |c: char| c.is_ascii_uppercase() || c == '_';
         let behind = formula[at..].find(|c| !of_name(c));
         let end = behind.map_or(formula.len(), |length| at + length);
-        let named = self::formula(header, &formula[at..end])?;
+        let (name, rest) = (&formula[at..end], &formula[end..]);
+        let argument = rest.strip_prefix('(').and_then(|rest| rest.split_once(')'));
+        let (named, end) = match argument {
+            Some((n, _)) => {
+                let of_n = self::formula(header, &format!("{name}(n)"))?;
+                (of_n.replace('n', n), end + n.len() + 2)
+            }
+            None => (self::formula(header, name)?, end),
+        };
         formula.replace_range(at..end, &format!("({named})"));
     }
     let known = |c: char| c.is_ascii_digit() || " n+*()".contains(c);

@@ -63,7 +63,7 @@ static bool groups_exist(size_t n)
 }
 
 /* A number with its sign turned; of an absent bound, the one absent on the other side. */
-static int64_t turned(int64_t number)
+int64_t turned(int64_t number)
 {
     if (number == UTVPI_NO_LEAST || number == UTVPI_NO_GREATEST) {
         return number == UTVPI_NO_LEAST ? UTVPI_NO_GREATEST : UTVPI_NO_LEAST;
@@ -91,14 +91,21 @@ static bool groups_agree(size_t n)
     return true;
 }
 
-/* Prints a yes on the list among n variables, in full or only as such. */
-static int answer_yes(const struct list *list, size_t n, enum manner manner)
+/* Whether the library's check takes these values of n variables for a model of the
+ * list. */
+bool values_hold(const struct list *list, size_t n, const int64_t *values)
 {
     size_t length = pack_list(list);
     for (size_t at = 0; at < n; at++) {
-        pack(model_bytes + 8 * at, (uint64_t)model[at], 8);
+        pack(model_bytes + 8 * at, (uint64_t)values[at], 8);
     }
-    if (!UTVPI_IS_YES(utvpi_check_model(n, list_bytes, length, model_bytes, 8 * n))) {
+    return UTVPI_IS_YES(utvpi_check_model(n, list_bytes, length, model_bytes, 8 * n));
+}
+
+/* Prints a yes on the list among n variables, in full or only as such. */
+static int answer_yes(const struct list *list, size_t n, enum manner manner)
+{
+    if (!values_hold(list, n, model)) {
         return disagree("the library answered yes, but its values fail the library's own check");
     }
     if (!groups_exist(n)) {
@@ -109,7 +116,7 @@ static int answer_yes(const struct list *list, size_t n, enum manner manner)
     }
     if (manner == IN_SHORT) {
         puts("Yes. Whole numbers meet all the rules so far.");
-    } else {
+    } else if (manner != UNPRINTED) {
         print_yes(list, model, bounds, groups);
     }
     return STATUS_YES;
@@ -177,7 +184,7 @@ static int answer_no(const struct list *list, size_t n, enum manner manner)
     }
     if (manner == IN_NUMBERS) {
         print_no_in_numbers((size_t)count - 3);
-    } else {
+    } else if (manner != UNPRINTED) {
         print_no(list, refutation, identifiers, "No. No whole numbers meet all the rules.");
     }
     return STATUS_NO;

@@ -3,6 +3,8 @@
 
 const char help[] =
     "Usage: utvpi [--numbers] [FILE]\n"
+    "       utvpi --between EVENT EVENT [FILE]\n"
+    "       utvpi --implies RULE [FILE]\n"
     "       utvpi --session\n"
     "       utvpi --check REFUTATION [FILE]\n"
     "       utvpi --text [FILE]\n"
@@ -75,6 +77,21 @@ const char help[] =
     "\n";
 
 /* A compiler need not take it all as one string. */
+const char help_of_questions[] =
+    "Two questions are about all the ways to meet the rules in FILE:\n"
+    "\n"
+    "    --between EVENT EVENT   says how far apart two events can be, and how large\n"
+    "                            together: the least and the greatest value of their\n"
+    "                            difference and of their sum, unless there is no limit\n"
+    "    --implies RULE          says yes where all values that meet the rules meet RULE,\n"
+    "                            too; or no, with values that meet the rules and break it\n"
+    "\n"
+    "Events are named as above, and those of numbers and records x0, x1 and so on. RULE is\n"
+    "one rule in words, in quotes, such as \"brake - cause >= 1\", or in numbers where FILE\n"
+    "has numbers. It may name only events that FILE names. Where no whole numbers meet the\n"
+    "rules, both say no, with the rules that clash.\n"
+    "\n";
+
 const char help_of_session[] =
     "A session, utvpi --session, takes rules from standard input one at a time, such as\n"
     "cause - brake <= -1, and says of each at once whether whole numbers meet all the rules\n"
@@ -127,7 +144,7 @@ const char help_of_check[] =
     "    3   p is 1 and q is 0. The one step number is twice the number of a rule 0 <= d\n"
     "        with d below 0.\n"
     "\n"
-    "Exit status: 0 yes, or converted; 1 no; 2 no answer, as something is wrong with the\n"
-    "input or can't be written; 3 the answer did not pass its check, so that it can't be\n"
-    "trusted. Of a session: 0 or 1 by the rules that it has at its end, unless a line was\n"
+    "Exit status: 0 yes, said or converted; 1 no; 2 no answer, as something is wrong with\n"
+    "the input or can't be written; 3 the answer did not pass its check, so that it can't\n"
+    "be trusted. Of a session: 0 or 1 by the rules that it has at its end, unless a line was\n"
     "wrong or refused, which is 2; 3 ends it at once.\n";

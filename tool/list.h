@@ -49,8 +49,9 @@ struct origin {
     struct text rule;
 };
 
-/* How an answer is printed: in full, a no in numbers, or a yes only as such. */
-enum manner { IN_WORDS, IN_NUMBERS, IN_SHORT };
+/* How an answer is printed: in full, a no in numbers, a yes only as such, or nothing of
+ * it, so that it is only checked. */
+enum manner { IN_WORDS, IN_NUMBERS, IN_SHORT, UNPRINTED };
 
 /* The two forms of a text. Records are read as if they were one of numbers. */
 enum form { FORM_OPEN, FORM_NUMBERS, FORM_NAMES };
@@ -71,7 +72,8 @@ struct list {
     struct origin variables_from;
     bool declared;
 
-    /* In a session the line of the input that is read now; else line 0. */
+    /* In a session the line of the input that is read now, and with --implies the rule
+     * that is asked about, in line 0; else line 0, and nothing. */
     struct origin at_hand;
 
     /* The form, and the line of the file that settled it. */
@@ -130,8 +132,9 @@ struct step {
     struct point to;
 };
 
-/* help.c: what --help prints, one after the other; the second, a session too. */
+/* help.c: what --help prints, one after the other; the third, a session too. */
 extern const char help[];
+extern const char help_of_questions[];
 extern const char help_of_session[];
 extern const char help_of_check[];
 
@@ -143,6 +146,7 @@ bool is_blank(char c);
 bool is_digit(char c);
 bool is_letter(char c);
 bool begins_with_word(struct text text, const char *word);
+bool has_relation(struct text text);
 struct text trim(struct text text);
 bool wrong_in(const char *file, struct origin origin, struct text part, const char *what,
               const char *advice);
@@ -202,6 +206,8 @@ int convert(const struct list *list, const char *to);
  * trusted. */
 int disagree(const char *what);
 bool within_limits(const struct list *list);
+int64_t turned(int64_t number);
+bool values_hold(const struct list *list, size_t n, const int64_t *values);
 int64_t *take_work_area(const char *file, uint64_t n);
 int answer(const struct list *list, enum manner manner);
 int64_t add_to_session(uint64_t n, int64_t *state, const int32_t line[UTVPI_LINE_NUMBERS],
@@ -211,12 +217,26 @@ int give_answer(const struct list *list, uint64_t n, int64_t result, enum manner
 /* session.c: rules from standard input, one at a time. */
 int run_session(const char *file);
 
+/* questions.c: what the questions share that are about all the ways to meet the rules;
+ * what is wrong with a name that no event has, and what to do about it. */
+extern const char no_event[];
+extern const char event_advice[];
+int take_questions(struct list *list);
+bool is_answered(struct list *list, const int64_t line[UTVPI_LINE_NUMBERS], int expected);
+int answer_unsolvable(const struct list *list);
+
+/* between.c and implies.c: these questions. */
+int answer_between(struct list *list, const char *const events[2]);
+int answer_implies(struct list *list, const char *rule);
+
 /* yes.c, no.c, broken.c and refusal.c: the answers in words. */
 void print_event(FILE *to, const struct list *list, uint64_t variable);
 void print_point(const struct list *list, struct point point);
 int event_width(const struct list *list, uint64_t variable);
+void print_values(const struct list *list, const int64_t *values);
 void print_yes(const struct list *list, const int64_t *model, const int64_t *bounds,
                const uint32_t *groups);
+void print_terms(const struct list *list, const int32_t *line, int count);
 void print_rule(const struct list *list, uint32_t step);
 int64_t bound_together(const struct list *list, const uint32_t *refutation);
 void print_walks(const struct list *list, const uint32_t *refutation,

@@ -60,8 +60,8 @@ static void print_term(const struct list *list, int64_t factor, uint64_t variabl
     print_event(stdout, list, variable);
 }
 
-/* Prints a line, counted that many times. */
-static void print_line(const struct list *list, const int32_t *line, int count)
+/* Prints the left side of a line, counted that many times. */
+void print_terms(const struct list *list, const int32_t *line, int count)
 {
     bool first = true;
     for (int at = 0; at < BOUND; at += 2) {
@@ -70,7 +70,14 @@ static void print_line(const struct list *list, const int32_t *line, int count)
             first = false;
         }
     }
-    printf("%s <= %" PRId64 "\n", first ? "0" : "", (int64_t)count * line[BOUND]);
+    fputs(first ? "0" : "", stdout);
+}
+
+/* Prints a line in the same way. */
+static void print_line(const struct list *list, const int32_t *line, int count)
+{
+    print_terms(list, line, count);
+    printf(" <= %" PRId64 "\n", (int64_t)count * line[BOUND]);
 }
 
 /* Prints a sum; with halved, half of each factor and of the bound, rounded down. */

@@ -53,7 +53,6 @@ bool add_line(struct list *list, struct origin origin, const int32_t line[UTVPI_
 /* Reads one rule, which is not empty. */
 bool read_rule(struct list *list, struct origin origin)
 {
-    bool in_words = false;
     if (origin.rule.length > MOST_RULE) {
         origin.rule.length = 40;
         return wrong(list, origin, nothing,
@@ -62,15 +61,13 @@ bool read_rule(struct list *list, struct origin origin)
                      "write one rule to a line");
     }
     for (size_t at = 0; at < origin.rule.length; at++) {
-        char c = origin.rule.at[at];
-        if ((unsigned char)c > 127) {
+        if ((unsigned char)origin.rule.at[at] > 127) {
             return wrong(list, origin, nothing, "this rule has a character outside plain ASCII",
                          "write <= for at most, >= for at least, - for minus, and names in the"
                          " letters a to z");
         }
-        in_words = in_words || c == '<' || c == '>' || c == '=';
     }
-    if (in_words) {
+    if (has_relation(origin.rule)) {
         return read_words(list, origin);
     }
     return begins_with_word(origin.rule, "variables") ? read_variables(list, origin)

@@ -4,7 +4,8 @@
 
 /* What of the file a refusal is about: nothing that stands there, the line that
  * says how many variables there are, the first rule too many, the rule at the
- * refusal's place, or the line of a session that is read now. */
+ * refusal's place, which is the one at hand behind the last, or the line of a session
+ * that is read now. */
 enum about { NOTHING, VARIABLES, RULE_TOO_MANY, RULE_AT_PLACE, LINE_AT_HAND };
 
 struct words {
@@ -133,8 +134,8 @@ static struct origin offender(const struct list *list, enum about about, size_t 
     if (about == RULE_TOO_MANY && list->count > UTVPI_MOST_LINES) {
         return list->origins[UTVPI_MOST_LINES];
     }
-    if (about == RULE_AT_PLACE && place < list->count) {
-        return list->origins[place];
+    if (about == RULE_AT_PLACE) {
+        return place < list->count ? list->origins[place] : list->at_hand;
     }
     return none;
 }

@@ -145,11 +145,7 @@ static bool may_be_rule(const struct session *session, struct origin origin)
 {
     const struct list *list = &session->list;
     struct text line = origin.rule;
-    bool in_words = false;
-    for (size_t at = 0; at < line.length; at++) {
-        in_words = in_words || line.at[at] == '<' || line.at[at] == '>' || line.at[at] == '=';
-    }
-    if (in_words || !is_letter(line.at[0]) || line.length > MOST_RULE) {
+    if (has_relation(line) || !is_letter(line.at[0]) || line.length > MOST_RULE) {
         return true;
     }
     origin.rule = nothing;

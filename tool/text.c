@@ -99,6 +99,17 @@ bool begins_with_word(struct text text, const char *word)
            (text.length == length || is_blank(text.at[length]));
 }
 
+/* Whether a text has a sign that every rule in words has. */
+bool has_relation(struct text text)
+{
+    for (size_t at = 0; at < text.length; at++) {
+        if (text.at[at] == '<' || text.at[at] == '>' || text.at[at] == '=') {
+            return true;
+        }
+    }
+    return false;
+}
+
 /* The text without the blanks around it. */
 struct text trim(struct text text)
 {
@@ -130,12 +141,16 @@ void show(FILE *to, struct text text)
     }
 }
 
-/* Says what is wrong in a line of a file and what to do. The part, where it is not
- * empty, begins the sentence. Gives back false. */
+/* Says what is wrong in a line of a file, in none where that is 0, and what to do. The
+ * part, where it is not empty, begins the sentence. Gives back false. */
 bool wrong_in(const char *file, struct origin origin, struct text part, const char *what,
               const char *advice)
 {
-    fprintf(stderr, "utvpi: %s, line %zu: ", file, origin.line);
+    fprintf(stderr, "utvpi: %s", file);
+    if (origin.line > 0) {
+        fprintf(stderr, ", line %zu", origin.line);
+    }
+    fputs(": ", stderr);
     if (part.length > 0) {
         fputc('"', stderr);
         show(stderr, part);

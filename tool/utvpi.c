@@ -1,6 +1,6 @@
 /* The command: decides a list of rules given as text, or takes them one at a time in a
- * session. Or it checks a refutation that someone proposes, or writes the list in another
- * form. Lists come as text or as records. */
+ * session. Or it says what the list implies, checks a refutation that someone proposes,
+ * or writes the list in another form. Lists come as text or as records. */
 #include "list.h"
 
 #include <errno.h>
@@ -94,7 +94,7 @@ static int run_check(const struct list *list, const char *file)
     return status;
 }
 
-/* What is asked for. Where nothing is to be checked or written, the list is decided. */
+/* What is asked for. Where nothing else is, the list is decided. */
 struct command {
     bool help;
     bool in_numbers;
@@ -102,6 +102,8 @@ struct command {
     bool to_text;
     const char *to_records;
     const char *proposed;
+    const char *between[2];
+    const char *implied;
     const char *file;
 };
 
@@ -119,6 +121,10 @@ static int run(const struct command *command)
             status = run_check(&list, command->proposed);
         } else if (command->to_text || command->to_records != NULL) {
             status = convert(&list, command->to_records);
+        } else if (command->between[0] != NULL) {
+            status = answer_between(&list, command->between);
+        } else if (command->implied != NULL) {
+            status = answer_implies(&list, command->implied);
         } else {
             status = answer(&list, command->in_numbers ? IN_NUMBERS : IN_WORDS);
         }
@@ -139,21 +145,53 @@ static int finish(int status)
     return status;
 }
 
-/* Reads one option's argument, of which there may be one. */
-static bool take_argument(int argc, char **argv, int *at, const char **argument)
+/* An option that arguments follow: so many, and what to say where they do not, or where
+ * it is given twice. */
+struct option {
+    const char *name;
+    const char **arguments;
+    int count;
+    const char *use;
+};
+
+/* Reads an option's arguments, which stand behind it. */
+static bool take_arguments(int argc, char **argv, int *at, struct option option)
 {
-    *at += 1;
-    if (*at == argc || *argument != NULL) {
+    if (argc - *at <= option.count || option.arguments[0] != NULL) {
         return false;
     }
-    *argument = argv[*at];
+    for (int argument = 0; argument < option.count; argument++) {
+        *at += 1;
+        option.arguments[argument] = argv[*at];
+    }
     return true;
+}
+
+/* Reads an option that arguments follow. Gives back what is wrong, or NULL. */
+static const char *read_option(int argc, char **argv, int *at, struct command *command)
+{
+    const struct option options[] = {
+        {"--between", command->between, 2, "--between takes two EVENTs, the names of two events"},
+        {"--check", &command->proposed, 1,
+         "--check takes one REFUTATION: a file, or - for standard input"},
+        {"--implies", &command->implied, 1, "--implies takes one RULE, in quotes"},
+        {"--write", &command->to_records, 1,
+         "--write takes one NEW file, or - for standard output"},
+    };
+    for (size_t one = 0; one < sizeof options / sizeof options[0]; one++) {
+        if (strcmp(argv[*at], options[one].name) == 0) {
+            return take_arguments(argc, argv, at, options[one]) ? NULL : options[one].use;
+        }
+    }
+    return "there are only the options --between, --check, --implies, --numbers, --session,"
+           " --text, --write and --help";
 }
 
 /* Takes the arguments apart. Gives back what is wrong with them, or NULL. */
 static const char *read_arguments(int argc, char **argv, struct command *command)
 {
-    for (int at = 1; at < argc; at++) {
+    const char *wrong_use = NULL;
+    for (int at = 1; at < argc && wrong_use == NULL; at++) {
         if (strcmp(argv[at], "--help") == 0 || strcmp(argv[at], "-h") == 0) {
             command->help = true;
         } else if (strcmp(argv[at], "--numbers") == 0) {
@@ -162,33 +200,26 @@ static const char *read_arguments(int argc, char **argv, struct command *command
             command->session = true;
         } else if (strcmp(argv[at], "--text") == 0) {
             command->to_text = true;
-        } else if (strcmp(argv[at], "--write") == 0) {
-            if (!take_argument(argc, argv, &at, &command->to_records)) {
-                return "--write takes one NEW file, or - for standard output";
-            }
-        } else if (strcmp(argv[at], "--check") == 0) {
-            if (!take_argument(argc, argv, &at, &command->proposed)) {
-                return "--check takes one REFUTATION: a file, or - for standard input";
-            }
         } else if (argv[at][0] == '-' && argv[at][1] != '\0') {
-            return "there are only the options --check, --numbers, --session, --text, --write and"
-                   " --help";
+            wrong_use = read_option(argc, argv, &at, command);
         } else if (command->file != NULL) {
-            return "this takes one FILE, or none for standard input";
+            wrong_use = "this takes one FILE, or none for standard input";
         } else {
             command->file = argv[at];
         }
     }
-    return NULL;
+    return wrong_use;
 }
 
 /* Whether what is asked for fits together. Gives back what does not, or NULL. */
 static const char *suits(const struct command *command)
 {
     int orders = command->in_numbers + command->session + command->to_text +
-                 (command->to_records != NULL) + (command->proposed != NULL);
+                 (command->to_records != NULL) + (command->proposed != NULL) +
+                 (command->between[0] != NULL) + (command->implied != NULL);
     if (orders > 1) {
-        return "give only one of --check, --numbers, --session, --text and --write";
+        return "give only one of --between, --check, --implies, --numbers, --session, --text and"
+               " --write";
     }
     if (command->session && !is_standard_input(command->file)) {
         return "--session reads standard input and takes no FILE";
@@ -215,10 +246,11 @@ static const char *read_command(int argc, char **argv, struct command *command)
 
 int main(int argc, char **argv)
 {
-    struct command command = {false, false, false, false, NULL, NULL, NULL};
+    struct command command = {.file = NULL};
     const char *wrong_use = read_command(argc, argv, &command);
     if (command.help) {
         fputs(help, stdout);
+        fputs(help_of_questions, stdout);
         fputs(help_of_session, stdout);
         putchar('\n');
         fputs(help_of_check, stdout);

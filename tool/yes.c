@@ -1,4 +1,4 @@
-/* Printing a yes: each event's value, least, greatest and group. */
+/* Printing a yes: each event's value, least, greatest and group; or values alone. */
 #include "list.h"
 
 #include <inttypes.h>
@@ -45,13 +45,41 @@ static void print_cell(int64_t value, bool absent)
     printf("  %10s", absent ? "none" : digits);
 }
 
-static void print_row(const struct list *list, uint64_t v, int width, int64_t value,
-                      const int64_t *bound, struct point group)
+/* The width of the column of events. */
+static int events_width(const struct list *list)
+{
+    int width = 5;
+    for (uint64_t v = 0; v < list->variables; v++) {
+        int own = event_width(list, v);
+        width = own > width ? own : width;
+    }
+    return width;
+}
+
+/* Prints the columns that every table has. */
+static void print_value(const struct list *list, uint64_t v, int width, int64_t value)
 {
     fputs("  ", stdout);
     print_event(stdout, list, v);
     printf("%*s", width - event_width(list, v), "");
     print_cell(value, false);
+}
+
+/* Prints values, one for each event. */
+void print_values(const struct list *list, const int64_t *values)
+{
+    int width = events_width(list);
+    printf("  %-*s  %10s\n", width, "event", "value");
+    for (uint64_t v = 0; v < list->variables; v++) {
+        print_value(list, v, width, values[v]);
+        putchar('\n');
+    }
+}
+
+static void print_row(const struct list *list, uint64_t v, int width, int64_t value,
+                      const int64_t *bound, struct point group)
+{
+    print_value(list, v, width, value);
     print_cell(bound[0], bound[0] == UTVPI_NO_LEAST);
     print_cell(bound[1], bound[1] == UTVPI_NO_GREATEST);
     fputs("  ", stdout);
@@ -122,15 +150,13 @@ void print_yes(const struct list *list, const int64_t *model, const int64_t *bou
                const uint32_t *groups)
 {
     bool some_low = false, some_high = false, some_shared = false, some_opposite = false;
-    int width = 5;
+    int width = events_width(list);
     if (list->variables == 0) {
         puts("Yes. There are no events, and no rule is false.");
         return;
     }
     puts("Yes. Whole numbers meet all the rules:\n");
     for (uint64_t v = 0; v < list->variables; v++) {
-        int own = event_width(list, v);
-        width = own > width ? own : width;
         some_low = some_low || bounds[2 * v] == UTVPI_NO_LEAST;
         some_high = some_high || bounds[2 * v + 1] == UTVPI_NO_GREATEST;
         some_shared = some_shared || groups[2 * v] != v;

@@ -206,6 +206,7 @@ fn little_stack() {
     let mut file = vec![0; size];
     let mut again = vec![0; MOST_NUMBERS];
     let mut buffers = Buffers::new(&mut Chance::new(114), needed(MOST_N));
+    let mut other = Buffers::new(&mut Chance::new(118), needed(MOST_N));
     let results = with_little_stack(|| {
         let kept = library::refutation_take(library::refutation_begin(), &numbers, 1);
         [
@@ -215,10 +216,13 @@ fn little_stack() {
             library::write_list(MOST_N, &numbers, &mut file).bytes as i64,
             library::read_list(&file, &mut again).lines as i64,
             buffers.call(MOST_N, &numbers),
+            other.implied_pair(MOST_N, &numbers, [0, 1]).result,
+            other.implied_line(MOST_N, &numbers, lines[0]),
+            other.implied_line(MOST_N, &numbers, zero(-1)),
         ]
     });
     let [at_0, at_3] = [0, 3].map(|place| Answer::No(place).code());
-    let due = [0, at_3, at_0, size as i64, MOST_LINES as i64, 0];
+    let due = [0, at_3, at_0, size as i64, MOST_LINES as i64, 0, 0, 0, at_0];
     assert_eq!(results, due);
     assert_eq!(again, numbers);
 }

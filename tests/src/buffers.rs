@@ -2,7 +2,7 @@
 //! longer than it need be, and is full of rubbish before the call.
 
 use crate::chance::Chance;
-use crate::library::{self, Lent};
+use crate::library::{self, ImpliedPair, Lent};
 use crate::limits::rooms;
 use crate::lines::Line;
 
@@ -134,6 +134,17 @@ impl Buffers {
     /// The result of deciding a list in these buffers.
     pub fn call(&mut self, n: u64, list: &[i32]) -> i64 {
         library::decide(n, list, self.lent())
+    }
+
+    /// What two variables of a list imply about each other, with this work area.
+    pub fn implied_pair(&mut self, n: u64, list: &[i32], [x, y]: [u64; 2]) -> ImpliedPair {
+        library::implied_pair(n, list, x, y, self.work.lent_mut())
+    }
+
+    /// The result of asking for a line, with this model and this work area.
+    pub fn implied_line(&mut self, n: u64, list: &[i32], line: Line) -> i64 {
+        let (model, work) = (&mut self.model, &mut self.work);
+        library::implied_line(n, list, line, model.lent_mut(), work.lent_mut())
     }
 
     /// The result of adding a line to the session with this state, in these buffers.

@@ -3,6 +3,7 @@
 //! of least sums by rounds, so that the two don't share a mistake.
 
 use crate::decision::{Group, Reason, Solved, Verdict, MINUS, PLUS};
+use crate::implied::Sums;
 use crate::lines::{Line, BOUND};
 
 /// No walk. Far below where sums of two would overflow.
@@ -35,6 +36,29 @@ pub fn verdict(n: usize, lines: &[Line]) -> Verdict {
         bounds,
         groups,
     })
+}
+
+/// What the lines of a valid list allow, where it has a solution.
+pub struct Distances(Square);
+
+/// These, or none where the list has no solution.
+pub fn distances(n: usize, lines: &[Line]) -> Option<Distances> {
+    let mut square = Square::new(n, lines);
+    let is_true = |line: &Line| line[0] != 0 || line[2] != 0 || line[BOUND] >= 0;
+    let solvable = lines.iter().all(is_true) && square.close() && square.tighten();
+    solvable.then_some(Distances(square))
+}
+
+impl Distances {
+    /// The greatest x + y, x - y, -x + y and -x - y: of a point and the opposite of another.
+    pub fn sums(&self, x: usize, y: usize) -> Sums {
+        let (x, y) = ([2 * x, 2 * x + 1], [2 * y + 1, 2 * y]);
+        let ends = [[x[0], y[0]], [x[0], y[1]], [x[1], y[0]], [x[1], y[1]]];
+        ends.map(|[from, to]| match self.0.at(from, to) {
+            NONE => i64::MAX,
+            greatest => greatest,
+        })
+    }
 }
 
 impl Square {

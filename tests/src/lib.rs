@@ -2,6 +2,7 @@
 //! hold it to, and the means to make input for both and to damage it.
 
 pub mod brute;
+pub mod brute_sums;
 pub mod buffers;
 pub mod bytes;
 pub mod chance;
@@ -10,6 +11,7 @@ pub mod damage;
 pub mod decision;
 pub mod document;
 pub mod files;
+pub mod implied;
 pub mod library;
 pub mod limits;
 pub mod lines;

@@ -1,4 +1,4 @@
-//! The library under test: its eleven C functions, and safe functions over them.
+//! The library under test: its C functions, and safe functions over them.
 
 use crate::lines::Line;
 
@@ -38,7 +38,17 @@ pub struct FileWritten {
     pub bytes: u64,
 }
 
-/// A line, as a session is handed it.
+/// What asking for two variables returns: `plus` has x + y and x - y, `minus` -x + y and
+/// -x - y.
+#[repr(C)]
+#[derive(Clone, Copy, PartialEq, Debug)]
+pub struct ImpliedPair {
+    pub result: i64,
+    pub plus: [i64; 2],
+    pub minus: [i64; 2],
+}
+
+/// A line, as a session and the question of a line are handed it.
 #[repr(C)]
 struct LineByValue {
     a: i32,
@@ -106,6 +116,27 @@ extern "C" {
 
     fn utvpi_session_withdraw(state: *mut i64, state_len: usize) -> i64;
 
+    fn utvpi_implied_pair(
+        n: u64,
+        list: *const i32,
+        list_len: usize,
+        x: u64,
+        y: u64,
+        work: *mut i64,
+        work_len: usize,
+    ) -> ImpliedPair;
+
+    fn utvpi_implied_line(
+        n: u64,
+        list: *const i32,
+        list_len: usize,
+        line: LineByValue,
+        model: *mut i64,
+        model_len: usize,
+        work: *mut i64,
+        work_len: usize,
+    ) -> i64;
+
     fn utvpi_refutation_begin() -> Progress;
 
     fn utvpi_refutation_take(
@@ -131,6 +162,19 @@ extern "C" {
         out: *mut u8,
         out_len: usize,
     ) -> FileWritten;
+}
+
+impl LineByValue {
+    fn new([a, x, b, y, d, identifier]: Line) -> LineByValue {
+        LineByValue {
+            a,
+            x,
+            b,
+            y,
+            d,
+            identifier,
+        }
+    }
 }
 
 /// One of the two checkers: n, list and what is proposed in, the result out.
@@ -198,21 +242,12 @@ pub fn session_start(n: u64, state: &mut [i64]) -> i64 {
 
 /// The result of `utvpi_session_add`.
 pub fn session_add(state: &mut [i64], line: Line, lent: Lent) -> i64 {
-    let [a, x, b, y, d, identifier] = line;
-    let line = LineByValue {
-        a,
-        x,
-        b,
-        y,
-        d,
-        identifier,
-    };
     // The function stays within the lengths and keeps no pointer.
     unsafe {
         utvpi_session_add(
             state.as_mut_ptr(),
             state.len(),
-            line,
+            LineByValue::new(line),
             lent.model.as_mut_ptr(),
             lent.model.len(),
             lent.bounds.as_mut_ptr(),
@@ -233,6 +268,39 @@ pub fn session_add(state: &mut [i64], line: Line, lent: Lent) -> i64 {
 pub fn session_withdraw(state: &mut [i64]) -> i64 {
     // The function stays within the length and keeps no pointer.
     unsafe { utvpi_session_withdraw(state.as_mut_ptr(), state.len()) }
+}
+
+/// What `utvpi_implied_pair` returns.
+pub fn implied_pair(n: u64, list: &[i32], x: u64, y: u64, work: &mut [i64]) -> ImpliedPair {
+    // The function stays within the lengths and keeps no pointer.
+    unsafe {
+        utvpi_implied_pair(
+            n,
+            list.as_ptr(),
+            list.len(),
+            x,
+            y,
+            work.as_mut_ptr(),
+            work.len(),
+        )
+    }
+}
+
+/// The result of `utvpi_implied_line`.
+pub fn implied_line(n: u64, list: &[i32], line: Line, model: &mut [i64], work: &mut [i64]) -> i64 {
+    // The function stays within the lengths and keeps no pointer.
+    unsafe {
+        utvpi_implied_line(
+            n,
+            list.as_ptr(),
+            list.len(),
+            LineByValue::new(line),
+            model.as_mut_ptr(),
+            model.len(),
+            work.as_mut_ptr(),
+            work.len(),
+        )
+    }
 }
 
 /// The result of `utvpi_refutation_begin`.

@@ -1,11 +1,12 @@
 //! The library's limits and lengths, as its header has them, and what follows from
 //! them.
 
-// MOST_VARIABLES, MOST_LINES, MOST_REFUTATION and MOST_IDENTIFIER; MOST_STACK, the most
-// bytes of stack that a call takes; LINE_NUMBERS; of files RECORD_HEAD, VARIABLES_BYTES,
-// KIND_VARIABLES, KIND_LINE, KIND_END and KIND_IDENTIFIED_LINE; of results NO and
-// REFUSAL_UNIT; rooms(n), the room that each buffer of deciding needs, in their order;
-// and session_room(n), that of a session's state: build.rs reads them.
+// MOST_VARIABLES, MOST_LINES, MOST_REFUTATION, MOST_BOUND and MOST_IDENTIFIER;
+// MOST_STACK, the most bytes of stack that a call takes; LINE_NUMBERS; of files
+// RECORD_HEAD, VARIABLES_BYTES, KIND_VARIABLES, KIND_LINE, KIND_END and
+// KIND_IDENTIFIED_LINE; of results NO, UNSOLVABLE and REFUSAL_UNIT; rooms(n), the room
+// that each buffer of deciding needs, in their order; and session_room(n), that of a
+// session's state: build.rs reads them.
 include!(concat!(env!("OUT_DIR"), "/limits.rs"));
 
 /// The most variables, as n is given, and the number of the last of them.
@@ -59,7 +60,7 @@ pub const MOST_FILE: usize = file_size(0, MOST_LINES);
 
 /// A line's bound lies within plus and minus the one, a model's value within the
 /// other.
-pub const LARGEST_BOUND: i64 = 1_000_000;
+pub const LARGEST_BOUND: i64 = MOST_BOUND as i64;
 pub const LARGEST_VALUE: i64 = 1_000_000_000_000;
 
 /// Where many lists are decided they are no larger than this, as deciding one of

@@ -1,15 +1,32 @@
 /* The library's answer with something altered, for the tests: the command, built with
- * altered_decide in place of utvpi_decide, and altered_session_add in place of
- * utvpi_session_add, has to find it. ALTERATION is a statement. */
+ * altered_decide in place of utvpi_decide, and so on, has to find it. ALTERATION is a
+ * statement for deciding and sessions, PAIR_ALTERATION and LINE_ALTERATION are for the
+ * two questions; what is not given alters nothing. */
 #define utvpi_decide altered_decide
 #define utvpi_session_add altered_session_add
+#define utvpi_implied_pair altered_implied_pair
+#define utvpi_implied_line altered_implied_line
 #include "utvpi.h"
 #undef utvpi_decide
 #undef utvpi_session_add
+#undef utvpi_implied_pair
+#undef utvpi_implied_line
+
+#ifndef ALTERATION
+#define ALTERATION (void)0
+#endif
+#ifndef PAIR_ALTERATION
+#define PAIR_ALTERATION (void)0
+#endif
+#ifndef LINE_ALTERATION
+#define LINE_ALTERATION (void)0
+#endif
 
 /* The header declared those that the command calls; the library's are of their types. */
 extern __typeof__(altered_decide) utvpi_decide;
 extern __typeof__(altered_session_add) utvpi_session_add;
+extern __typeof__(altered_implied_pair) utvpi_implied_pair;
+extern __typeof__(altered_implied_line) utvpi_implied_line;
 
 int64_t altered_decide(uint64_t n, const int32_t *list, size_t list_len,
                        int64_t *model, size_t model_len, int64_t *bounds, size_t bounds_len,
@@ -40,5 +57,22 @@ int64_t altered_session_add(int64_t *state, size_t state_len, utvpi_line line,
                                        work_len);
     ALTERATION;
     (void)n;
+    return result;
+}
+
+utvpi_pair altered_implied_pair(uint64_t n, const int32_t *list, size_t list_len,
+                                uint64_t x, uint64_t y, int64_t *work, size_t work_len)
+{
+    utvpi_pair pair = utvpi_implied_pair(n, list, list_len, x, y, work, work_len);
+    PAIR_ALTERATION;
+    return pair;
+}
+
+int64_t altered_implied_line(uint64_t n, const int32_t *list, size_t list_len, utvpi_line line,
+                             int64_t *model, size_t model_len, int64_t *work, size_t work_len)
+{
+    int64_t result = utvpi_implied_line(n, list, list_len, line, model, model_len, work,
+                                        work_len);
+    LINE_ALTERATION;
     return result;
 }
