@@ -21,6 +21,8 @@ ghost use Rattle.c_codes.specs.ListBytes.{Decoded};
 
 // The answer no is this and, of a model, the number of the line that fails, of a refutation the place where it breaks.
 pub const NO: usize = 1_000_000;
+// Returned where a question is asked of a list that has no solution.
+pub const NO_SOLUTION: i64 = 2_000_000;
 // A refusal's number counts this much, and then its place.
 const REFUSAL_UNIT: usize = 100_000;
 // The bytes of a number of a list or a refutation, and of a line.

@@ -6,12 +6,8 @@ use Rattle.implied_pair.specs.declared.PairOutcome.{PairOutcome}
 use Rattle.implied_pair.specs.declared.PairOutcome.the-variants.{Implied, Unsolvable, Refused}
 use Rattle.implied_pair.specs.declared.PairAnswer.{PairAnswer}
 use Rattle.implied_pair.specs.Pair.{PairCall, pairCall}
-use Rattle.c_codes.specs.Codes.{refusalCode}
+use Rattle.c_codes.specs.Codes.{noSolutionCode, refusalCode}
 use Rattle.c_implied.specs.declared.CPair.{CPair}
-
--- a list that has no solution
-abbrev pub noSolutionCode : ℕ
-noSolutionCode = 2_000_000
 
 -- the number that an outcome is returned as
 abbrev pub outcomeCode : PairOutcome → ℤ

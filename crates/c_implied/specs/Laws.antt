@@ -10,9 +10,9 @@ use Rattle.implied_pair.specs.declared.PairAnswer.{PairAnswer}
 use Rattle.implied_pair.specs.Pair.{PairCall, called, pairCall}
 use Rattle.implied_pair.specs.Places.{Below}
 use Rattle.implied_pair.specs.Places as implied
-use Rattle.c_codes.specs.Codes.{refusalUnit}
+use Rattle.c_codes.specs.Codes.{noSolutionCode, refusalUnit}
 use Rattle.c_codes.specs.Apart.{refusals-apart, no-refusal, same-pos}
-use Rattle.c_implied.specs.Calls.{noSolutionCode, outcomeCode, returns, asReturned, pairReturned}
+use Rattle.c_implied.specs.Calls.{outcomeCode, returns, asReturned, pairReturned}
 
 pub pair-below : (n : ℕ) (L : List ℤ) (x y : ℕ) (w : List ℤ) → Below refusalUnit (pairCall n L x y w .answer .outcome)
 pair-below = implied.pair-below refusalUnit (omega arith)

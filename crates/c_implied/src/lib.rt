@@ -1,4 +1,5 @@
 // The exported question of what two variables of a list imply about each other, with a lent work area.
+use c_codes::NO_SOLUTION;
 use c_codes::refusal_code;
 use implied_pair::PairOutcome;
 use implied_pair::implied_pair;
@@ -6,9 +7,6 @@ ghost use mathlib.Core.Path.{_≡_};
 ghost use Rattle.implied_pair.specs.Places.{Below};
 ghost use Rattle.c_codes.specs.Codes.{refusalUnit};
 ghost use Rattle.c_implied.specs.Calls.{outcomeCode, returns, pairReturned};
-
-// Returned for a list that has no solution.
-const NO_SOLUTION: i64 = 2_000_000;
 
 // What C gets: the result, and behind it x + y and x - y, then -x + y and -x - y.
 #[repr(C)]

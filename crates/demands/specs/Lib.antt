@@ -18,3 +18,5 @@ pub mod Files
 pub mod SessionVersions
 pub mod Sessions
 pub mod Implied
+pub mod ImpliedLineVersions
+pub mod ImpliedLine

@@ -22,10 +22,10 @@ use Rattle.implied_pair.specs.declared.PairOutcome.the-variants.{Implied, Unsol
 use Rattle.implied_pair.specs.declared.PairAnswer.{PairAnswer}
 use Rattle.implied_pair.specs.Pair.{pairIn, noPair, pairValidity, PairCall, called, judged, unlessRefused, pairCall}
 use Rattle.implied_pair.specs.Called.{PairOk, pair-ok, ok-pair}
-use Rattle.c_codes.specs.Codes.{refusalUnit, refusalCode}
+use Rattle.c_codes.specs.Codes.{noSolutionCode, refusalUnit, refusalCode}
 use Rattle.c_codes.specs.Apart.{no-refusal}
 use Rattle.c_implied.specs.declared.CPair.{CPair}
-use Rattle.c_implied.specs.Calls.{noSolutionCode, outcomeCode, PairReturned, returns, pairReturned}
+use Rattle.c_implied.specs.Calls.{outcomeCode, PairReturned, returns, pairReturned}
 use Rattle.c_implied.specs.Laws.{pair-below, outcomes-apart}
 use Rattle.implied_pair.specs.Places.{Below}
 

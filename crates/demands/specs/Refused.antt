@@ -235,7 +235,7 @@ pub line-gives : (n k : ℕ) (l : Line) → Gives (lineTable n k l) (lineValidit
 unfolding Rows
 line-gives n k l = rows-give n k l lineRules (lineTable n k l) (search (coefficients-test l, variables-test n l, lone-test l, constant-test l, identifier-test l))
 
-list-gives : (n : ℕ) (L : List ℤ) → Gives (listTable n L) (validityOf n L)
+pub list-gives : (n : ℕ) (L : List ℤ) → Gives (listTable n L) (validityOf n L)
 unfolding validityOf
 list-gives n L = gives-row (less-test maxVariables n) (gives-row (unequal-test _ 0) (gives-row (less-test maxLines (lineCount L)) (go (lineCount L) 0 (omega arith))))
   where

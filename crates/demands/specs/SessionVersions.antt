@@ -26,7 +26,8 @@ use Rattle.decide_buffers.specs.Room.{Lent, roomsValidity, decideValidity}
 use Rattle.decide.specs.declared.Answer.{Answer}
 use Rattle.decide.specs.declared.Answer.the-variants as decide
 use Rattle.decide.specs.Decided.{unlessRefused, decideAnswer, answerFor, Leaves}
-use Rattle.session_state.specs.State.{sessionRoom, zeros, behind, stateOf, variablesIn, countIn, refusedIn, numbersWith, lineStart, putAt, headed, pushed}
+use Rattle.longer_list.specs.Written.{putAt}
+use Rattle.session_state.specs.State.{sessionRoom, zeros, behind, stateOf, variablesIn, countIn, refusedIn, numbersWith, lineStart, headed, pushed}
 use Rattle.session_state.specs.Session.{pushed-is}
 use Rattle.session.specs.Promise.{startAnswer, startState, addValidity, addAnswer, addState, withdrawAnswer, Starts, Adds, Withdraws}
 use Rattle.session.specs.Sequence.{stands, variables, state-validity, all-numbers, add-answer, withdraws-from}

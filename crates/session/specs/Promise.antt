@@ -6,8 +6,7 @@ use Prim.Native.Nat.{ℕ, _+_, _*_, _<_}
 use native.Mathlib.Omega.{arith}
 use lib.Dec.{ltb, eqb}
 use lib.IntN.{ℤ}
-use lib.ListN.{length, take, drop, length-append}
-use lib.Seq.{take-at}
+use lib.ListN.{length, drop, length-append}
 use Rattle.lines.specs.declared.Line.{Line}
 use Rattle.lines.specs.declared.Refusal.{Refusal}
 use Rattle.lines.specs.declared.Refusal.the-variants.{TooManyVariables, ShortOutput, AfterNo, NoLines}
@@ -110,7 +109,3 @@ pub answered-room : (s : List ℤ) (l : Line) (b : Lent) → isState s ≡ true 
 answered-room s l b e h =
     let o = valid-list (variablesIn s) (numbersWith s l) (decide-ok (variablesIn s) (numbersWith s l) b (answered-valid (variablesIn s) (numbersWith s l) b h) .list) in
     omega (arith, o .count, length-with s l e)
-
--- a list that begins with the numbers xs, up to their end
-pub front-is : (list xs d : List ℤ) (end : ℕ) → list ≡ xs ++ d → length xs ≡ end → take end list ≡ xs
-front-is list xs d end e h = ap (take end) e ∙ take-at xs d end h

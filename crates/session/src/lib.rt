@@ -7,7 +7,7 @@ use lines::Refusal;
 use lines::Validity;
 use lines::limits::LINE_SIZE;
 use lines::limits::MAX_VARIABLES;
-use session_state::MOST_NUMBERS;
+use longer_list::MOST_NUMBERS;
 use session_state::begin_state;
 use session_state::copy_with;
 use session_state::is_state;

@@ -1,7 +1,7 @@
--- What the tests of a state give, number by number, and lists that are written from the front.
+-- What the tests of a state give, number by number.
 use mathlib.Core.Path.{_≡_, refl, sym, ap, _∙_}
 use mathlib.Core.Bool.{true, _&&_}
-use mathlib.Core.List.{List, [], _∷_, _++_, append-assoc, append-nil}
+use mathlib.Core.List.{List, [], _∷_}
 use Prim.Native.Nat.{ℕ, zero, suc, _+_, _*_, _^_, _-_, _<_, _≤_}
 use native.Mathlib.Nat.{not-suc-le-zero, le-of-suc-le-suc}
 use native.Mathlib.Numerals.{add-one}
@@ -9,19 +9,17 @@ use native.Mathlib.Omega.{arith}
 use borrow.Author.Tests.{leb-true}
 use lib.Dec.{leb}
 use lib.IntN.{ℤ, pos, negsuc, natAbs}
-use lib.ListN.{length, take, drop, drop-of-length-le, length-append, length-drop}
-use lib.Seq.{drop-cons, drop-drop, drop-at, length-take-le, take-all, take-at, take-length}
+use lib.ListN.{length, take, drop, drop-of-length-le, length-drop}
+use lib.Seq.{drop-cons, length-take-le}
 use lib.Signed.{leZ}
 use mir.Syntax.{w32, w64}
 use mir.Val.{SFits}
 use Rattle.integers.specs.Integer.{_⩽_, isBetween}
 use Rattle.integers.specs.Linear.{ints, given, given₂}
 use Rattle.integers.specs.Laws.{and-true, both-true}
-use Rattle.integers.specs.Sequence.{tabulate-getD}
-use Rattle.integers.specs.Fill.{filled}
 use Rattle.lines.specs.Limits.{lineSize, maxVariables, maxLines}
 use Rattle.lines.specs.Line.{number}
-use Rattle.session_state.specs.State.{headSize, sessionRoom, behind, variablesIn, countIn, numbersIn, headOk, fits32, fitAll, isState, putAt}
+use Rattle.session_state.specs.State.{headSize, sessionRoom, behind, variablesIn, countIn, numbersIn, headOk, fits32, fitAll, isState}
 
 -- ---- a number from 0 to m
 pub between-low : (m : ℕ) (z : ℤ) → isBetween (pos 0) (pos m) z ≡ true → pos 0 ⩽ z
@@ -117,40 +115,6 @@ pub fit-past : (zs : List ℤ) (i : ℕ) → length zs ≤ i → fitAll (drop i 
 unfolding fitAll
 fit-past zs i h = ap fitAll (drop-of-length-le zs h)
 
--- ---- a list that was filled with all of another
-pub filled-all : (zs d : List ℤ) (i : ℕ) → i ≡ length zs → filled (number zs) d i ≡ zs ++ drop (length zs) d
-filled-all zs d i e =
-    ap (filled (number zs) d) e
-    ∙ ap (λ (l : List ℤ). l ++ drop (length zs) d) (tabulate-getD (length zs) zs (pos 0) (omega arith) ∙ take-length zs)
-
 -- ---- a number of 64 bits without its sign
 pub abs-fits : (z : ℤ) → SFits w64 z → natAbs z < 2 ^ 64
 abs-fits z h = given h (simp ints (omega arith))
-
--- ---- a line's numbers, written to the part of a state from a place on, which is then put back
-module _ (s ys p : List ℤ) (at : ℕ) where
-  part-all : take (length s - at) (drop at s) ≡ drop at s
-  part-all = take-all (length s - at) (drop at s) (omega (arith, length-drop at s))
-
-  pub part-long : at + lineSize ≤ length s → lineSize ≤ length (take (length s - at) (drop at s))
-  part-long h = rw part-all (omega (arith, length-drop at s))
-
-  pub put-back : p ≡ ys ++ drop lineSize (take (length s - at) (drop at s)) → take at s ++ (p ++ drop (length s - at) (drop at s)) ≡ putAt at ys s
-  put-back e =
-      let end : length (drop at s) ≤ length s - at = omega (arith, length-drop at s) in
-      let none : drop (length s - at) (drop at s) ≡ [] = drop-of-length-le (drop at s) end in
-      ap (λ (x : List ℤ). take at s ++ x)
-      (ap (λ (x : List ℤ). p ++ x) none ∙ append-nil p ∙ e ∙ ap (λ (x : List ℤ). ys ++ drop lineSize x) part-all)
-
-  -- the state is as long as before
-  pub put-length : at + lineSize ≤ length s → length ys ≡ lineSize → length (putAt at ys s) ≡ length s
-  put-length h e =
-      length-append (take at s) (ys ++ drop lineSize (drop at s))
-      ∙ omega (arith, length-take-le at s (omega arith), length-append ys (drop lineSize (drop at s)), length-drop lineSize (drop at s), length-drop at s)
-
--- ---- ys, a line's numbers, put behind the numbers xs with which a list begins
-pub put-behind : (xs ys d : List ℤ) (at : ℕ) → length xs ≡ at → length ys ≡ lineSize → putAt at ys (xs ++ drop at d) ≡ (xs ++ ys) ++ drop (length (xs ++ ys)) d
-put-behind xs ys d at h e =
-    let end : at + lineSize ≡ length (xs ++ ys) = omega (arith, length-append xs ys) in
-    rw (take-at xs (drop at d) at h, drop-at xs (drop at d) at h)
-    (ap (λ (x : List ℤ). xs ++ (ys ++ x)) (drop-drop lineSize at d ∙ ap (λ (k : ℕ). drop k d) end) ∙ sym (append-assoc xs ys (drop (length (xs ++ ys)) d)))

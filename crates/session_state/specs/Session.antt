@@ -15,7 +15,8 @@ use Rattle.lines.specs.declared.Line.{Line}
 use Rattle.lines.specs.Limits.{lineSize, maxVariables, maxLines}
 use Rattle.lines.specs.Line.{lineNumbers, numbersOf}
 use Rattle.lines.specs.LineNumbers.{length-numbers, length-numbersOf}
-use Rattle.session_state.specs.State.{headSize, sessionRoom, flagOf, zeros, behind, stateOf, variablesIn, countIn, refusedIn, numbersIn, headOk, fitAll, isState, lineStart, putAt, headed, started, pushed, popped}
+use Rattle.longer_list.specs.Written.{putAt}
+use Rattle.session_state.specs.State.{headSize, sessionRoom, flagOf, zeros, behind, stateOf, variablesIn, countIn, refusedIn, numbersIn, headOk, fitAll, isState, lineStart, headed, started, pushed, popped}
 use Rattle.session_state.specs.Laws.{room-split}
 
 -- ---- the numbers of lines and of one more

@@ -9,6 +9,7 @@ use Rattle.integers.specs.Integer.{eqZ, isBetween}
 use Rattle.lines.specs.declared.Line.{Line}
 use Rattle.lines.specs.Limits.{lineSize, maxVariables, maxLines}
 use Rattle.lines.specs.Line.{number, lineNumbers, numbersOf}
+use Rattle.longer_list.specs.Written.{putAt}
 use Rattle.session_state.specs.declared.Head.{Head}
 
 -- ---- the state
@@ -56,10 +57,6 @@ numbersIn s = take (lineSize * countIn s) (drop headSize s)
 abbrev pub numbersWith : List ℤ → Line → List ℤ
 numbersWith s l = numbersIn s ++ lineNumbers l
 
--- how many numbers the most lines and one more have
-abbrev pub mostNumbers : ℕ
-mostNumbers = lineSize * maxLines + lineSize
-
 -- ---- whether they begin with a state, as far as the calls have to know it
 unfoldable pub headOk : List ℤ → Bool
 headOk s =
@@ -84,10 +81,6 @@ isState s = headOk s && fitAll (numbersIn s)
 -- where line number k begins
 abbrev pub lineStart : ℕ → ℕ
 lineStart k = headSize + lineSize * k
-
--- ys, a line's numbers, from a place on
-abbrev pub putAt : ℕ → List ℤ → List ℤ → List ℤ
-putAt at ys s = take at s ++ (ys ++ drop lineSize (drop at s))
 
 -- the count of lines and the last answer
 abbrev pub headed : ℕ → Bool → List ℤ → List ℤ

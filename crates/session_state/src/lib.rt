@@ -7,6 +7,7 @@ use lines::limits::LINE_SIZE;
 use lines::limits::MAX_LINES;
 use lines::limits::MAX_VARIABLES;
 use lines::line_numbers;
+use longer_list::write_line;
 ghost use mathlib.Core.Path.{_≡_};
 ghost use mathlib.Core.Bool.{true};
 ghost use mathlib.Core.List.{_++_};
@@ -16,12 +17,11 @@ ghost use lib.ListN.{length, drop};
 ghost use Rattle.integers.specs.Integer.{_⩽_};
 ghost use Rattle.lines.specs.Limits.{lineSize, maxVariables, maxLines};
 ghost use Rattle.lines.specs.Line.{lineNumbers};
-ghost use Rattle.session_state.specs.State.{headSize, sessionRoom, flagOf, headOf, headOk, fitAll, isState, numbersIn, mostNumbers, numbersWith, countIn, headed, started, pushed, popped};
+ghost use Rattle.longer_list.specs.Written.{mostNumbers};
+ghost use Rattle.session_state.specs.State.{headSize, sessionRoom, flagOf, headOf, headOk, fitAll, isState, numbersIn, numbersWith, countIn, headed, started, pushed, popped};
 
 // The numbers before those of the lines: n, how many lines there are, and whether the last answer was a no.
 const HEAD_SIZE: usize = 3;
-// The numbers of the most lines and of one more.
-pub const MOST_NUMBERS: usize = LINE_SIZE * MAX_LINES + LINE_SIZE;
 // The least and the greatest number of 32 bits.
 const LEAST: i64 = i32::MIN as i64;
 
@@ -128,19 +128,7 @@ fn copy_lines(state: &[i64], list: &mut [i32])
     narrow_to(&state[HEAD_SIZE..end], list);
 }
 
-// Copies numbers to the front of a list.
-fn copy_to(numbers: &[i32], list: &mut [i32])
-    requires { ⌜ length (now numbers) ≤ length (now list) ⌝ }
-    ensures { λ _. ⌜ now (list .exit) ≡ now (numbers .entry) ++ drop (length (now (numbers .entry))) (now (list .entry)) ⌝ }
-{
-    let mut i = 0;
-    while i < numbers.len() {
-        list[i] = numbers[i];
-        i += 1;
-    }
-}
-
-// The same into numbers of 64 bits.
+// Copies numbers to the front of a list of numbers of 64 bits.
 fn widen_to(numbers: &[i32], wide: &mut [i64])
     requires { ⌜ length (now numbers) ≤ length (now wide) ⌝ }
     ensures { λ _. ⌜ now (wide .exit) ≡ now (numbers .entry) ++ drop (length (now (numbers .entry))) (now (wide .entry)) ⌝ }
@@ -150,15 +138,6 @@ fn widen_to(numbers: &[i32], wide: &mut [i64])
         wide[i] = numbers[i] as i64;
         i += 1;
     }
-}
-
-// Writes the numbers of a line to the front of a list.
-fn write_line(list: &mut [i32], line: Line)
-    requires { ⌜ lineSize ≤ length (now list) ⌝ }
-    ensures { λ _. ⌜ now (list .exit) ≡ lineNumbers line ++ drop lineSize (now (list .entry)) ⌝ }
-{
-    let numbers = line_numbers(line);
-    copy_to(&numbers, list);
 }
 
 // Copies the numbers of the lines of a state, and those of one line more, to the front of a list.
@@ -172,7 +151,7 @@ pub fn copy_with(state: &[i64], line: Line, list: &mut [i32])
     write_line(&mut list[at..], line);
 }
 
-// The same in numbers of 64 bits.
+// Writes the numbers of a line to the front of a list of numbers of 64 bits.
 fn put_line(wide: &mut [i64], line: Line)
     requires { ⌜ lineSize ≤ length (now wide) ⌝ }
     ensures { λ _. ⌜ now (wide .exit) ≡ lineNumbers line ++ drop lineSize (now (wide .entry)) ⌝ }

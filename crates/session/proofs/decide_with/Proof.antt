@@ -8,10 +8,11 @@ use lib.IntN.{ℤ}
 use lib.ListN.{length, take}
 use Rattle.lines.specs.declared.Line.{Line}
 use Rattle.lines.specs.Limits.{lineSize, maxLines}
+use Rattle.longer_list.specs.Written.{front-is}
 use Rattle.session_state.specs.declared.Head.{Head}
 use Rattle.session_state.specs.State.{countIn, numbersWith}
 use Rattle.session_state.specs.Laws.{state-head, state-head-ok}
-use Rattle.session.specs.Promise.{decided-same, front-is, length-with}
+use Rattle.session.specs.Promise.{decided-same, length-with}
 use Rattle.session.proofs.decide_with.Statement.{statement}
 use Rattle.session.proofs.decide_with.Tie as tie
 

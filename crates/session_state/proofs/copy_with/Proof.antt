@@ -9,9 +9,10 @@ use lib.ListN.{length, drop, length-append, length-drop}
 use Rattle.lines.specs.Limits.{lineSize}
 use Rattle.lines.specs.Line.{lineNumbers}
 use Rattle.lines.specs.LineNumbers.{length-numbers}
+use Rattle.longer_list.specs.Written.{putAt, part-long, put-back, put-behind}
 use Rattle.session_state.specs.declared.Head.{Head}
-use Rattle.session_state.specs.State.{countIn, numbersIn, putAt}
-use Rattle.session_state.specs.Laws.{HeadOk, state-head, state-head-ok, length-numbersIn, part-long, put-back, put-behind}
+use Rattle.session_state.specs.State.{countIn, numbersIn}
+use Rattle.session_state.specs.Laws.{HeadOk, state-head, state-head-ok, length-numbersIn}
 use Rattle.session_state.proofs.copy_with.Statement.{statement}
 use Rattle.session_state.proofs.copy_with.Tie as tie
 

@@ -12,7 +12,8 @@ use mir.Facts.{toZ-ofZ}
 use Rattle.integers.specs.Bits.{kept}
 use Rattle.integers.specs.Fill.{filled, filled-more}
 use Rattle.lines.specs.Line.{number}
-use Rattle.session_state.specs.Laws.{fit-at, filled-all}
+use Rattle.longer_list.specs.Written.{filled-all}
+use Rattle.session_state.specs.Laws.{fit-at}
 use Rattle.session_state.proofs.narrow_to.Statement.{statement}
 use Rattle.session_state.proofs.narrow_to.Tie as tie
 

@@ -8,9 +8,10 @@ use borrow.Author.Needs.{needs}
 use lib.IntN.{ℤ, pos}
 use lib.ListN.{length, take, drop, length-replicate}
 use Rattle.lines.specs.Limits.{lineSize}
+use Rattle.longer_list.specs.Written.{putAt, part-long, put-back, put-length}
 use Rattle.session_state.specs.declared.Head.{Head}
-use Rattle.session_state.specs.State.{headSize, zeros, countIn, lineStart, putAt, headed, popped}
-use Rattle.session_state.specs.Laws.{HeadOk, state-head, state-head-ok, lines-end, part-long, put-back, put-length}
+use Rattle.session_state.specs.State.{headSize, zeros, countIn, lineStart, headed, popped}
+use Rattle.session_state.specs.Laws.{HeadOk, state-head, state-head-ok, lines-end}
 use Rattle.session_state.proofs.pop_line.Statement.{statement}
 use Rattle.session_state.proofs.pop_line.Tie as tie
 

@@ -9,9 +9,10 @@ use lib.ListN.{length, take, drop}
 use Rattle.lines.specs.Limits.{lineSize}
 use Rattle.lines.specs.Line.{lineNumbers}
 use Rattle.lines.specs.LineNumbers.{length-numbers}
+use Rattle.longer_list.specs.Written.{putAt, part-long, put-back, put-length}
 use Rattle.session_state.specs.declared.Head.{Head}
-use Rattle.session_state.specs.State.{headSize, countIn, lineStart, putAt, headed, pushed}
-use Rattle.session_state.specs.Laws.{HeadOk, state-head, state-head-ok, lines-end, next-end, part-long, put-back, put-length}
+use Rattle.session_state.specs.State.{headSize, countIn, lineStart, headed, pushed}
+use Rattle.session_state.specs.Laws.{HeadOk, state-head, state-head-ok, lines-end, next-end}
 use Rattle.session_state.proofs.push_line.Statement.{statement}
 use Rattle.session_state.proofs.push_line.Tie as tie
 

@@ -12,7 +12,7 @@ use mir.Facts.{toZ-ofZ, sfits-widen}
 use Rattle.integers.specs.Bits.{kept}
 use Rattle.integers.specs.Fill.{filled, filled-more}
 use Rattle.lines.specs.Line.{number}
-use Rattle.session_state.specs.Laws.{filled-all}
+use Rattle.longer_list.specs.Written.{filled-all}
 use Rattle.session_state.proofs.widen_to.Statement.{statement}
 use Rattle.session_state.proofs.widen_to.Tie as tie
 

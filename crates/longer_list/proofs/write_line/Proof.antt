@@ -1,4 +1,4 @@
--- `session_state::write_line` meets its contract.
+-- `longer_list::write_line` meets its contract.
 use mathlib.Core.Path.{ap, _∙_}
 use mathlib.Core.List.{List, _++_}
 use Prim.Native.Nat.{ℕ}
@@ -7,8 +7,8 @@ use lib.IntN.{ℤ}
 use lib.ListN.{length, drop}
 use Rattle.lines.specs.Line.{lineNumbers}
 use Rattle.lines.specs.LineNumbers.{length-numbers}
-use Rattle.session_state.proofs.write_line.Statement.{statement}
-use Rattle.session_state.proofs.write_line.Tie as tie
+use Rattle.longer_list.proofs.write_line.Statement.{statement}
+use Rattle.longer_list.proofs.write_line.Tie as tie
 
 slice-aggregate-copy-to : tie.Need-slice-aggregate-copy-to
 slice-aggregate-copy-to c = search needs

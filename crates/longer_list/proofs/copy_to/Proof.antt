@@ -1,4 +1,4 @@
--- `session_state::copy_to` meets its contract. The invariant: the first i numbers are copied, and the rest is as it was.
+-- `longer_list::copy_to` meets its contract. The invariant: the first i numbers are copied, and the rest is as it was.
 use mathlib.Core.Path.{_≡_, refl, ap, _∙_}
 use mathlib.Core.List.{List}
 use Prim.Native.Nat.{_-_, _≤_}
@@ -11,9 +11,9 @@ use mir.Val.{toZ, ofZ}
 use Rattle.integers.specs.Bits.{kept}
 use Rattle.integers.specs.Fill.{filled, filled-more}
 use Rattle.lines.specs.Line.{number}
-use Rattle.session_state.specs.Laws.{filled-all}
-use Rattle.session_state.proofs.copy_to.Statement.{statement}
-use Rattle.session_state.proofs.copy_to.Tie as tie
+use Rattle.longer_list.specs.Written.{filled-all}
+use Rattle.longer_list.proofs.copy_to.Statement.{statement}
+use Rattle.longer_list.proofs.copy_to.Tie as tie
 
 abbrev Inv-loop : tie.InvT-loop
 Inv-loop numbers list₀ i₀ list i = (i ≤ length numbers) × (length list ≡ length list₀) × (list ≡ filled (number numbers) list₀ i)

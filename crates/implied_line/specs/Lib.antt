@@ -1,0 +1,5 @@
+pub mod Opposite
+pub mod Answer
+pub mod Judged
+pub mod Meaning
+pub mod Places
