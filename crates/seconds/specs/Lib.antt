@@ -5,3 +5,4 @@ pub mod Laws
 pub mod Rounded
 pub mod Ordered
 pub mod Outcomes
+pub mod Refused

@@ -2,7 +2,7 @@
 --
 -- Rounding keeps the order of what is not negative (the toolchain's `round-mono`), and a negative one's rounding is the mirror image: the sign goes through
 -- `round` untouched, and comparison turns round with it.
-use mathlib.Core.Path.{_≡_, refl, sym, subst}
+use mathlib.Core.Path.{_≡_, refl, sym, subst, ap₂, _∙_}
 use mathlib.Core.Bool.{Bool, true, false, cond, _&&_, _||_, true≢false, false≢true}
 use Prim.Native.Nat.{ℕ, zero, suc, _+_, _-_, _*_, _/_, _%_, _^_, _≤_, _<_, compare}
 use native.Mathlib.Nat.{mul-le-mul-right}
@@ -139,17 +139,21 @@ rounds (negsuc n) (negsuc k) p q Q h = round-mirror binary64 (suc k * p) q (suc 
     more : (n k : ℕ) → k ≤ n → suc k ≤ suc n
     more n k h = omega arith
 
+test-true : (t : Bool) → T t → t ≡ true
+test-true true h = refl
+test-true false h = absurd h
+
 -- of two counts of one usable clock, the smaller has no larger seconds
-pub order-kept : (c : Clock) (y z : ℤ) → usableClock c ≡ true → isCount y ≡ true → isCount z ≡ true → y ⩽ z → T (le (secondsOf c y) (secondsOf c z))
+pub order-kept : (c : Clock) (y z : ℤ) → usableClock c ≡ true → isCount y ≡ true → isCount z ≡ true → y ⩽ z → le (secondsOf c y) (secondsOf c z) ≡ true
 order-kept c y z u f g h =
-    subst (λ (s : Float). T (le s (secondsOf c z))) (sym (seconds-rounded c y u f))
-    (subst (λ (s : Float). T (le (round binary64 (negative y) (natAbs y * over c) (under c)) s)) (sym (seconds-rounded c z u g))
-    (rounds y z (over c) (under c) (under-pos c (usable-true c u)) (h .le)))
+    ap₂ le (seconds-rounded c y u f) (seconds-rounded c z u g)
+    ∙ test-true (le (round binary64 (negative y) (natAbs y * over c) (under c)) (round binary64 (negative z) (natAbs z * over c) (under c)))
+    (rounds y z (over c) (under c) (under-pos c (usable-true c u)) (h .le))
 
 -- nothing is below or equal to a NaN
-not-nan : (x : Float) → T (le x x) → isNan x ≡ false
+not-nan : (x : Float) → le x x ≡ true → isNan x ≡ false
 unfolding le isNan
-not-nan nan h = absurd h
+not-nan nan h = absurd (false≢true h)
 not-nan (inf s) h = refl
 not-nan (fin s m e) h = refl
 

@@ -5,7 +5,7 @@ use mathlib.Core.List.{List}
 use Prim.Native.Nat.{ℕ, zero, suc, _<_}
 use native.Mathlib.Omega.{arith}
 use borrow.Author.Tests.{ltb-true}
-use lib.Dec.{T, leb}
+use lib.Dec.{leb}
 use lib.Ieee.{Float, nan, le}
 use lib.IntN.{ℤ, pos}
 use lib.ListN.{length, getD, drop, List·getD-append}
@@ -38,7 +38,7 @@ module _ (clock : Clock) (counts : List ℤ) (room : ℕ) (done : modelAnswer cl
   pub model-count : (i : ℕ) → i < length counts → isCount (getD counts i (pos 0)) ≡ true
   model-count = all-pass (length counts) (countAt counts) (counts-say counts room (test-says (usableClock clock) (UnusableClock 0) (countsAnswer counts room) done .1) .0)
 
-  pub model-ordered : (i j : ℕ) → i < length counts → j < length counts → getD counts i (pos 0) ⩽ getD counts j (pos 0) → T (le (modelValue clock counts i) (modelValue clock counts j))
+  pub model-ordered : (i j : ℕ) → i < length counts → j < length counts → getD counts i (pos 0) ⩽ getD counts j (pos 0) → le (modelValue clock counts i) (modelValue clock counts j) ≡ true
   model-ordered i j h k = order-kept clock (getD counts i (pos 0)) (getD counts j (pos 0)) model-usable (model-count i h) (model-count j k)
 
 -- ---- a table of recorders
@@ -66,7 +66,7 @@ module _ (forms : List ℕ) (rates : List Float) (recorders : List ℕ) (counts 
   event-count = all-pass (length counts) (countAt counts) (events-say forms rates recorders counts room done .inside)
 
   pub events-ordered : (i j : ℕ) → i < length counts → j < length counts → getD recorders i 0 ≡ getD recorders j 0 → getD counts i (pos 0) ⩽ getD counts j (pos 0)
-      → T (le (eventValue forms rates recorders counts i) (eventValue forms rates recorders counts j))
+      → le (eventValue forms rates recorders counts i) (eventValue forms rates recorders counts j) ≡ true
   events-ordered i j h k same less =
-      subst (λ (r : ℕ). T (le (eventValue forms rates recorders counts i) (secondsOf (clockAt forms rates r) (getD counts j (pos 0))))) same
+      subst (λ (r : ℕ). le (eventValue forms rates recorders counts i) (secondsOf (clockAt forms rates r) (getD counts j (pos 0))) ≡ true) same
       (order-kept (clockAt forms rates (getD recorders i 0)) (getD counts i (pos 0)) (getD counts j (pos 0)) (event-usable i h) (event-count i h) (event-count j k) less)
