@@ -15,3 +15,5 @@ pub mod Exported
 pub mod Files
 pub mod SessionVersions
 pub mod Sessions
+pub mod SecondsVersions
+pub mod Seconds
