@@ -20,3 +20,5 @@ pub mod Sessions
 pub mod Implied
 pub mod ImpliedLineVersions
 pub mod ImpliedLine
+pub mod SecondsVersions
+pub mod Seconds
