@@ -108,6 +108,18 @@ static struct words words_of(enum utvpi_refusal number)
                               LINE_AT_HAND};
     case UTVPI_NO_LINES:
         return (struct words){"there is no rule to withdraw", "add one first", LINE_AT_HAND};
+    case UTVPI_BAD_CLOCK:
+        return (struct words){"the clock's number is not above 0, or too large for a float",
+                              "say how many seconds a tick lasts, or how many ticks a second has",
+                              NOTHING};
+    case UTVPI_BAD_COUNT:
+        return (struct words){"a value is too large to be a float exactly", fault, NOTHING};
+    case UTVPI_SHORT_SECONDS:
+        return (struct words){"the buffer for seconds is too short", fault, NOTHING};
+    case UTVPI_BAD_RECORDER:
+        return (struct words){"an event names a clock that is not there", fault, NOTHING};
+    case UTVPI_BAD_TABLE:
+        return (struct words){"the table of clocks is none", fault, NOTHING};
     }
     return (struct words){"this number is not known", fault, NOTHING};
 }
