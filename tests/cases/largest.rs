@@ -15,11 +15,12 @@ use utvpi_tests::document::largest;
 use utvpi_tests::files::{read, write};
 use utvpi_tests::library;
 use utvpi_tests::limits::{LARGEST_BOUND, LAST_VARIABLE, MOST_FILE, MOST_LINES};
-use utvpi_tests::limits::{MOST_N, MOST_NUMBERS, MOST_STACK, MOST_VARIABLES};
+use utvpi_tests::limits::{MOST_N, MOST_NUMBERS, MOST_RECORDERS, MOST_STACK, MOST_VARIABLES};
 use utvpi_tests::lines::{identify, line, lone, zero, Line};
 use utvpi_tests::make_lists::Shape;
 use utvpi_tests::records::{self, List};
 use utvpi_tests::second::Answer;
+use utvpi_tests::seconds::{Table, FORMS, LARGEST_COUNT};
 use utvpi_tests::sessions::Session;
 
 /// The decision on a list of the most variables and lines, which both checkers
@@ -207,6 +208,9 @@ fn little_stack() {
     let mut again = vec![0; MOST_NUMBERS];
     let mut buffers = Buffers::new(&mut Chance::new(114), needed(MOST_N));
     let mut other = Buffers::new(&mut Chance::new(118), needed(MOST_N));
+    let table = Table::of(&[(FORMS[1], 3.0); MOST_RECORDERS]);
+    let (recorders, counts) = ([0; MOST_VARIABLES], [LARGEST_COUNT; MOST_VARIABLES]);
+    let mut seconds = [0.0; MOST_VARIABLES];
     let results = with_little_stack(|| {
         let kept = library::refutation_take(library::refutation_begin(), &numbers, 1);
         [
@@ -219,10 +223,24 @@ fn little_stack() {
             other.implied_pair(MOST_N, &numbers, [0, 1]).result,
             other.implied_line(MOST_N, &numbers, lines[0]),
             other.implied_line(MOST_N, &numbers, zero(-1)),
+            library::model_seconds(FORMS[0], 0.5, &counts, &mut seconds).refusal as i64,
+            library::events_seconds(table.events(&recorders, &counts), &mut seconds).refusal as i64,
         ]
     });
     let [at_0, at_3] = [0, 3].map(|place| Answer::No(place).code());
-    let due = [0, at_3, at_0, size as i64, MOST_LINES as i64, 0, 0, 0, at_0];
+    let due = [
+        0,
+        at_3,
+        at_0,
+        size as i64,
+        MOST_LINES as i64,
+        0,
+        0,
+        0,
+        at_0,
+        0,
+        0,
+    ];
     assert_eq!(results, due);
     assert_eq!(again, numbers);
 }
