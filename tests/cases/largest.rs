@@ -1,7 +1,7 @@
 //! Lists of the most variables and the most lines: decided and compared with
 //! another method, written to a file and read back, their refutations taken in
 //! pieces; and every call on one of them in a thread with little stack, those of a
-//! session too.
+//! session too, and those for seconds.
 
 use std::thread;
 
@@ -208,9 +208,6 @@ fn little_stack() {
     let mut again = vec![0; MOST_NUMBERS];
     let mut buffers = Buffers::new(&mut Chance::new(114), needed(MOST_N));
     let mut other = Buffers::new(&mut Chance::new(118), needed(MOST_N));
-    let table = Table::of(&[(FORMS[1], 3.0); MOST_RECORDERS]);
-    let (recorders, counts) = ([0; MOST_VARIABLES], [LARGEST_COUNT; MOST_VARIABLES]);
-    let mut seconds = [0.0; MOST_VARIABLES];
     let results = with_little_stack(|| {
         let kept = library::refutation_take(library::refutation_begin(), &numbers, 1);
         [
@@ -223,24 +220,10 @@ fn little_stack() {
             other.implied_pair(MOST_N, &numbers, [0, 1]).result,
             other.implied_line(MOST_N, &numbers, lines[0]),
             other.implied_line(MOST_N, &numbers, zero(-1)),
-            library::model_seconds(FORMS[0], 0.5, &counts, &mut seconds).refusal as i64,
-            library::events_seconds(table.events(&recorders, &counts), &mut seconds).refusal as i64,
         ]
     });
     let [at_0, at_3] = [0, 3].map(|place| Answer::No(place).code());
-    let due = [
-        0,
-        at_3,
-        at_0,
-        size as i64,
-        MOST_LINES as i64,
-        0,
-        0,
-        0,
-        at_0,
-        0,
-        0,
-    ];
+    let due = [0, at_3, at_0, size as i64, MOST_LINES as i64, 0, 0, 0, at_0];
     assert_eq!(results, due);
     assert_eq!(again, numbers);
 }
@@ -264,4 +247,20 @@ fn little_stack_in_a_session() {
     });
     assert_eq!(results, [0; 3]);
     assert!(started == Session::new(MOST_N).state() && state == session.state());
+}
+
+/// Both calls that write seconds.
+#[test]
+fn little_stack_for_seconds() {
+    let table = Table::of(&[(FORMS[1], 3.0); MOST_RECORDERS]);
+    let (recorders, counts) = ([0; MOST_VARIABLES], [LARGEST_COUNT; MOST_VARIABLES]);
+    let mut seconds = vec![0.0; MOST_VARIABLES];
+    let results = with_little_stack(|| {
+        [
+            library::model_seconds(FORMS[0], 0.5, &counts, &mut seconds),
+            library::events_seconds(table.events(&recorders, &counts), &mut seconds),
+        ]
+    });
+    assert_eq!(results.map(|written| written.refusal), [0; 2]);
+    assert_eq!(seconds, [LARGEST_COUNT as f64 / 3.0; MOST_VARIABLES]);
 }
