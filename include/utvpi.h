@@ -1,12 +1,12 @@
 /* The C interface: a function that decides a list, and two that check a proposed
  * model of a list, and a proposed refutation of a list; a check of a refutation that
  * arrives in pieces, three functions for sessions, in which lines come one at a time,
- * two that say what a list implies, about two variables or of one line more, and two
- * for lists in files. A program links one file, libutvpi.a, which ./build-library makes
- * in target/lib/.
+ * two that say what a list implies, about two variables or of one line more, two that
+ * write a model in seconds, and two for lists in files. A program links one file,
+ * libutvpi.a, which ./build-library makes in target/lib/.
  *
- * Deciding, sessions and what a list implies take and write numbers, as the machine
- * holds them. The two checks take bytes, the lowest byte of each number first.
+ * Deciding, sessions, what a list implies and seconds take and write numbers, as the
+ * machine holds them. The two checks take bytes, the lowest byte of each number first.
  *
  * A LIST has n variables, numbered 0 to n-1, each standing for a whole number,
  * and lines of the form  a*x + b*y <= d.  A line is UTVPI_LINE_NUMBERS signed
@@ -363,6 +363,56 @@ utvpi_pair utvpi_implied_pair(uint64_t n, const int32_t *list, size_t list_len,
 int64_t utvpi_implied_line(uint64_t n, const int32_t *list, size_t list_len, utvpi_line line,
                            int64_t *model, size_t model_len, int64_t *work, size_t work_len);
 
+/* A MODEL IN SECONDS. A model counts ticks, of one clock or of several. Each count is
+ * written as seconds, a double: the count made a double, which is exact, as no count is
+ * beyond UTVPI_MOST_COUNT, and then one multiplication or one division by the rule of
+ * IEEE 754, as the clock's form says:
+ *
+ *     UTVPI_SECONDS_PER_TICK    count * rate    rate is how many seconds a tick lasts
+ *     UTVPI_TICKS_PER_SECOND    count / rate    rate is how many ticks a second has
+ *
+ * So each value is the exact one, rounded once, to the nearest double, of two to the even
+ * one. Give the rate that a double holds exactly: 100000 ticks per second are, 0.00001
+ * seconds per tick are not. Of one clock, a smaller count never has more seconds than a
+ * larger one: no effect is written before its cause. Too large a product or quotient is
+ * written as an infinity, which is an answer; 0 ticks are 0.0.
+ *
+ * The seconds are written to the front of the buffer, one for each count; what lies beyond
+ * them is left as it was. The buffer may overlap nothing else that is handed over. Where
+ * refusal is 0 they were written, and place is 0; a refusal leaves the buffer as it was,
+ * and gives one of UTVPI_BAD_CLOCK to UTVPI_BAD_TABLE. Lengths are in numbers. */
+#define UTVPI_SECONDS_PER_TICK 0
+#define UTVPI_TICKS_PER_SECOND 1
+
+/* The greatest count, 2 to the power of 53; the least is its opposite. */
+#define UTVPI_MOST_COUNT 9007199254740992
+
+/* The most recorders of a table. */
+#define UTVPI_MOST_RECORDERS 16
+
+typedef struct utvpi_seconds {
+    uint64_t refusal, place;
+} utvpi_seconds;
+
+/* Writes counts of one clock in seconds. It is refused, in this order: as UTVPI_BAD_CLOCK,
+ * place 0; as UTVPI_BAD_COUNT, at the lowest index of such a count; as
+ * UTVPI_SHORT_SECONDS. */
+utvpi_seconds utvpi_model_seconds(uint32_t form, double rate,
+                                  const int64_t *counts, size_t counts_len,
+                                  double *seconds, size_t seconds_len);
+
+/* Writes the counts of events in seconds, each by the clock of its recorder: recorder r has
+ * the form forms[r] and the rate rates[r], and the event with counts[i] is one of recorder
+ * recorders[i]. It is refused, in this order: as UTVPI_BAD_TABLE; as UTVPI_BAD_CLOCK, at
+ * the lowest such recorder, whether an event names it or not; as UTVPI_BAD_RECORDER, at
+ * the lowest event that names none; as UTVPI_BAD_COUNT, at the lowest index; as
+ * UTVPI_SHORT_SECONDS. */
+utvpi_seconds utvpi_events_seconds(const uint32_t *forms, size_t forms_len,
+                                   const double *rates, size_t rates_len,
+                                   const uint32_t *recorders, size_t recorders_len,
+                                   const int64_t *counts, size_t counts_len,
+                                   double *seconds, size_t seconds_len);
+
 /* A FILE for a list is records, each a two-byte length of its body, a two-byte
  * kind and the body, all with the lowest byte first: one of kind 1 and length
  * UTVPI_VARIABLES_BYTES, which is n; then the lines, in order; then one of kind 3 and
@@ -447,7 +497,8 @@ utvpi_file_written utvpi_write_list(uint64_t n, const int32_t *list, size_t list
  * implied. Starting a session gives 1, then 7; adding a line 7 for the state, 30, 3, then
  * for the new line 4, 5, 12, 6, 13, then 7 for the other buffers and 8; withdrawing one
  * 7, then 31. The place of a line that is handed over alone is the number of lines in the
- * list, or in the session.
+ * list, or in the session. Seconds of one clock give 50, 51, 52; of a table of recorders
+ * 54, 50, 53, 51, 52.
  */
 enum utvpi_refusal {
     /* n is above UTVPI_MOST_VARIABLES: use fewer variables. */
@@ -544,7 +595,30 @@ enum utvpi_refusal {
 
     /* The session has no line to withdraw: there is nothing to do. The place is 0. Only
      * withdrawing gives this. */
-    UTVPI_NO_LINES = 31
+    UTVPI_NO_LINES = 31,
+
+    /* The clock's form is not UTVPI_SECONDS_PER_TICK or UTVPI_TICKS_PER_SECOND, or its
+     * rate is not a finite number above 0: correct it. The place is the recorder, or 0
+     * where there is one clock. Only seconds give this and those up to 54. */
+    UTVPI_BAD_CLOCK = 50,
+
+    /* The count at this place, the first such, is below -UTVPI_MOST_COUNT or above
+     * UTVPI_MOST_COUNT, so that a double need not hold it: choose an origin nearer to the
+     * values. */
+    UTVPI_BAD_COUNT = 51,
+
+    /* The buffer for the seconds is shorter than the counts are many: lend a longer one.
+     * The place is 0. */
+    UTVPI_SHORT_SECONDS = 52,
+
+    /* The event at this place, the first such, names a recorder that the table has not:
+     * correct it, or add the recorder. */
+    UTVPI_BAD_RECORDER = 53,
+
+    /* The table has more than UTVPI_MOST_RECORDERS recorders, not a rate for each form, or
+     * not a recorder for each count: correct the lengths, or write the events in parts,
+     * each with the recorders that it needs. The place is 0. */
+    UTVPI_BAD_TABLE = 54
 };
 
 /* The places of UTVPI_SHORT_OUTPUT. */

@@ -6,13 +6,17 @@ mod header;
 
 /// The limits, lengths, kinds and parts of results that the header defines, by their
 /// names without UTVPI_.
-const LIMITS: [&str; 16] = [
+const LIMITS: [&str; 20] = [
     "MOST_VARIABLES",
     "MOST_LINES",
     "MOST_REFUTATION",
     "MOST_BOUND",
     "MOST_IDENTIFIER",
     "MOST_STACK",
+    "MOST_COUNT",
+    "MOST_RECORDERS",
+    "SECONDS_PER_TICK",
+    "TICKS_PER_SECOND",
     "LINE_NUMBERS",
     "RECORD_HEAD",
     "VARIABLES_BYTES",

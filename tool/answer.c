@@ -43,6 +43,11 @@ int disagree(const char *what)
     return STATUS_DISAGREE;
 }
 
+int disagree_on_seconds(void)
+{
+    return disagree("the library's seconds are not those that this program finds");
+}
+
 bool within_limits(const struct list *list)
 {
     return list->variables <= UTVPI_MOST_VARIABLES && list->count <= UTVPI_MOST_LINES;
@@ -102,6 +107,13 @@ bool values_hold(const struct list *list, size_t n, const int64_t *values)
     return UTVPI_IS_YES(utvpi_check_model(n, list_bytes, length, model_bytes, 8 * n));
 }
 
+/* Takes the seconds of all that a yes prints. False where they can't be trusted. */
+static bool take_all_seconds(const struct list *list)
+{
+    return take_seconds(list, VALUE, model, 1) && take_seconds(list, LEAST, bounds, 2) &&
+           take_seconds(list, GREATEST, bounds + 1, 2);
+}
+
 /* Prints a yes on the list among n variables, in full or only as such. */
 static int answer_yes(const struct list *list, size_t n, enum manner manner)
 {
@@ -116,6 +128,8 @@ static int answer_yes(const struct list *list, size_t n, enum manner manner)
     }
     if (manner == IN_SHORT) {
         puts("Yes. Whole numbers meet all the rules so far.");
+    } else if (manner != UNPRINTED && !take_all_seconds(list)) {
+        return disagree_on_seconds();
     } else if (manner != UNPRINTED) {
         print_yes(list, model, bounds, groups);
     }

@@ -57,7 +57,7 @@ const char help[] =
     "                   yet, or to standard output where NEW is \"-\"\n"
     "\n"
     "Both only convert, whatever form FILE has, and decide nothing. Identifiers are kept.\n"
-    "Names and comments are lost: records have none, and their events are called x0, x1\n"
+    "Names, clocks and comments are lost: records have none, and their events are called x0, x1\n"
     "and so on. A no about records counts its lines as --text prints them.\n"
     "\n"
     "The answer is one of these:\n"
@@ -77,6 +77,23 @@ const char help[] =
     "\n";
 
 /* A compiler need not take it all as one string. */
+const char help_of_clocks[] =
+    "A file in words may also say how a recorder's clock runs, by what it knows exactly, up\n"
+    "to " AS_TEXT(UTVPI_MOST_RECORDERS) " of them:\n"
+    "\n"
+    "    clock left = 100000 ticks per s\n"
+    "    clock right = 0.5 s per tick\n"
+    "\n"
+    "Events belong to it by their names: those that begin with left and a point, such as\n"
+    "left.brake, have the clock left. Of several that fit, the longest name counts; an event\n"
+    "that none fits has no clock. A yes then has seconds beside its numbers, as 64-bit\n"
+    "floats: the number multiplied by the seconds of a tick, or divided by the ticks of a\n"
+    "second, rounded once, and printed with as many digits as give the same float when they\n"
+    "are read back. --implies prints them beside its values, and a session takes clocks,\n"
+    "too; --between answers in ticks, and --text and --write leave clocks out. A clock\n"
+    "changes no rule and no answer.\n"
+    "\n";
+
 const char help_of_questions[] =
     "Two questions are about all the ways to meet the rules in FILE:\n"
     "\n"
@@ -103,8 +120,8 @@ const char help_of_session[] =
     "    help    prints this\n"
     "\n"
     "Lines count from 1, those that are no rules too. A line that is wrong or refused\n"
-    "changes nothing. After a no, undo has to come before another rule. The number of\n"
-    "variables can be given only before the first rule. A session ends with its input, on\n"
+    "changes nothing. After a no, undo has to come before another rule or clock. The number\n"
+    "of variables can be given only before the first rule. A session ends with its input, on\n"
     "a terminal with Ctrl-D.\n";
 
 const char help_of_check[] =

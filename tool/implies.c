@@ -62,6 +62,9 @@ static int answer_broken(const struct list *list, const int32_t *line)
     if (left_side(line, model) <= line[BOUND]) {
         return disagree("the library answered no, but its values meet the rule");
     }
+    if (!take_seconds(list, VALUE, model, 1)) {
+        return disagree_on_seconds();
+    }
     print_broken_line(list, line);
     return STATUS_NO;
 }
@@ -104,7 +107,7 @@ static bool read_at_hand(struct list *list)
 {
     struct origin origin = list->at_hand;
     uint64_t events = list->variables;
-    bool in_words = has_relation(origin.rule);
+    bool in_words = has_relation(origin.rule) && !is_clock(origin.rule);
     if (!in_words && (list->form == FORM_NAMES || origin.rule.length == 0 ||
                       is_letter(origin.rule.at[0]))) {
         return wrong(list, (struct origin){0, {"", 0}}, origin.rule,

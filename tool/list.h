@@ -49,6 +49,18 @@ struct origin {
     struct text rule;
 };
 
+/* A recorder's clock, of one of the library's forms, and the line of the file that has
+ * it. */
+struct clock {
+    struct text name;
+    uint32_t form;
+    double rate;
+    struct origin origin;
+};
+
+/* The columns of numbers that a table of events has. */
+enum column { VALUE, LEAST, GREATEST, COLUMNS };
+
 /* How an answer is printed: in full, a no in numbers, a yes only as such, or nothing of
  * it, so that it is only checked. */
 enum manner { IN_WORDS, IN_NUMBERS, IN_SHORT, UNPRINTED };
@@ -65,6 +77,10 @@ struct list {
     struct origin *origins;
     size_t count;
     size_t room;
+
+    /* The clocks, up to one too many. */
+    struct clock clocks[UTVPI_MOST_RECORDERS + 1];
+    size_t clock_count;
 
     /* How many variables there are; the line of the file that says so, or that
      * has the greatest number or the newest name. */
@@ -132,8 +148,9 @@ struct step {
     struct point to;
 };
 
-/* help.c: what --help prints, one after the other; the third, a session too. */
+/* help.c: what --help prints, one after the other; the fourth, a session too. */
 extern const char help[];
+extern const char help_of_clocks[];
 extern const char help_of_questions[];
 extern const char help_of_session[];
 extern const char help_of_check[];
@@ -147,6 +164,7 @@ bool is_digit(char c);
 bool is_letter(char c);
 bool begins_with_word(struct text text, const char *word);
 bool has_relation(struct text text);
+size_t name_length(struct text text);
 struct text trim(struct text text);
 bool wrong_in(const char *file, struct origin origin, struct text part, const char *what,
               const char *advice);
@@ -173,6 +191,19 @@ bool skip_separator(struct text *rest);
 bool read_numbers(struct list *list, struct origin origin);
 bool read_variables(struct list *list, struct origin origin);
 bool read_words(struct list *list, struct origin origin);
+
+/* clocks.c: one clock, and the clock of an event. */
+bool is_clock(struct text line);
+bool read_clock(struct list *list, struct origin origin);
+size_t clock_of(const struct list *list, uint64_t variable);
+
+/* seconds.c: the library's look at the clocks; the seconds of a table of events, taken
+ * first, and then printed beside its numbers. */
+bool take_clocks(const struct list *list);
+bool take_seconds(const struct list *list, enum column column, const int64_t *numbers,
+                  size_t stride);
+void print_seconds_head(const struct list *list, enum column column);
+void print_seconds(const struct list *list, enum column column, uint64_t variable);
 
 /* proposal.c: a proposed refutation's numbers. Its input and file are set before. */
 bool read_proposal(struct proposal *proposal);
@@ -205,6 +236,7 @@ int convert(const struct list *list, const char *to);
 /* answer.c: the library's answers, checked and printed; and what says that one can't be
  * trusted. */
 int disagree(const char *what);
+int disagree_on_seconds(void);
 bool within_limits(const struct list *list);
 int64_t turned(int64_t number);
 bool values_hold(const struct list *list, size_t n, const int64_t *values);

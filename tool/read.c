@@ -50,7 +50,7 @@ bool add_line(struct list *list, struct origin origin, const int32_t line[UTVPI_
     return true;
 }
 
-/* Reads one rule, which is not empty. */
+/* Reads one rule, or one clock, which is not empty. */
 bool read_rule(struct list *list, struct origin origin)
 {
     if (origin.rule.length > MOST_RULE) {
@@ -66,6 +66,9 @@ bool read_rule(struct list *list, struct origin origin)
                          "write <= for at most, >= for at least, - for minus, and names in the"
                          " letters a to z");
         }
+    }
+    if (is_clock(origin.rule)) {
+        return read_clock(list, origin);
     }
     if (has_relation(origin.rule)) {
         return read_words(list, origin);

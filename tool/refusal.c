@@ -4,9 +4,9 @@
 
 /* What of the file a refusal is about: nothing that stands there, the line that
  * says how many variables there are, the first rule too many, the rule at the
- * refusal's place, which is the one at hand behind the last, or the line of a session
- * that is read now. */
-enum about { NOTHING, VARIABLES, RULE_TOO_MANY, RULE_AT_PLACE, LINE_AT_HAND };
+ * refusal's place, which is the one at hand behind the last, the line of a session
+ * that is read now, or the last clock. */
+enum about { NOTHING, VARIABLES, RULE_TOO_MANY, RULE_AT_PLACE, LINE_AT_HAND, LAST_CLOCK };
 
 struct words {
     const char *what;
@@ -108,6 +108,21 @@ static struct words words_of(enum utvpi_refusal number)
                               LINE_AT_HAND};
     case UTVPI_NO_LINES:
         return (struct words){"there is no rule to withdraw", "add one first", LINE_AT_HAND};
+    case UTVPI_BAD_CLOCK:
+        return (struct words){"the clock's number is not above 0, or a float can't hold it",
+                              "say how many seconds a tick lasts, or how many ticks a second has",
+                              LAST_CLOCK};
+    case UTVPI_BAD_COUNT:
+        return (struct words){"a value is too large to be a float exactly", fault, NOTHING};
+    case UTVPI_SHORT_SECONDS:
+        return (struct words){"the buffer for seconds is too short", fault, NOTHING};
+    case UTVPI_BAD_RECORDER:
+        return (struct words){"an event names a clock that is not there", fault, NOTHING};
+    case UTVPI_BAD_TABLE:
+        return (struct words){"there are more than " AS_TEXT(UTVPI_MOST_RECORDERS) " clocks",
+                              "leave out clocks that no event has, or decide parts that share no"
+                              " event one by one",
+                              LAST_CLOCK};
     }
     return (struct words){"this number is not known", fault, NOTHING};
 }
@@ -130,6 +145,9 @@ static struct origin offender(const struct list *list, enum about about, size_t 
     }
     if (about == LINE_AT_HAND) {
         return list->at_hand;
+    }
+    if (about == LAST_CLOCK && list->clock_count > 0) {
+        return list->clocks[list->clock_count - 1].origin;
     }
     if (about == RULE_TOO_MANY && list->count > UTVPI_MOST_LINES) {
         return list->origins[UTVPI_MOST_LINES];

@@ -10,10 +10,11 @@
 
 static const struct text nothing = {"", 0};
 
-/* What a list was before a line of the input was read. What that brings, lines and
- * names, stands behind the others: how many there were is enough to go back. */
+/* What a list was before a line of the input was read. What that brings, lines, names
+ * and a clock, stands behind the others: how many there were is enough to go back. */
 struct before {
     size_t count;
+    size_t clock_count;
     uint64_t variables;
     struct origin variables_from;
     bool declared;
@@ -21,8 +22,8 @@ struct before {
     size_t form_line;
 };
 
-/* A line of the input that was taken: a rule, or how many variables there are. The list
- * points into its text. */
+/* A line of the input that was taken: a rule, a clock, or how many variables there are.
+ * The list points into its text. */
 struct entry {
     struct text input;
     struct origin origin;
@@ -51,13 +52,15 @@ struct session {
 
 static struct before before_now(const struct list *list)
 {
-    return (struct before){list->count,    list->variables, list->variables_from,
-                           list->declared, list->form,      list->form_line};
+    return (struct before){list->count,          list->clock_count, list->variables,
+                           list->variables_from, list->declared,    list->form,
+                           list->form_line};
 }
 
 static void go_back(struct list *list, struct before before)
 {
     list->count = before.count;
+    list->clock_count = before.clock_count;
     list->variables = before.variables;
     list->variables_from = before.variables_from;
     list->declared = before.declared;
@@ -139,12 +142,17 @@ static bool has_room(struct session *session)
     return true;
 }
 
-/* Whether a line is for read_rule to judge: it is none that begins with a word, or says
- * how many variables there are, before all rules. */
+/* Whether a line is for read_rule to judge: it is none that begins with a word, but for a
+ * clock where the rules don't clash, and how many variables there are, before all rules. */
 static bool may_be_rule(const struct session *session, struct origin origin)
 {
     const struct list *list = &session->list;
     struct text line = origin.rule;
+    if (session->clash && is_clock(line)) {
+        origin.rule = nothing;
+        return wrong(list, origin, line, "comes after rules that can't all be met",
+                     "withdraw the last of them with undo, and give the clock then");
+    }
     if (has_relation(line) || !is_letter(line.at[0]) || line.length > MOST_RULE) {
         return true;
     }
@@ -160,7 +168,7 @@ static bool may_be_rule(const struct session *session, struct origin origin)
                  "withdraw the rules with undo, or begin another session with this line");
 }
 
-/* Takes a rule, or how many variables there are, and answers. Where it is not taken,
+/* Takes a rule, and answers; or a clock, or how many variables there are. Where it is not taken,
  * all is as it was before. Gives back a status; the text is kept if that is a yes or a
  * no. */
 static int take(struct session *session, struct text input)

@@ -110,6 +110,18 @@ bool has_relation(struct text text)
     return false;
 }
 
+/* How many characters the name has with which a text begins. */
+size_t name_length(struct text text)
+{
+    size_t length = 0;
+    while (length < text.length && (is_letter(text.at[length]) ||
+                                    (length > 0 && (is_digit(text.at[length]) ||
+                                                    text.at[length] == '.')))) {
+        length++;
+    }
+    return length;
+}
+
 /* The text without the blanks around it. */
 struct text trim(struct text text)
 {

@@ -250,6 +250,7 @@ int main(int argc, char **argv)
     const char *wrong_use = read_command(argc, argv, &command);
     if (command.help) {
         fputs(help, stdout);
+        fputs(help_of_clocks, stdout);
         fputs(help_of_questions, stdout);
         fputs(help_of_session, stdout);
         putchar('\n');

@@ -50,14 +50,8 @@ static void take(struct parser *p, enum kind kind, size_t length)
 
 static bool next_name(struct parser *p)
 {
-    size_t length = 1;
-    while (length < p->rest.length &&
-           (is_letter(p->rest.at[length]) || is_digit(p->rest.at[length]) ||
-            p->rest.at[length] == '.')) {
-        length++;
-    }
-    take(p, NAME, length);
-    return length <= MOST_NAME ||
+    take(p, NAME, name_length(p->rest));
+    return p->part.length <= MOST_NAME ||
            fail(p, "is a name of more than " AS_TEXT(MOST_NAME) " characters",
                 "choose a shorter name");
 }

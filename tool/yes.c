@@ -1,4 +1,5 @@
-/* Printing a yes: each event's value, least, greatest and group; or values alone. */
+/* Printing a yes: each event's value, least, greatest and group; or values alone. Seconds
+ * stand beside all numbers, where there are clocks. */
 #include "list.h"
 
 #include <inttypes.h>
@@ -63,13 +64,16 @@ static void print_value(const struct list *list, uint64_t v, int width, int64_t 
     print_event(stdout, list, v);
     printf("%*s", width - event_width(list, v), "");
     print_cell(value, false);
+    print_seconds(list, VALUE, v);
 }
 
 /* Prints values, one for each event. */
 void print_values(const struct list *list, const int64_t *values)
 {
     int width = events_width(list);
-    printf("  %-*s  %10s\n", width, "event", "value");
+    printf("  %-*s  %10s", width, "event", "value");
+    print_seconds_head(list, VALUE);
+    putchar('\n');
     for (uint64_t v = 0; v < list->variables; v++) {
         print_value(list, v, width, values[v]);
         putchar('\n');
@@ -81,7 +85,9 @@ static void print_row(const struct list *list, uint64_t v, int width, int64_t va
 {
     print_value(list, v, width, value);
     print_cell(bound[0], bound[0] == UTVPI_NO_LEAST);
+    print_seconds(list, LEAST, v);
     print_cell(bound[1], bound[1] == UTVPI_NO_GREATEST);
+    print_seconds(list, GREATEST, v);
     fputs("  ", stdout);
     print_point(list, group);
     fputc('\n', stdout);
@@ -114,10 +120,25 @@ static void print_group(const struct list *list, const uint32_t *groups, uint64_
     puts(", always");
 }
 
-static void print_legend(bool some_low, bool some_high)
+static void print_head(const struct list *list, int width)
+{
+    printf("  %-*s  %10s", width, "event", "value");
+    print_seconds_head(list, VALUE);
+    printf("  %10s", "least");
+    print_seconds_head(list, LEAST);
+    printf("  %10s", "greatest");
+    print_seconds_head(list, GREATEST);
+    puts("  group");
+}
+
+static void print_legend(const struct list *list, bool some_low, bool some_high)
 {
     puts("\nvalue: together, these values meet every rule; each is as near to 0 as the\n"
          "ones above it allow. least, greatest: over all the ways to meet the rules.");
+    if (list->clock_count > 0) {
+        puts("seconds: of the number before them, by the clock NAME of the event NAME.rest; they\n"
+             "read back as the same floats. - where the event has no clock.");
+    }
     if (some_low) {
         puts("none under least: the rules let this event be as low as you like.");
     }
@@ -162,10 +183,10 @@ void print_yes(const struct list *list, const int64_t *model, const int64_t *bou
         some_shared = some_shared || groups[2 * v] != v;
         some_opposite = some_opposite || group_of(groups, v).sign < 0;
     }
-    printf("  %-*s  %10s  %10s  %10s  %s\n", width, "event", "value", "least", "greatest", "group");
+    print_head(list, width);
     for (uint64_t v = 0; v < list->variables; v++) {
         print_row(list, v, width, model[v], bounds + 2 * v, group_of(groups, v));
     }
-    print_legend(some_low, some_high);
+    print_legend(list, some_low, some_high);
     print_groups(list, groups, some_shared, some_opposite);
 }

@@ -1,7 +1,7 @@
 //! Lists of the most variables and the most lines: decided and compared with
 //! another method, written to a file and read back, their refutations taken in
 //! pieces; and every call on one of them in a thread with little stack, those of a
-//! session too.
+//! session too, and those for seconds.
 
 use std::thread;
 
@@ -15,11 +15,12 @@ use utvpi_tests::document::largest;
 use utvpi_tests::files::{read, write};
 use utvpi_tests::library;
 use utvpi_tests::limits::{LARGEST_BOUND, LAST_VARIABLE, MOST_FILE, MOST_LINES};
-use utvpi_tests::limits::{MOST_N, MOST_NUMBERS, MOST_STACK, MOST_VARIABLES};
+use utvpi_tests::limits::{MOST_N, MOST_NUMBERS, MOST_RECORDERS, MOST_STACK, MOST_VARIABLES};
 use utvpi_tests::lines::{identify, line, lone, zero, Line};
 use utvpi_tests::make_lists::Shape;
 use utvpi_tests::records::{self, List};
 use utvpi_tests::second::Answer;
+use utvpi_tests::seconds::{Table, FORMS, LARGEST_COUNT};
 use utvpi_tests::sessions::Session;
 
 /// The decision on a list of the most variables and lines, which both checkers
@@ -246,4 +247,20 @@ fn little_stack_in_a_session() {
     });
     assert_eq!(results, [0; 3]);
     assert!(started == Session::new(MOST_N).state() && state == session.state());
+}
+
+/// Both calls that write seconds.
+#[test]
+fn little_stack_for_seconds() {
+    let table = Table::of(&[(FORMS[1], 3.0); MOST_RECORDERS]);
+    let (recorders, counts) = ([0; MOST_VARIABLES], [LARGEST_COUNT; MOST_VARIABLES]);
+    let mut seconds = vec![0.0; MOST_VARIABLES];
+    let results = with_little_stack(|| {
+        [
+            library::model_seconds(FORMS[0], 0.5, &counts, &mut seconds),
+            library::events_seconds(table.events(&recorders, &counts), &mut seconds),
+        ]
+    });
+    assert_eq!(results.map(|written| written.refusal), [0; 2]);
+    assert_eq!(seconds, [LARGEST_COUNT as f64 / 3.0; MOST_VARIABLES]);
 }

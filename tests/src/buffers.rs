@@ -50,6 +50,15 @@ impl<T: Copy> Guarded<T> {
         &self.whole[GUARD..GUARD + self.length]
     }
 
+    /// What lies behind the first numbers that are lent.
+    pub fn behind(&self, first: usize) -> &[T] {
+        &self.whole[GUARD + first..]
+    }
+
+    pub fn before(&self) -> &[T] {
+        &self.whole[..GUARD]
+    }
+
     pub fn lent_mut(&mut self) -> &mut [T] {
         &mut self.whole[GUARD..GUARD + self.length]
     }

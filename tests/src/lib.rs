@@ -20,6 +20,7 @@ pub mod make_cases;
 pub mod make_lists;
 pub mod records;
 pub mod second;
+pub mod seconds;
 pub mod seen;
 pub mod session_calls;
 pub mod sessions;

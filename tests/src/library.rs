@@ -48,6 +48,14 @@ pub struct ImpliedPair {
     pub minus: [i64; 2],
 }
 
+/// What writing seconds returns.
+#[repr(C)]
+#[derive(Clone, Copy, PartialEq, Debug)]
+pub struct SecondsWritten {
+    pub refusal: u64,
+    pub place: u64,
+}
+
 /// A line, as a session and the question of a line are handed it.
 #[repr(C)]
 struct LineByValue {
@@ -136,6 +144,28 @@ extern "C" {
         work: *mut i64,
         work_len: usize,
     ) -> i64;
+
+    fn utvpi_model_seconds(
+        form: u32,
+        rate: f64,
+        counts: *const i64,
+        counts_len: usize,
+        seconds: *mut f64,
+        seconds_len: usize,
+    ) -> SecondsWritten;
+
+    fn utvpi_events_seconds(
+        forms: *const u32,
+        forms_len: usize,
+        rates: *const f64,
+        rates_len: usize,
+        recorders: *const u32,
+        recorders_len: usize,
+        counts: *const i64,
+        counts_len: usize,
+        seconds: *mut f64,
+        seconds_len: usize,
+    ) -> SecondsWritten;
 
     fn utvpi_refutation_begin() -> Progress;
 
@@ -299,6 +329,49 @@ pub fn implied_line(n: u64, list: &[i32], line: Line, model: &mut [i64], work: &
             model.len(),
             work.as_mut_ptr(),
             work.len(),
+        )
+    }
+}
+
+/// What `utvpi_model_seconds` returns.
+pub fn model_seconds(form: u32, rate: f64, counts: &[i64], seconds: &mut [f64]) -> SecondsWritten {
+    // The function stays within the lengths and keeps no pointer.
+    unsafe {
+        utvpi_model_seconds(
+            form,
+            rate,
+            counts.as_ptr(),
+            counts.len(),
+            seconds.as_mut_ptr(),
+            seconds.len(),
+        )
+    }
+}
+
+/// A table of recorders, each with the form and the rate of its clock; for each event its
+/// recorder, and its count.
+pub struct Events<'a> {
+    pub forms: &'a [u32],
+    pub rates: &'a [f64],
+    pub recorders: &'a [u32],
+    pub counts: &'a [i64],
+}
+
+/// What `utvpi_events_seconds` returns.
+pub fn events_seconds(events: Events, seconds: &mut [f64]) -> SecondsWritten {
+    // The function stays within the lengths and keeps no pointer.
+    unsafe {
+        utvpi_events_seconds(
+            events.forms.as_ptr(),
+            events.forms.len(),
+            events.rates.as_ptr(),
+            events.rates.len(),
+            events.recorders.as_ptr(),
+            events.recorders.len(),
+            events.counts.as_ptr(),
+            events.counts.len(),
+            seconds.as_mut_ptr(),
+            seconds.len(),
         )
     }
 }
