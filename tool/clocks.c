@@ -121,12 +121,14 @@ static bool read_name(const struct list *list, struct origin origin, struct text
     take_off(rest, strlen(clock_word));
     *name = take_off(rest, name_length(*rest));
     if (name->length > MOST_NAME) {
-        return wrong(list, origin, *name, "is a name of more than " AS_TEXT(MOST_NAME) " characters",
+        return wrong(list, origin, *name,
+                     "is a name of more than " AS_TEXT(MOST_NAME) " characters",
                      "choose a shorter name");
     }
     for (size_t at = 0; at < list->clock_count; at++) {
         if (is_same(list->clocks[at].name, *name)) {
-            return wrong(list, origin, *name, "has a clock already", "give each recorder one clock");
+            return wrong(list, origin, *name, "has a clock already",
+                         "give each recorder one clock");
         }
     }
     if (rest->length == 0 || rest->at[0] != '=') {

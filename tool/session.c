@@ -168,9 +168,9 @@ static bool may_be_rule(const struct session *session, struct origin origin)
                  "withdraw the rules with undo, or begin another session with this line");
 }
 
-/* Takes a rule, and answers; or a clock, or how many variables there are. Where it is not taken,
- * all is as it was before. Gives back a status; the text is kept if that is a yes or a
- * no. */
+/* Takes a rule, and answers; or a clock, or how many variables there are. Where it is
+ * not taken, all is as it was before. Gives back a status; the text is kept if that is a
+ * yes or a no. */
 static int take(struct session *session, struct text input)
 {
     struct list *list = &session->list;

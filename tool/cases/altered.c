@@ -1,16 +1,18 @@
 /* The library's answer with something altered, for the tests: the command, built with
  * altered_decide in place of utvpi_decide, and so on, has to find it. ALTERATION is a
  * statement for deciding and sessions, PAIR_ALTERATION and LINE_ALTERATION are for the
- * two questions; what is not given alters nothing. */
+ * two questions, SECONDS_ALTERATION is for seconds; what is not given alters nothing. */
 #define utvpi_decide altered_decide
 #define utvpi_session_add altered_session_add
 #define utvpi_implied_pair altered_implied_pair
 #define utvpi_implied_line altered_implied_line
+#define utvpi_events_seconds altered_events_seconds
 #include "utvpi.h"
 #undef utvpi_decide
 #undef utvpi_session_add
 #undef utvpi_implied_pair
 #undef utvpi_implied_line
+#undef utvpi_events_seconds
 
 #ifndef ALTERATION
 #define ALTERATION (void)0
@@ -21,12 +23,16 @@
 #ifndef LINE_ALTERATION
 #define LINE_ALTERATION (void)0
 #endif
+#ifndef SECONDS_ALTERATION
+#define SECONDS_ALTERATION (void)0
+#endif
 
 /* The header declared those that the command calls; the library's are of their types. */
 extern __typeof__(altered_decide) utvpi_decide;
 extern __typeof__(altered_session_add) utvpi_session_add;
 extern __typeof__(altered_implied_pair) utvpi_implied_pair;
 extern __typeof__(altered_implied_line) utvpi_implied_line;
+extern __typeof__(altered_events_seconds) utvpi_events_seconds;
 
 int64_t altered_decide(uint64_t n, const int32_t *list, size_t list_len,
                        int64_t *model, size_t model_len, int64_t *bounds, size_t bounds_len,
@@ -75,4 +81,17 @@ int64_t altered_implied_line(uint64_t n, const int32_t *list, size_t list_len, u
                                         work_len);
     LINE_ALTERATION;
     return result;
+}
+
+utvpi_seconds altered_events_seconds(const uint32_t *forms, size_t forms_len,
+                                     const double *rates, size_t rates_len,
+                                     const uint32_t *recorders, size_t recorders_len,
+                                     const int64_t *counts, size_t counts_len,
+                                     double *seconds, size_t seconds_len)
+{
+    utvpi_seconds written = utvpi_events_seconds(forms, forms_len, rates, rates_len, recorders,
+                                                 recorders_len, counts, counts_len, seconds,
+                                                 seconds_len);
+    SECONDS_ALTERATION;
+    return written;
 }
