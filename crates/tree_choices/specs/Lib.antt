@@ -1,0 +1,5 @@
+pub mod Choosing
+pub mod Marking
+pub mod Chosen
+pub mod Formula
+pub mod Examples
