@@ -1,0 +1,3 @@
+pub mod Masked
+pub mod Refuted
+pub mod Condition
