@@ -1,7 +1,7 @@
 -- A tree over the lines of a list: an assignment meets the condition exactly if it solves the list of one of its choices,
 -- in which each line that is not picked is zeros.
 use mathlib.Core.Path.{_≡_, refl, sym, ap, subst, _∙_}
-use mathlib.Core.Logic.{_⊎_, inl, inr, ⊎-elim}
+use mathlib.Core.Logic.{_↔_, _⊎_, inl, inr, ⊎-elim}
 use mathlib.Core.Bool.{Bool, true, false}
 use mathlib.Core.List.{List, [], _∷_, _++_, map}
 use Prim.Native.Nat.{ℕ, zero, suc, _<_}
@@ -13,15 +13,20 @@ use lib.ListN.{length, getD, set, replicate, length-set, length-replicate, getD-
 use lib.Seq.{getD-set-same, getD-set-other}
 use Rattle.integers.specs.Laws.{never}
 use Rattle.lines.specs.Line.{lineAt, lineCount, linesOf, Assignment, Meets, Solves}
+use Rattle.lines.specs.declared.Validity.the-variants.{Valid}
+use Rattle.lines.specs.Refusal.{validityOf}
+use Rattle.tree_reading.specs.declared.Node.{Node}
+use Rattle.tree_reading.specs.declared.Reading.the-variants.{Read}
 use Rattle.tree_reading.specs.Tree.{Kind, all, any, Row, none, line, node, Fits, levels}
 use Rattle.tree_reading.specs.Choices.{pairs, joined, choices, count}
-use Rattle.tree_choices.specs.Choosing.{marked}
+use Rattle.tree_choices.specs.Choosing.{marked, flagsAfter}
+use Rattle.tree_choices.specs.Chosen.{Chosen}
 use Rattle.tree_reading.specs.Counted.{count-choices}
 use Rattle.tree_choices.specs.Formula.{All, Some, Holds, both-all, holds-some, some-holds, some-number, number-some}
-use Rattle.tree_lists.specs.Masked.{isPicked, masked, masked-solved, solved-masked}
+use Rattle.tree_lists.specs.Masked.{isPicked, masked, masked-valid, masked-solved, solved-masked}
 
 -- ---- the flags of some lines
-abbrev In : ℕ → List ℕ → Type 0
+abbrev pub In : ℕ → List ℕ → Type 0
 In i [] = ⊥
 In i (x ∷ xs) = (i ≡ x) ⊎ In i xs
 
@@ -114,24 +119,54 @@ module _ (m : ℕ) where
   each-at (x ∷ xs) (suc n) l h = each-at xs n (omega arith) (h .1)
 
 -- ---- the condition
-module _ (L : List ℤ) (t : Row) (f : Fits (lineCount L) all levels t) (a : Assignment) where
-  -- the list of choice number n, and the condition itself
-  abbrev pub listOf : ℕ → List ℤ
-  listOf n = masked (flagsOf (lineCount L) (getD (choices all t) n [])) L
+-- the flags of choice number n, and its list
+abbrev pub choiceFlags : List ℤ → Row → ℕ → List ℕ
+choiceFlags L t n = flagsOf (lineCount L) (getD (choices all t) n [])
 
-  abbrev pub Condition : Type 0
-  Condition = Holds (λ i. Meets a (lineAt L i)) all t
+unfoldable pub choiceList : List ℤ → Row → ℕ → List ℤ
+choiceList L t n = masked (choiceFlags L t n) L
 
-  pub some-choice : Condition → (n : ℕ) × (n < count all t) × Solves (linesOf (listOf n)) a
+-- the flags say which lines the choice picks
+pub picked-exactly : (L : List ℤ) (t : Row) (n k : ℕ) → k < lineCount L → (isPicked (choiceFlags L t n) k ≡ true) ↔ In k (getD (choices all t) n [])
+picked-exactly L t n k h =
+    let none : List ℕ = replicate (lineCount L) 0 in
+    let lines : List ℕ = getD (choices all t) n [] in (
+      (λ e. ⊎-elim (λ a. never (sym (getD-replicate (lineCount L) k 0 0 h) ∙ eqb-true _ _ a)) (λ b. b) (flag-only k none lines e)),
+      (λ i. flag-set k none lines (omega (arith, length-replicate {A = ℕ} (lineCount L) 0)) i),
+    )
+
+-- the tree as a formula over the lines of the list
+abbrev pub Condition : List ℤ → Row → Assignment → Type 0
+Condition L t s = Holds (λ i. Meets s (lineAt L i)) all t
+
+module _ (L : List ℤ) (t : Row) (s : Assignment) where
+  pub some-choice : Condition L t s → (n : ℕ) × (n < count all t) × Solves (linesOf (choiceList L t n)) s
+  unfolding choiceList
   some-choice h =
-      let P : ℕ → Type 0 = λ i. Meets a (lineAt L i) in
-      let s = some-number P (choices all t) (holds-some P all t h) in
-      (s .0, subst (λ (n : ℕ). s .0 < n) (count-choices all t) (s .1), solved-masked _ L a (picked-all P (lineCount L) (getD (choices all t) (s .0) []) (s .2)))
+      let P : ℕ → Type 0 = λ i. Meets s (lineAt L i) in
+      let some = some-number P (choices all t) (holds-some P all t h) in (
+        some .0,
+        subst (λ (c : ℕ). some .0 < c) (count-choices all t) (some .1),
+        solved-masked _ L s (picked-all P (lineCount L) (getD (choices all t) (some .0) []) (some .2)),
+      )
 
-  pub choice-meets : (n : ℕ) → n < count all t → Solves (linesOf (listOf n)) a → Condition
-  choice-meets n l h =
-      let P : ℕ → Type 0 = λ i. Meets a (lineAt L i) in
+  pub choice-meets : Fits (lineCount L) all levels t → (n : ℕ) → n < count all t → Solves (linesOf (choiceList L t n)) s → Condition L t s
+  unfolding choiceList
+  choice-meets f n l h =
+      let P : ℕ → Type 0 = λ i. Meets s (lineAt L i) in
       let k : n < length (choices all t) = subst (λ (j : ℕ). n < j) (sym (count-choices all t)) l in
-      let c : List ℕ = getD (choices all t) n [] in
-      let g : All P c = all-picked P (lineCount L) c (each-at (lineCount L) (choices all t) n k (listed (lineCount L) levels all t f)) (masked-solved (flagsOf (lineCount L) c) L a h) in
-      some-holds P all t (number-some P (choices all t) n k g)
+      let lines : List ℕ = getD (choices all t) n [] in
+      let listed : All (λ i. i < lineCount L) lines = each-at (lineCount L) (choices all t) n k (listed (lineCount L) levels all t f) in
+      let met : All P lines = all-picked P (lineCount L) lines listed (masked-solved (flagsOf (lineCount L) lines) L s h) in
+      some-holds P all t (number-some P (choices all t) n k met)
+
+-- what choosing in a tree's numbers leaves in flags that were all 0, and masking by them, is the list of that choice
+pub chosen-list : (s : List ℕ) (L : List ℤ) (n : ℕ) (b : Node) (c : Chosen s (lineCount L) n b)
+    → masked (flagsAfter s (lineCount L) n (replicate (lineCount L) 0) (Read b)) L ≡ choiceList L (c .valid .read .tree) n
+unfolding choiceList
+chosen-list s L n b c = ap (λ (flags : List ℕ). masked flags L) (c .flags (replicate (lineCount L) 0))
+
+-- a choice is decided as its list: it is valid
+pub choice-valid : (n : ℕ) (L : List ℤ) (t : Row) (k : ℕ) → validityOf n L ≡ Valid → validityOf n (choiceList L t k) ≡ Valid
+unfolding choiceList
+choice-valid n L t k = masked-valid (choiceFlags L t k) L n

@@ -80,7 +80,7 @@ module _ (flags : List ℕ) (L : List ℤ) where
   half-twice : (k l : ℕ) → k ≡ 2 * l → k / 2 ≡ l
   half-twice k l e = omega arith
 
-  false-masked : (k : ℕ) → FalseStep (masked flags L) k → PickedStep k × FalseStep L k
+  pub false-masked : (k : ℕ) → FalseStep (masked flags L) k → PickedStep k × FalseStep L k
   false-masked k w = go (isPicked flags (w .line)) refl
     where
       within : w .line < lineCount L
