@@ -3,3 +3,4 @@ pub mod Marking
 pub mod Chosen
 pub mod Formula
 pub mod Examples
+pub mod Missing

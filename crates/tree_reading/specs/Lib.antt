@@ -13,3 +13,4 @@ pub mod Shape
 pub mod Examples
 pub mod Faults
 pub mod FirstFault
+pub mod Refused
