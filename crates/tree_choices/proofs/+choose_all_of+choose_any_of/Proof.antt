@@ -93,11 +93,11 @@ pub +choose-all-of+choose-any-of-spec : {M : Type 1} → statement M
     choose-all-of-Inv-loop
     choose-all-of-μ-loop
     (search needs) (search needs) (search needs)
-    -- add-wide
+    -- add-as-index
     (λ c. omega (arith, line-at _ _ _ all _ (sym (c .before .before .before .head-at .ensures) ∙ c .before .enum-told2 .given .1) .whole))
-    -- mul-wide
+    -- mul-as-index
     (λ c. omega (arith, line-at _ _ _ all _ (sym (c .before .before .before .head-at .ensures) ∙ c .before .enum-told2 .given .1) .whole))
-    -- shared-slice-read-wide
+    -- shared-slice-read-as-index
     (λ c. omega (arith, line-at _ _ _ all _ (sym (c .before .before .before .before .head-at .ensures) ∙ c .before .before .enum-told2 .given .1) .whole))
     (search needs) (search needs) (search needs)
     -- add-from
@@ -107,27 +107,27 @@ pub +choose-all-of+choose-any-of-spec : {M : Type 1} → statement M
     (search needs) (search needs) (search needs) (search needs)
     -- returns
     (λ c.
-    let k = c .before .before in
-    stops _ _ _ all _ _ _ _ _ _ _ _ _ (k .before .before .loop .inv) _ (k .before .loop-test .taken) (sym (k .read-any-of .ensures) ∙ c .enum-told3 .given .1))
+    let read = c .before .before in
+    stops _ _ _ all _ _ _ _ _ _ _ _ _ (read .before .before .loop .inv) _ (read .before .loop-test .taken) (sym (read .read-any-of .ensures) ∙ c .enum-told3 .given .1))
     (search needs) (search needs) (search needs) (search needs) (search needs) (search needs) (search needs) (search needs)
     -- loop-again
     (λ c.
-    let p = c .before .before .before in
-    let q2 = p .before .before in
-    let q = q2 .before in
-    let r = q .before .before .before .before in
-    let l = r .before .before .loop in
-    rw (c .remainder .ensures, q .quotient .ensures)
-    (next-factor _ _ _ _ _ _ _ (l .left) (l .from) (l .rest) (l .number) (l .picked) _ _ (r .before .loop-test .taken) (l .inv)
-    (sym (r .read-any-of .ensures) ∙ q .before .before .child .given .1)
-    (rw (q2 .quotient2 .ensures, q .quotient .ensures) at (p .choose-any-of .ensures))))
+    let inside = c .before .before .before in
+    let choice = inside .before .before in
+    let rest = choice .before in
+    let read = rest .before .before .before .before in
+    let turn = read .before .before .loop in
+    rw (c .remainder .ensures, rest .quotient .ensures)
+    (next-factor _ _ _ _ _ _ _ (turn .left) (turn .from) (turn .rest) (turn .number) (turn .picked) _ _ (read .before .loop-test .taken) (turn .inv)
+    (sym (read .read-any-of .ensures) ∙ rest .before .before .child .given .1)
+    (rw (choice .quotient2 .ensures, rest .quotient .ensures) at (inside .choose-any-of .ensures))))
     -- returns-2
     (λ c. sym (chosen-wrong _ _ _ all _ _ _ _ _ (sym (c .before .before .head-at .ensures) ∙ c .enum-told .given .1)))
     (search needs)
     -- returns-3
     (λ c.
-    let p = c .before .before in
-    rw (p .before .as-index .ensures) at (p .pick .ensures) ∙ sym (chosen-line _ _ _ all _ _ _ _ (sym (p .before .before .before .before .before .before .head-at .ensures) ∙ p .before .before .before .before .enum-told2 .given .1)))
+    let picked = c .before .before in
+    rw (picked .before .as-index .ensures) at (picked .pick .ensures) ∙ sym (chosen-line _ _ _ all _ _ _ _ (sym (picked .before .before .before .before .before .before .head-at .ensures) ∙ picked .before .before .before .before .enum-told2 .given .1)))
     (search needs)
     -- returns-4
     (λ c. ends _ _ _ all _ _ _ _ _ _ _ _ _ (c .before .loop .inv) (omega arith)))
@@ -148,11 +148,11 @@ pub +choose-all-of+choose-any-of-spec : {M : Type 1} → statement M
     choose-any-of-Inv-loop
     choose-any-of-μ-loop
     (search needs) (search needs) (search needs)
-    -- add-wide
+    -- add-as-index
     (λ c. omega (arith, line-at _ _ _ any _ (sym (c .before .before .before .head-at .ensures) ∙ c .before .enum-told2 .given .1) .whole))
-    -- mul-wide
+    -- mul-as-index
     (λ c. omega (arith, line-at _ _ _ any _ (sym (c .before .before .before .head-at .ensures) ∙ c .before .enum-told2 .given .1) .whole))
-    -- shared-slice-read-wide
+    -- shared-slice-read-as-index
     (λ c. omega (arith, line-at _ _ _ any _ (sym (c .before .before .before .before .head-at .ensures) ∙ c .before .before .enum-told2 .given .1) .whole))
     (search needs) (search needs) (search needs)
     -- add-from
@@ -162,33 +162,33 @@ pub +choose-all-of+choose-any-of-spec : {M : Type 1} → statement M
     (search needs) (search needs) (search needs) (search needs)
     -- returns
     (λ c.
-    let k = c .before .before in
-    stops _ _ _ any _ _ _ _ _ _ _ _ _ (k .before .before .loop .inv) _ (k .before .loop-test .taken) (sym (k .read-all-of .ensures) ∙ c .enum-told3 .given .1))
+    let read = c .before .before in
+    stops _ _ _ any _ _ _ _ _ _ _ _ _ (read .before .before .loop .inv) _ (read .before .loop-test .taken) (sym (read .read-all-of .ensures) ∙ c .enum-told3 .given .1))
     (search needs) (search needs) (search needs) (search needs)
     -- returns-2
     (λ c.
-    let p = c .before .before in
-    let i = p .before .before in
-    let k = i .before .before .before in
-    let r = k .before .before in
-    let l = r .before .before .loop in
-    branch-taken _ _ _ _ _ _ _ (l .left) (l .from) _ (l .number) (l .picked) _ _ (r .before .loop-test .taken) (l .inv)
-    (sym (r .read-all-of .ensures) ∙ k .child .given .1) (i .if1 .taken) (p .choose-all-of .ensures))
+    let inside = c .before .before in
+    let test = inside .before .before in
+    let told = test .before .before .before in
+    let read = told .before .before in
+    let turn = read .before .before .loop in
+    branch-taken _ _ _ _ _ _ _ (turn .left) (turn .from) _ (turn .number) (turn .picked) _ _ (read .before .loop-test .taken) (turn .inv)
+    (sym (read .read-all-of .ensures) ∙ told .child .given .1) (test .if1 .taken) (inside .choose-all-of .ensures))
     (search needs) (search needs)
     -- loop-again
     (λ c.
-    let k = c .before .before .before .before in
-    let r = k .before .before in
-    let l = r .before .before .loop in
-    next-branch _ _ _ _ _ _ _ (l .left) (l .from) _ (l .number) (l .picked) (l .picked) _ (r .before .loop-test .taken) (l .inv)
-    (sym (r .read-all-of .ensures) ∙ k .child .given .1) (c .before .if1 .left))
+    let told = c .before .before .before .before in
+    let read = told .before .before in
+    let turn = read .before .before .loop in
+    next-branch _ _ _ _ _ _ _ (turn .left) (turn .from) _ (turn .number) (turn .picked) (turn .picked) _ (read .before .loop-test .taken) (turn .inv)
+    (sym (read .read-all-of .ensures) ∙ told .child .given .1) (c .before .if1 .left))
     -- returns-3
     (λ c. sym (chosen-wrong _ _ _ any _ _ _ _ _ (sym (c .before .before .head-at .ensures) ∙ c .enum-told .given .1)))
     (search needs)
     -- returns-4
     (λ c.
-    let p = c .before .before in
-    rw (p .before .as-index .ensures) at (p .pick .ensures) ∙ sym (chosen-line _ _ _ any _ _ _ _ (sym (p .before .before .before .before .before .before .head-at .ensures) ∙ p .before .before .before .before .enum-told2 .given .1)))
+    let picked = c .before .before in
+    rw (picked .before .as-index .ensures) at (picked .pick .ensures) ∙ sym (chosen-line _ _ _ any _ _ _ _ (sym (picked .before .before .before .before .before .before .head-at .ensures) ∙ picked .before .before .before .before .enum-told2 .given .1)))
     (search needs)
     -- returns-5
     (λ c. ends _ _ _ any _ _ _ _ _ _ _ _ _ (c .before .loop .inv) (omega arith))

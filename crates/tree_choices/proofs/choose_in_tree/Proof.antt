@@ -7,18 +7,18 @@ use Rattle.tree_choices.proofs.choose_in_tree.Tie as tie
 
 returns : tie.Need-returns
 returns c =
-    let n = c .before .before .before in
-    record { read = sym (choice-missing _ _ _ _ (sym (n .before .before .valid-tree .ensures) ∙ n .node .given .1) (c .if1 .taken)); flags = refl }
+    let told = c .before .before .before in
+    record { read = sym (choice-missing _ _ _ _ (sym (told .before .before .valid-tree .ensures) ∙ told .node .given .1) (c .if1 .taken)); flags = refl }
 
 returns-2 : tie.Need-returns-2
 returns-2 c = record { read = sym (choice-refused _ _ _ _ (sym (c .before .before .before .valid-tree .ensures) ∙ c .before .r .given .1)); flags = refl }
 
 returns-3 : tie.Need-returns-3
 returns-3 c =
-    let p = c .before .before in
-    let e = p .before .before in
-    let n = e .before .before .before in
-    record { read = sym (choice-there _ _ _ _ (sym (n .before .before .valid-tree .ensures) ∙ n .node .given .1) (e .if1 .left)); flags = p .choose .ensures }
+    let marked = c .before .before in
+    let test = marked .before .before in
+    let told = test .before .before .before in
+    record { read = sym (choice-there _ _ _ _ (sym (told .before .before .valid-tree .ensures) ∙ told .node .given .1) (test .if1 .left)); flags = marked .choose .ensures }
 
 pub choose-in-tree-spec : {M : Type 1} → statement M
 choose-in-tree-spec =

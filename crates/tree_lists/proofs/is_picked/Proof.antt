@@ -9,8 +9,8 @@ use Rattle.tree_lists.proofs.is_picked.Tie as tie
 
 returns-2 : tie.Need-returns-2
 returns-2 c =
-    let s = c .before .args in
-    sym (ap (λ (x : ℕ). eqb x 1) (List·getD-eq-default (s .picked .now) 0 {n = s .line} (c .if1 .left)))
+    let args = c .before .args in
+    sym (ap (λ (x : ℕ). eqb x 1) (List·getD-eq-default (args .picked .now) 0 {n = args .line} (c .if1 .left)))
 
 pub is-picked-spec : {M : Type 1} → statement M
 is-picked-spec = tie.close (tie.spec (search needs) (search needs) returns-2)

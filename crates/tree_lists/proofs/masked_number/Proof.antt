@@ -11,8 +11,8 @@ use Rattle.tree_lists.proofs.masked_number.Tie as tie
 returns : tie.Need-returns
 unfolding maskedNumber
 returns c =
-    let s = c .before .before .before .before .args in
-    toZ-ofZ {z = getD (s .list .now) (s .index) (pos 0)} (record { sfits = c .result .given })
+    let args = c .before .before .before .before .args in
+    toZ-ofZ {z = getD (args .list .now) (args .index) (pos 0)} (record { sfits = c .result .given })
     ∙ rw (sym (c .before .before .is-picked .ensures) ∙ c .before .if1 .taken)
 
 returns-2 : tie.Need-returns-2

@@ -81,14 +81,14 @@ pub +read-all-of+read-any-of-spec : {M : Type 1} → statement M
     (search needs) (search needs) (search needs) (search needs) (search needs)
     -- returns
     (λ c.
-    let k = c .before .before .before in
-    stops _ _ _ all _ _ _ _ (k .before .before .loop .inv) (k .before .loop-test .taken) (sym (k .read-any-of .ensures) ∙ c .before .r2 .given .1))
+    let read = c .before .before .before in
+    stops _ _ _ all _ _ _ _ (read .before .before .loop .inv) (read .before .loop-test .taken) (sym (read .read-any-of .ensures) ∙ c .before .r2 .given .1))
     (search needs) (search needs)
     -- loop-again
     (λ c.
-    let k = c .before .before .before .before in
-    let l = k .before .before .loop in
-    rw (c .with-factor .ensures) (goes-on _ _ _ all _ (l .left) (l .node) _ (l .inv) (k .before .loop-test .taken) (sym (k .read-any-of .ensures) ∙ c .before .before .child .given .1)))
+    let read = c .before .before .before .before in
+    let turn = read .before .before .loop in
+    rw (c .with-factor .ensures) (goes-on _ _ _ all _ (turn .left) (turn .node) _ (turn .inv) (read .before .loop-test .taken) (sym (read .read-any-of .ensures) ∙ c .before .before .child .given .1)))
     (search needs)
     -- returns-2
     (λ c. sym (node-wrong _ _ _ all _ _ (sym (c .before .before .before .head-at .ensures) ∙ c .before .r .given .1)))
@@ -121,14 +121,14 @@ pub +read-all-of+read-any-of-spec : {M : Type 1} → statement M
     (search needs) (search needs) (search needs) (search needs) (search needs)
     -- returns
     (λ c.
-    let k = c .before .before .before in
-    stops _ _ _ any _ _ _ _ (k .before .before .loop .inv) (k .before .loop-test .taken) (sym (k .read-all-of .ensures) ∙ c .before .r2 .given .1))
+    let read = c .before .before .before in
+    stops _ _ _ any _ _ _ _ (read .before .before .loop .inv) (read .before .loop-test .taken) (sym (read .read-all-of .ensures) ∙ c .before .r2 .given .1))
     (search needs) (search needs)
     -- loop-again
     (λ c.
-    let k = c .before .before .before .before in
-    let l = k .before .before .loop in
-    rw (c .with-branch .ensures) (goes-on _ _ _ any _ (l .left) (l .node) _ (l .inv) (k .before .loop-test .taken) (sym (k .read-all-of .ensures) ∙ c .before .before .child .given .1)))
+    let read = c .before .before .before .before in
+    let turn = read .before .before .loop in
+    rw (c .with-branch .ensures) (goes-on _ _ _ any _ (turn .left) (turn .node) _ (turn .inv) (read .before .loop-test .taken) (sym (read .read-all-of .ensures) ∙ c .before .before .child .given .1)))
     (search needs)
     -- returns-2
     (λ c. sym (node-wrong _ _ _ any _ _ (sym (c .before .before .before .head-at .ensures) ∙ c .before .r .given .1)))
