@@ -5,6 +5,7 @@ pub mod Run
 pub mod Good
 pub mod Meaning
 pub mod Place
+pub mod Carried
 pub mod Sound
 pub mod Answered
 pub mod Breaks

@@ -5,7 +5,7 @@ use mathlib.Core.List.{List, [], _∷_, _++_}
 use Prim.Native.Nat.{ℕ, _%_}
 use native.Mathlib.Omega.{arith}
 use lib.IntN.{ℤ, pos, negℤ, _+ℤ_, _-ℤ_}
-use lib.ListN.{length}
+use lib.ListN.{length, drop}
 use Rattle.integers.specs.Integer.{_⩽_, _⋖_, half}
 use Rattle.integers.specs.Linear.{ints}
 use Rattle.lines.specs.Limits.{lineSize}
@@ -18,8 +18,9 @@ use Rattle.steps.specs.Step.{Holds}
 use Rattle.steps.specs.Laws.{numbered-longer}
 use Rattle.steps.specs.Meaning.{numbered-holds, no-false-line}
 use Rattle.steps.specs.Walk.{Names, AllSay, total, walk-says}
-use Rattle.check_refutation.specs.Progress.{accepts}
+use Rattle.check_refutation.specs.Progress.{headSize, accepts}
 use Rattle.check_soundness.specs.Refutes.{Walk, FalseStep, Refutes, kind-1, kind-2, kind-3}
+use Rattle.check_soundness.specs.Carried.{each-always, refutes-carried}
 use Rattle.check_soundness.specs.Meaning.{accepts-exactly}
 
 -- ---- against a solution
@@ -52,17 +53,8 @@ module _ (n : ℕ) (L : List ℤ) (ok : LinesOk n L) (s : Assignment) (solves : 
 
 -- ---- against a longer list
 module _ (L M : List ℤ) (whole : length L % lineSize ≡ 0) where
-  names-longer : (ks : List ℕ) (ts : List Step) → Names L ks ts → Names (L ++ M) ks ts
-  names-longer [] [] h = tt
-  names-longer [] (t ∷ ts) h = absurd h
-  names-longer (k ∷ ks) [] h = absurd h
-  names-longer (k ∷ ks) (t ∷ ts) h = (numbered-longer L M k t whole (h .0), names-longer ks ts (h .1))
-
-  walk-longer : {u v : ℕ} {ks : List ℕ} → Walk L u ks v → Walk (L ++ M) u ks v
-  walk-longer {ks = ks} w = record { steps = w .steps; some = w .some; named = names-longer ks (w .steps) (w .named); path = w .path }
-
-  false-longer : {r : ℕ} → FalseStep L r → FalseStep (L ++ M) r
-  false-longer w =
+  false-longer : (r : ℕ) → FalseStep L r → FalseStep (L ++ M) r
+  false-longer r w =
       record {
         line = w .line;
         is = w .is;
@@ -71,11 +63,8 @@ module _ (L M : List ℤ) (whole : length L % lineSize ≡ 0) where
       }
 
   refutes-longer : (R : List ℕ) → Refutes L R → Refutes (L ++ M) R
-  unfolding walk-longer
-  refutes-longer R (kind-1 c) = kind-1 (record { numbers = c .numbers; point = c .point; is = c .is; walk = walk-longer (c .walk); low = c .low })
-  refutes-longer R (kind-2 c) =
-      kind-2 (record { numbers = c .numbers; more = c .more; point = c .point; is = c .is; there = walk-longer (c .there); back = walk-longer (c .back); low = c .low })
-  refutes-longer R (kind-3 c) = kind-3 (record { number = c .number; is = c .is; false-step = false-longer (c .false-step) })
+  refutes-longer R =
+      refutes-carried L (L ++ M) (λ k. Unit {0}) (λ k t p e. numbered-longer L M k t whole e) (λ k p w. false-longer k w) R (each-always (λ k. tt) (drop headSize R))
 
   pub accepts-longer : (R : List ℕ) → accepts L R ≡ true → accepts (L ++ M) R ≡ true
   accepts-longer R e = accepts-exactly (L ++ M) R .1 (refutes-longer R (accepts-exactly L R .0 e))

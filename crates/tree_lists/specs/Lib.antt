@@ -1,0 +1,4 @@
+pub mod Masked
+pub mod Refuted
+pub mod More
+pub mod Condition

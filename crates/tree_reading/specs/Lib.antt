@@ -1,0 +1,16 @@
+pub mod Tree
+pub mod Choices
+pub mod Refusal
+pub mod Reading
+pub mod Heads
+pub mod Running
+pub mod Whole
+pub mod Numbers
+pub mod Accepted
+pub mod Counted
+pub mod Over
+pub mod Shape
+pub mod Examples
+pub mod Faults
+pub mod FirstFault
+pub mod Refused
