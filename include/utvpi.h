@@ -372,8 +372,8 @@ int64_t utvpi_implied_line(uint64_t n, const int32_t *list, size_t list_len, utv
  *     UTVPI_TICKS_PER_SECOND    count / rate    rate is how many ticks a second has
  *
  * So each value is the exact one, rounded once, to the nearest double, of two to the even
- * one. Give the rate that a double holds exactly: 100000 ticks per second are, 0.00001
- * seconds per tick are not. Of one clock, a smaller count never has more seconds than a
+ * one. Choose the form whose rate a double holds exactly: it does so with 100000 ticks per
+ * second, and not with 0.00001 seconds per tick. Of one clock, a smaller count never has more seconds than a
  * larger one: no effect is written before its cause. Too large a product or quotient is
  * written as an infinity, which is an answer; 0 ticks are 0.0.
  *

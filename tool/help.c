@@ -78,8 +78,9 @@ const char help[] =
 
 /* A compiler need not take it all as one string. */
 const char help_of_clocks[] =
-    "A file in words may also say how a recorder's clock runs, by what it knows exactly, up\n"
-    "to " AS_TEXT(UTVPI_MOST_RECORDERS) " of them:\n"
+    "A file in words may also say how recorders' clocks run, at most "
+    AS_TEXT(UTVPI_MOST_RECORDERS) " of them, each by\n"
+    "the number that is known exactly:\n"
     "\n"
     "    clock left = 100000 ticks per s\n"
     "    clock right = 0.5 s per tick\n"
