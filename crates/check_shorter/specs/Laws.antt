@@ -1,65 +1,72 @@
 -- What is handed back: an accepted refutation, the front of the slice that it came from, no longer than the other accepted one, and the first when they tie.
 use mathlib.Core.Path.{_≡_, refl, sym, ap, _∙_}
 use mathlib.Core.Bool.{Bool, true, false, cond, _&&_, _||_}
-use mathlib.Core.List.{List}
+use mathlib.Core.List.{List, _++_}
 use Prim.Native.Nat.{ℕ, _+_, _<_, _≤_}
 use native.Mathlib.Omega.{arith}
 use borrow.Author.Tests.{ltb-true, ltb-false, eqb-true, eqb-false}
 use lib.Dec.{eqb, ltb}
 use lib.IntN.{ℤ}
-use lib.ListN.{length, drop, take-append-drop, length-take}
+use lib.ListN.{length, drop, take-append-drop, length-take, length-append}
+use lib.Seq.{take-at}
 use Rattle.check_answers.specs.declared.CheckAnswer.{CheckAnswer}
 use Rattle.check_answers.specs.declared.CheckAnswer.the-variants.{Yes, No, Refused}
-use Rattle.check_refutation.specs.Progress.{headSize}
 use Rattle.check_refutation.specs.Answer.{refutationAnswer}
-use Rattle.check_soundness.specs.Head.{stepsIn, stated}
+use Rattle.check_soundness.specs.Head.{statedLength, stated}
 use Rattle.check_soundness.specs.Refutes.{stated-length}
 use Rattle.check_soundness.specs.Answered.{accepted-when}
 use Rattle.check_shorter.specs.declared.Part.{Part}
 use Rattle.check_shorter.specs.declared.Part.the-variants.{OfFirst, OfSecond, Empty}
+use Rattle.check_shorter.specs.HandsBack.{FrontAccepted, HandsBack, the-first, the-second, neither}
 use Rattle.check_shorter.specs.Shorter.{ifAccepted, acceptedLength, partByLengths, shorterPart}
-
--- the checker accepts the refutation at the front of a slice
-abbrev pub FrontAccepted : ℕ → List ℤ → List ℕ → Type 0
-FrontAccepted n L S = refutationAnswer n L (stated S) ≡ Yes
 
 -- ---- one slice
 module _ (n : ℕ) (L : List ℤ) (S : List ℕ) where
-  -- it has the numbers that its counts say, so that a slice with fewer is never accepted
-  accepted-count : FrontAccepted n L S → length (stated S) ≡ headSize + stepsIn S
-  accepted-count e =
-      let k = headSize + stepsIn S in
-      stated-length L (stated S) (accepted-when n L (stated S) .0 e .2) (drop k S) ∙ ap (λ (T : List ℕ). headSize + stepsIn T) (take-append-drop k S)
+  -- where the checker accepts the front, it has the numbers that its counts say
+  pub accepted-whole : refutationAnswer n L (stated S) ≡ Yes → FrontAccepted n L S
+  accepted-whole e =
+      let k = statedLength S in
+      let size = stated-length L (stated S) (accepted-when n L (stated S) .0 e .2) (drop k S) ∙ ap statedLength (take-append-drop k S) in
+      record { whole = omega (arith, size, length-take k S); is-accepted = e }
 
-  pub accepted-whole : FrontAccepted n L S → headSize + stepsIn S ≤ length S
-  accepted-whole e = omega (arith, accepted-count e, length-take (headSize + stepsIn S) S)
-
-  -- the length says whether it is accepted, and is that of the part
-  pub length-if : (a : CheckAnswer) → refutationAnswer n L (stated S) ≡ a → acceptedLength n L S ≡ ifAccepted a (headSize + stepsIn S)
+  -- the length says whether it is accepted
+  pub length-if : (a : CheckAnswer) → refutationAnswer n L (stated S) ≡ a → acceptedLength n L S ≡ ifAccepted a (statedLength S)
   unfolding acceptedLength
-  length-if a e = ap (λ (x : CheckAnswer). ifAccepted x (headSize + stepsIn S)) e
+  length-if a e = ap (λ (x : CheckAnswer). ifAccepted x (statedLength S)) e
 
-  pub length-accepted : FrontAccepted n L S → acceptedLength n L S ≡ headSize + stepsIn S
-  length-accepted = length-if Yes
+  length-accepted : FrontAccepted n L S → acceptedLength n L S ≡ statedLength S
+  length-accepted f = length-if Yes (f .is-accepted)
 
-  pub accepted-some : 0 < acceptedLength n L S → FrontAccepted n L S
-  accepted-some h = go (refutationAnswer n L (stated S)) refl
+  some-accepted : 0 < acceptedLength n L S → FrontAccepted n L S
+  some-accepted h = accepted-whole (go (refutationAnswer n L (stated S)) refl)
     where
       go : (a : CheckAnswer) → refutationAnswer n L (stated S) ≡ a → a ≡ Yes
       go Yes e = refl
       go (No i) e = absurd (omega (arith, h, length-if (No i) e))
       go (Refused r) e = absurd (omega (arith, h, length-if (Refused r) e))
 
-  pub not-accepted : (FrontAccepted n L S → ⊥) → acceptedLength n L S ≡ 0
+  not-accepted : (FrontAccepted n L S → ⊥) → acceptedLength n L S ≡ 0
   not-accepted f = go (refutationAnswer n L (stated S)) refl
     where
       go : (a : CheckAnswer) → refutationAnswer n L (stated S) ≡ a → acceptedLength n L S ≡ 0
-      go Yes e = absurd (f e)
+      go Yes e = absurd (f (accepted-whole e))
       go (No i) e = length-if (No i) e
       go (Refused r) e = length-if (Refused r) e
 
-  pub too-short : length S < headSize + stepsIn S → acceptedLength n L S ≡ 0
-  too-short h = not-accepted (λ e. absurd (omega (arith, h, accepted-whole e)))
+  pub too-short : length S < statedLength S → acceptedLength n L S ≡ 0
+  too-short h = not-accepted (λ f. absurd (omega (arith, h, f .whole)))
+
+-- whatever stands behind an accepted refutation, and however much, changes nothing
+module _ (n : ℕ) (L : List ℤ) (R rest : List ℕ) (e : refutationAnswer n L R ≡ Yes) where
+  front-is : statedLength (R ++ rest) ≡ length R
+  front-is = sym (stated-length L R (accepted-when n L R .0 e .2) rest)
+
+  pub stated-front : stated (R ++ rest) ≡ R
+  stated-front = take-at R rest (statedLength (R ++ rest)) (sym front-is)
+
+  pub front-accepted : FrontAccepted n L (R ++ rest)
+  front-accepted =
+      record { whole = omega (arith, front-is, length-append R rest); is-accepted = ap (refutationAnswer n L) stated-front ∙ e }
 
 -- ---- the choice, by the lengths
 data Chosen (a b : ℕ) : Part → Type 0 where
@@ -80,30 +87,21 @@ chosen a b = go (ltb 0 b) (eqb a 0) (ltb b a) (ltb 0 a) refl refl refl refl
     go false q r false e f g h = by-neither (omega (arith, ltb-false 0 a h)) (omega (arith, ltb-false 0 b e))
 
 -- ---- of two slices
--- an accepted one is handed back, whole, and none that is accepted is shorter; at a tie it is the first; neither where neither is accepted
-pub data HandsBack (n : ℕ) (L : List ℤ) (S T : List ℕ) : Part → Type 0 where
-  the-first : FrontAccepted n L S → (FrontAccepted n L T → length (stated S) ≤ length (stated T)) → HandsBack n L S T (OfFirst (length (stated S)))
-  the-second : FrontAccepted n L T → (FrontAccepted n L S → length (stated T) < length (stated S)) → HandsBack n L S T (OfSecond (length (stated T)))
-  neither : (FrontAccepted n L S → ⊥) → (FrontAccepted n L T → ⊥) → HandsBack n L S T Empty
-
 pub hands-back : (n : ℕ) (L : List ℤ) (S T : List ℕ) → HandsBack n L S T (shorterPart n L S T)
 unfolding shorterPart
 hands-back n L S T = go (partByLengths (acceptedLength n L S) (acceptedLength n L T)) (chosen _ _)
   where
-    size : (R : List ℕ) → FrontAccepted n L R → acceptedLength n L R ≡ length (stated R)
-    size R e = length-accepted n L R e ∙ sym (accepted-count n L R e)
-
     some : (R : List ℕ) → FrontAccepted n L R → 0 < acceptedLength n L R
-    some R e = omega (arith, length-accepted n L R e)
+    some R f = omega (arith, length-accepted n L R f)
 
     go : (p : Part) → Chosen (acceptedLength n L S) (acceptedLength n L T) p → HandsBack n L S T p
     go p (by-first h less) =
-        let e = accepted-some n L S h in
-        rw (size S e) (the-first e (λ f. omega (arith, less (some T f), size S e, size T f)))
+        let f = some-accepted n L S h in
+        rw (length-accepted n L S f) (the-first f (λ g. omega (arith, less (some T g), length-accepted n L S f, length-accepted n L T g)))
     go p (by-second h less) =
-        let e = accepted-some n L T h in
-        rw (size T e) (the-second e (λ f. omega (arith, less (some S f), size S f, size T e)))
-    go p (by-neither h k) = neither (λ e. absurd (omega (arith, some S e, h))) (λ e. absurd (omega (arith, some T e, k)))
+        let g = some-accepted n L T h in
+        rw (length-accepted n L T g) (the-second g (λ f. omega (arith, less (some S f), length-accepted n L S f, length-accepted n L T g)))
+    go p (by-neither h k) = neither (λ f. absurd (omega (arith, some S f, h))) (λ g. absurd (omega (arith, some T g, k)))
 
 -- a part lies within its slice
 abbrev pub Inside : List ℕ → List ℕ → Part → Type 0
@@ -115,6 +113,18 @@ pub part-inside : (n : ℕ) (L : List ℤ) (S T : List ℕ) → Inside S T (shor
 part-inside n L S T = go (shorterPart n L S T) (hands-back n L S T)
   where
     go : (p : Part) → HandsBack n L S T p → Inside S T p
-    go p (the-first e f) = omega (arith, length-take (headSize + stepsIn S) S)
-    go p (the-second e f) = omega (arith, length-take (headSize + stepsIn T) T)
-    go p (neither e f) = tt
+    go p (the-first f less) = f .whole
+    go p (the-second g less) = g .whole
+    go p (neither f g) = tt
+
+-- no other part is to be handed back
+pub one-part : (n : ℕ) (L : List ℤ) (S T : List ℕ) (p q : Part) → HandsBack n L S T p → HandsBack n L S T q → p ≡ q
+one-part n L S T p q (the-first f less) (the-first g more) = refl
+one-part n L S T p q (the-first f less) (the-second g more) = absurd (omega (arith, less g, more f))
+one-part n L S T p q (the-first f less) (neither g h) = absurd (g f)
+one-part n L S T p q (the-second f less) (the-first g more) = absurd (omega (arith, less g, more f))
+one-part n L S T p q (the-second f less) (the-second g more) = refl
+one-part n L S T p q (the-second f less) (neither g h) = absurd (h f)
+one-part n L S T p q (neither f g) (the-first h more) = absurd (f h)
+one-part n L S T p q (neither f g) (the-second h more) = absurd (g h)
+one-part n L S T p q (neither f g) (neither h k) = refl

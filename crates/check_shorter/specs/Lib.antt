@@ -1,2 +1,3 @@
+pub mod HandsBack
 pub mod Shorter
 pub mod Laws

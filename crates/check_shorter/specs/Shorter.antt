@@ -1,15 +1,14 @@
 -- Which of two lent refutations is handed back, and the part of its slice that it is.
 use mathlib.Core.Bool.{cond, _&&_, _||_}
 use mathlib.Core.List.{List}
-use Prim.Native.Nat.{ℕ, _+_}
+use Prim.Native.Nat.{ℕ}
 use lib.Dec.{eqb, ltb}
 use lib.IntN.{ℤ}
 use lib.ListN.{take}
 use Rattle.check_answers.specs.declared.CheckAnswer.{CheckAnswer}
 use Rattle.check_answers.specs.declared.CheckAnswer.the-variants.{Yes, No, Refused}
-use Rattle.check_refutation.specs.Progress.{headSize}
 use Rattle.check_refutation.specs.Answer.{refutationAnswer}
-use Rattle.check_soundness.specs.Head.{stepsIn, stated}
+use Rattle.check_soundness.specs.Head.{statedLength, stated}
 use Rattle.check_shorter.specs.declared.Part.{Part}
 use Rattle.check_shorter.specs.declared.Part.the-variants.{OfFirst, OfSecond, Empty}
 
@@ -22,7 +21,7 @@ ifAccepted (Refused r) k = 0
 -- how many numbers of a lent slice can be handed back: the 3 + p + q of the refutation at its front, where that is accepted. Of a slice with fewer numbers
 -- `stated` is all of it, which is never accepted (`accepted-whole`).
 unfoldable pub acceptedLength : ℕ → List ℤ → List ℕ → ℕ
-acceptedLength n L S = ifAccepted (refutationAnswer n L (stated S)) (headSize + stepsIn S)
+acceptedLength n L S = ifAccepted (refutationAnswer n L (stated S)) (statedLength S)
 
 -- by the two lengths: the second where it is accepted, and the first is not or is longer; else the first where it is accepted
 unfoldable pub partByLengths : ℕ → ℕ → Part
@@ -31,7 +30,7 @@ partByLengths a b = cond (ltb 0 b && (eqb a 0 || ltb b a)) (OfSecond b) (cond (l
 unfoldable pub shorterPart : ℕ → List ℤ → List ℕ → List ℕ → Part
 shorterPart n L S T = partByLengths (acceptedLength n L S) (acceptedLength n L T)
 
--- a lent slice: where in memory it begins, and its numbers
+-- a lent slice: where in memory it begins, a block and an offset, and its numbers
 pub record Slice : Type 0 where
   pub at : ℕ × ℕ
   pub numbers : List ℕ

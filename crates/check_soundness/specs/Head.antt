@@ -21,8 +21,11 @@ abbrev pub stepsIn : List ℕ → ℕ
 stepsIn R = firstCount R + secondCount R
 
 -- the refutation at the front of a buffer or a lent slice: the first 3 + p + q numbers, by the counts that stand there
+abbrev pub statedLength : List ℕ → ℕ
+statedLength R = headSize + stepsIn R
+
 abbrev pub stated : List ℕ → List ℕ
-stated R = take (headSize + stepsIn R) R
+stated R = take (statedLength R) R
 
 -- 1, 2 or 3
 abbrev pub IsKind : ℕ → Type 0

@@ -10,8 +10,7 @@ use lib.IntN.{ℤ}
 use lib.Seq.{length-take-le}
 use Rattle.check_answers.specs.declared.CheckAnswer.{CheckAnswer}
 use Rattle.check_answers.specs.declared.CheckAnswer.the-variants.{Yes, No, Refused}
-use Rattle.check_refutation.specs.Progress.{headSize}
-use Rattle.check_soundness.specs.Head.{stepsIn}
+use Rattle.check_soundness.specs.Head.{statedLength}
 use Rattle.check_shorter.specs.Shorter.{ifAccepted, acceptedLength}
 use Rattle.check_shorter.specs.Laws.{length-if, too-short}
 use Rattle.check_shorter.proofs.accepted_length.Statement.{statement}
@@ -56,7 +55,7 @@ module _ (c : tie.After-check-refutation) where
   abbrev s : tie.Start
   s = c .before .before .before .before .before .before .before
 
-  due : (a : CheckAnswer) → c .check-refutation .result ≡ a → ifAccepted a (headSize + stepsIn (S s)) ≡ acceptedLength (n s) (L s) (S s)
+  due : (a : CheckAnswer) → c .check-refutation .result ≡ a → ifAccepted a (statedLength (S s)) ≡ acceptedLength (n s) (L s) (S s)
   due a e = sym (length-if (n s) (L s) (S s) a (sym (c .check-refutation .ensures) ∙ e))
 
 returns-3 : tie.Need-returns-3
