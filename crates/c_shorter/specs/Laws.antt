@@ -1,7 +1,5 @@
 -- The struct tells the part: C reads by it the numbers that `shorter` hands back, and no two parts are returned alike.
 use mathlib.Core.Path.{_≡_, refl, ap}
-use mathlib.Core.List.{List}
-use Prim.Native.Nat.{ℕ}
 use native.Mathlib.Omega.{arith}
 use Rattle.check_shorter.specs.declared.Part.{Part}
 use Rattle.check_shorter.specs.declared.Part.the-variants.{OfFirst, OfSecond, Empty}

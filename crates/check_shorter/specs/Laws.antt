@@ -2,7 +2,7 @@
 use mathlib.Core.Path.{_≡_, refl, sym, ap, _∙_}
 use mathlib.Core.Bool.{Bool, true, false, cond, _&&_, _||_}
 use mathlib.Core.List.{List, _++_}
-use Prim.Native.Nat.{ℕ, _+_, _<_, _≤_}
+use Prim.Native.Nat.{ℕ, _<_, _≤_}
 use native.Mathlib.Omega.{arith}
 use borrow.Author.Tests.{ltb-true, ltb-false, eqb-true, eqb-false}
 use lib.Dec.{eqb, ltb}
@@ -34,7 +34,7 @@ module _ (n : ℕ) (L : List ℤ) (S : List ℕ) where
   unfolding acceptedLength
   length-if a e = ap (λ (x : CheckAnswer). ifAccepted x (statedLength S)) e
 
-  length-accepted : FrontAccepted n L S → acceptedLength n L S ≡ statedLength S
+  pub length-accepted : FrontAccepted n L S → acceptedLength n L S ≡ statedLength S
   length-accepted f = length-if Yes (f .is-accepted)
 
   some-accepted : 0 < acceptedLength n L S → FrontAccepted n L S
