@@ -28,6 +28,9 @@ fn several() -> Vec<Line> {
     identified(&lines)
 }
 
+/// So many of them name no variable but the first.
+const FEW: usize = 4;
+
 const FALSE: [u32; 4] = [3, 1, 0, 0];
 const ALSO_FALSE: [u32; 4] = [3, 1, 0, 2];
 const CLOSED: [u32; 5] = [1, 2, 0, 4, 6];
@@ -101,7 +104,7 @@ fn huge_counts() {
                     let mut huge = vec![0; room];
                     huge[..3].copy_from_slice(&[kind, p, q]);
                     let due = accepted(1, &list, &huge);
-                    assert!(due.is_none() || u64::from(p) + u64::from(q) <= 37);
+                    assert!(due.is_none() || u64::from(p) + u64::from(q) <= room as u64 - 3);
                     tried += usize::from(due.is_none());
                     let long = [&[1, 30, 0][..], &[0; 30]].concat();
                     shorter(&mut chance, 1, &list, [&huge, &long]);
@@ -143,6 +146,14 @@ fn the_longest() {
     check(&behind(&longest), &behind(&rounds(1)), Shorter::Second(4));
 }
 
+/// The refutation after a line was put in at this place.
+fn moved(numbers: &[u32], at: usize) -> Vec<u32> {
+    let behind = |step| step + 2 * u32::from(step as usize / 2 >= at);
+    let (head, steps) = numbers.split_at(3);
+    let steps = steps.iter().map(|&step| behind(step));
+    head.iter().copied().chain(steps).collect()
+}
+
 /// A list that is refused, with lines that would be refuted: every refusal, at each place.
 #[test]
 fn refused() {
@@ -151,15 +162,15 @@ fn refused() {
         let due = shorter(&mut chance, n, &list, [&FALSE, &ALSO_FALSE]);
         assert_eq!(due, Shorter::Neither);
     }
+    // Lines of one variable: a faulty line is one of two.
+    let some = &several()[..FEW];
     for faults in fault_sets() {
-        for at in 0..=several().len() {
-            let mut lines = several();
-            let faulty = faulty_line(&mut chance, faults);
-            lines.insert(at, faulty);
-            let due = shorter(&mut chance, 3, &lines.concat(), [&HALVES, &CLOSED]);
-            if first_fault(faults).is_some() {
-                assert_eq!(due, Shorter::Neither);
-            }
+        for at in 0..=some.len() {
+            let mut lines = some.to_vec();
+            lines.insert(at, faulty_line(&mut chance, faults));
+            let both = [&CLOSED[..], &ALSO_FALSE].map(|numbers| moved(numbers, at));
+            let due = shorter(&mut chance, 2, &lines.concat(), [&both[0], &both[1]]);
+            assert_eq!(due == Shorter::Neither, first_fault(faults).is_some());
         }
     }
     let list = several().concat();
@@ -340,13 +351,9 @@ fn noise() {
     for _ in 0..100_000 {
         let [one, two] = [(); 2].map(|()| {
             let count = chance.below(9);
-            let number = |_| chance.below(16) as u32;
-            let mut numbers: Vec<u32> = (0..count).map(number).collect();
-            if chance.one_in(2) && count > 2 {
-                numbers[1] %= 4;
-                numbers[2] %= 3;
-            }
-            numbers
+            let small = [4, 3, 2];
+            let number = |at: usize| chance.below(*small.get(at).unwrap_or(&16)) as u32;
+            (0..count).map(number).collect::<Vec<u32>>()
         });
         let answer = shorter(&mut chance, 3, &list, [&one, &two]);
         seen.count(3, &list, [&one, &two], answer);
