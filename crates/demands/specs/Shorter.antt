@@ -119,26 +119,30 @@ module _ (n : ℕ) (L : List ℤ) (first second : Slice) where
   pub returned-is-handed : partRead (shorterReturned n L S T) S T ≡ handed
   returned-is-handed = read-back (shorterPart n L S T) first second
 
--- Two calls of deciding on one list that say no leave two refutations: lent both buffers, whole, one of the two is handed back, and neither is shorter.
-pub record OfTwoNoes (n : ℕ) (L : List ℤ) (one two handed : List ℕ) : Type 0 where
+-- Where both are accepted, one of the two is handed back, and neither is shorter:
+pub record OfTwo (n : ℕ) (L : List ℤ) (one two handed : List ℕ) : Type 0 where
   pub either : (handed ≡ one) ⊎ (handed ≡ two)
   pub is-accepted : Accepted n L handed
-  pub shorter-than-one : length handed ≤ length one
-  pub shorter-than-two : length handed ≤ length two
+  pub no-longer-than-one : length handed ≤ length one
+  pub no-longer-than-two : length handed ≤ length two
 
+pub of-two-accepted : (n : ℕ) (L : List ℤ) (first second : Slice) → FrontAccepted n L (first .numbers) → FrontAccepted n L (second .numbers)
+    → OfTwo n L (stated (first .numbers)) (stated (second .numbers)) (shorterSlice n L first second .numbers)
+of-two-accepted n L first second f g =
+    let one = length-take-le (statedLength (first .numbers)) (first .numbers) (f .whole) in
+    let two = length-take-le (statedLength (second .numbers)) (second .numbers) (g .whole) in
+    by-part n L first second (OfTwo n L (stated (first .numbers)) (stated (second .numbers)))
+    (λ a less. record { either = inl refl; is-accepted = a .is-accepted; no-longer-than-one = omega arith; no-longer-than-two = omega (arith, less g, one, two) })
+    (λ b less. record { either = inr refl; is-accepted = b .is-accepted; no-longer-than-one = omega (arith, less f, one, two); no-longer-than-two = omega arith })
+    (λ a b. absurd (a f))
+
+-- so it is with what two calls of deciding on one list left that say no, lent the buffers as they are.
 pub of-two-noes : (n : ℕ) (L : List ℤ) (c d : Call n L) → c .answer ≡ decide.No → d .answer ≡ decide.No
     → (first second : Slice) → first .numbers ≡ c .after .refutation → second .numbers ≡ d .after .refutation
-    → OfTwoNoes n L (refutationIn (c .after)) (refutationIn (d .after)) (shorterSlice n L first second .numbers)
+    → OfTwo n L (refutationIn (c .after)) (refutationIn (d .after)) (shorterSlice n L first second .numbers)
 of-two-noes n L c d c-no d-no first second e i =
-    let f : FrontAccepted n L (first .numbers) = accepted-whole n L (first .numbers) (rw e (call-accepted c c-no)) in
-    let g : FrontAccepted n L (second .numbers) = accepted-whole n L (second .numbers) (rw i (call-accepted d d-no)) in
-    let size : length (stated (first .numbers)) ≡ statedLength (first .numbers) = length-take-le (statedLength (first .numbers)) (first .numbers) (f .whole) in
-    let size′ : length (stated (second .numbers)) ≡ statedLength (second .numbers) = length-take-le (statedLength (second .numbers)) (second .numbers) (g .whole) in
     rw (← e, ← i)
-    (by-part n L first second (OfTwoNoes n L (stated (first .numbers)) (stated (second .numbers)))
-    (λ a less. record { either = inl refl; is-accepted = a .is-accepted; shorter-than-one = omega arith; shorter-than-two = omega (arith, less g, size, size′) })
-    (λ b less. record { either = inr refl; is-accepted = b .is-accepted; shorter-than-one = omega (arith, less f, size, size′); shorter-than-two = omega arith })
-    (λ a b. absurd (a f)))
+    (of-two-accepted n L first second (accepted-whole n L (first .numbers) (rw e (call-accepted c c-no))) (accepted-whole n L (second .numbers) (rw i (call-accepted d d-no))))
 
 -- No two parts are returned to C alike.
 pub parts-returned-apart : (p q : Part) → partReturned p ≡ partReturned q → p ≡ q
