@@ -1,12 +1,14 @@
 /* The C interface: a function that decides a list, and two that check a proposed
  * model of a list, and a proposed refutation of a list; a check of a refutation that
- * arrives in pieces, three functions for sessions, in which lines come one at a time,
- * two that say what a list implies, about two variables or of one line more, two that
- * write a model in seconds, and two for lists in files. A program links one file,
- * libutvpi.a, which ./build-library makes in target/lib/.
+ * arrives in pieces, one that finds the shorter of two refutations, three functions for
+ * sessions, in which lines come one at a time, two that say what a list implies, about
+ * two variables or of one line more, two that write a model in seconds, and two for lists
+ * in files. A program links one file, libutvpi.a, which ./build-library makes in
+ * target/lib/.
  *
- * Deciding, sessions, what a list implies and seconds take and write numbers, as the
- * machine holds them. The two checks take bytes, the lowest byte of each number first.
+ * Deciding, sessions, what a list implies, the shorter of two refutations and seconds
+ * take and write numbers, as the machine holds them. The two checks take bytes, the lowest
+ * byte of each number first.
  *
  * A LIST has n variables, numbered 0 to n-1, each standing for a whole number,
  * and lines of the form  a*x + b*y <= d.  A line is UTVPI_LINE_NUMBERS signed
@@ -270,6 +272,34 @@ utvpi_progress utvpi_refutation_take(utvpi_progress kept, const int32_t *list, s
 
 int64_t utvpi_refutation_end(utvpi_progress kept, uint64_t n,
                              const int32_t *list, size_t list_len);
+
+/* THE SHORTER OF TWO REFUTATIONS. Which of two refutations of this list of n variables is
+ * accepted, as utvpi_check_refutation accepts it, and which of two that are is the shorter?
+ * Anybody may have proposed them. Each is lent with whatever lies behind it, such as the
+ * buffer that deciding wrote it to, whole: the first 3 + p + q numbers are the refutation,
+ * where p is its number at index 1 and q that at index 2, and only these are looked at. One
+ * that has fewer numbers is not accepted, and neither is one with 3 + p + q above
+ * UTVPI_MOST_REFUTATION, though what is lent may be longer than that.
+ *
+ * The shorter accepted one is handed back as a part of what was lent: which says of which
+ * of the two, and length how many numbers from its front, which is 3 + p + q. When they
+ * tie it is the first. Where neither is accepted, or the list is refused, which is
+ * UTVPI_SHORTER_NEITHER and length is 0; the checks say why. There is no refusal.
+ *
+ * List and refutations are numbers as the machine holds them, at the alignment of their
+ * types; lengths are in numbers. Nothing is written: the two may overlap, or be the same,
+ * and several threads may be lent the same numbers. */
+#define UTVPI_SHORTER_NEITHER 0
+#define UTVPI_SHORTER_FIRST 1
+#define UTVPI_SHORTER_SECOND 2
+
+typedef struct utvpi_part {
+    uint64_t which, length;
+} utvpi_part;
+
+utvpi_part utvpi_shorter(uint64_t n, const int32_t *list, size_t list_len,
+                         const uint32_t *first, size_t first_len,
+                         const uint32_t *second, size_t second_len);
 
 /* A SESSION takes the lines of a list one at a time, and decides all that it has each
  * time. It starts with n variables and no lines. What is kept between two calls is its

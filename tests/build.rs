@@ -6,7 +6,7 @@ mod header;
 
 /// The limits, lengths, kinds and parts of results that the header defines, by their
 /// names without UTVPI_.
-const LIMITS: [&str; 20] = [
+const LIMITS: [&str; 23] = [
     "MOST_VARIABLES",
     "MOST_LINES",
     "MOST_REFUTATION",
@@ -17,6 +17,9 @@ const LIMITS: [&str; 20] = [
     "MOST_RECORDERS",
     "SECONDS_PER_TICK",
     "TICKS_PER_SECOND",
+    "SHORTER_NEITHER",
+    "SHORTER_FIRST",
+    "SHORTER_SECOND",
     "LINE_NUMBERS",
     "RECORD_HEAD",
     "VARIABLES_BYTES",

@@ -14,6 +14,7 @@ use utvpi_tests::decision::{MINUS, PLUS};
 use utvpi_tests::document::largest;
 use utvpi_tests::files::{read, write};
 use utvpi_tests::library;
+use utvpi_tests::limits::SHORTER_NEITHER;
 use utvpi_tests::limits::{LARGEST_BOUND, LAST_VARIABLE, MOST_FILE, MOST_LINES};
 use utvpi_tests::limits::{MOST_N, MOST_NUMBERS, MOST_RECORDERS, MOST_STACK, MOST_VARIABLES};
 use utvpi_tests::lines::{identify, line, lone, zero, Line};
@@ -202,7 +203,8 @@ fn little_stack() {
     let lines = largest();
     let (numbers, packed) = (lines.concat(), bytes::list(&lines));
     let values = bytes::model(&[0; MOST_VARIABLES]);
-    let proposed = bytes::refutation(&[1, 1, 0, 0]);
+    let walk = [1, 1, 0, 0];
+    let proposed = bytes::refutation(&walk);
     let size = records::size(&numbers);
     let mut file = vec![0; size];
     let mut again = vec![0; MOST_NUMBERS];
@@ -220,10 +222,13 @@ fn little_stack() {
             other.implied_pair(MOST_N, &numbers, [0, 1]).result,
             other.implied_line(MOST_N, &numbers, lines[0]),
             other.implied_line(MOST_N, &numbers, zero(-1)),
+            library::shorter(MOST_N, &numbers, &walk, &walk).which as i64,
         ]
     });
     let [at_0, at_3] = [0, 3].map(|place| Answer::No(place).code());
-    let due = [0, at_3, at_0, size as i64, MOST_LINES as i64, 0, 0, 0, at_0];
+    let (bytes, lines) = (size as i64, MOST_LINES as i64);
+    let neither = SHORTER_NEITHER as i64;
+    let due = [0, at_3, at_0, bytes, lines, 0, 0, 0, at_0, neither];
     assert_eq!(results, due);
     assert_eq!(again, numbers);
 }

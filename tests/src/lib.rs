@@ -24,6 +24,7 @@ pub mod seconds;
 pub mod seen;
 pub mod session_calls;
 pub mod sessions;
+pub mod shorter;
 
 use limits::NUMBER_BYTES;
 use second::Answer;

@@ -56,6 +56,15 @@ pub struct SecondsWritten {
     pub place: u64,
 }
 
+/// What asking for the shorter of two refutations returns: which it is, and how many
+/// numbers from the front of its slice it has.
+#[repr(C)]
+#[derive(Clone, Copy, PartialEq, Debug)]
+pub struct Part {
+    pub which: u64,
+    pub length: u64,
+}
+
 /// A line, as a session and the question of a line are handed it.
 #[repr(C)]
 struct LineByValue {
@@ -177,6 +186,16 @@ extern "C" {
     ) -> Progress;
 
     fn utvpi_refutation_end(kept: Progress, n: u64, list: *const i32, list_len: usize) -> i64;
+
+    fn utvpi_shorter(
+        n: u64,
+        list: *const i32,
+        list_len: usize,
+        first: *const u32,
+        first_len: usize,
+        second: *const u32,
+        second_len: usize,
+    ) -> Part;
 
     fn utvpi_read_list(
         bytes: *const u8,
@@ -399,6 +418,22 @@ pub fn refutation_in_pieces(n: u64, list: &[i32], numbers: &[u32]) -> i64 {
     let take = |kept, &number: &u32| refutation_take(kept, list, number);
     let kept = numbers.iter().fold(refutation_begin(), take);
     refutation_end(kept, n, list)
+}
+
+/// What `utvpi_shorter` returns.
+pub fn shorter(n: u64, list: &[i32], first: &[u32], second: &[u32]) -> Part {
+    // The function reads the slices within their lengths and keeps no pointer.
+    unsafe {
+        utvpi_shorter(
+            n,
+            list.as_ptr(),
+            list.len(),
+            first.as_ptr(),
+            first.len(),
+            second.as_ptr(),
+            second.len(),
+        )
+    }
 }
 
 /// The result of `utvpi_read_list`.

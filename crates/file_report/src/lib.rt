@@ -26,7 +26,7 @@ ghost use Rattle.file_text.specs.Text.{noText};
 ghost use Rattle.file_text.specs.Put.{Wrote};
 ghost use Rattle.file_report.specs.Report.{Behind, Decided, Reported};
 ghost use Rattle.file_report.specs.Input.{InputReported};
-ghost use Rattle.decide.specs.Parts.{stated};
+ghost use Rattle.check_soundness.specs.Head.{stated};
 ghost use Rattle.file_report.specs.Ready.{RefutationReady, ListReady};
 
 // The program's own limits.
