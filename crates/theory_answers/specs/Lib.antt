@@ -1,4 +1,6 @@
 pub mod Semantics
+pub mod Moved
+pub mod Gap
 pub mod Small
 pub mod Refuted
 pub mod Solved
