@@ -47,7 +47,8 @@ use Rattle.check_soundness.specs.Bare.{same-checked}
 use Rattle.theory_bounds.specs.Verdict.{verdictOf, dueKind}
 use Rattle.theory_bounds.specs.Answers.{modelOf, boundsOf, groupsOf}
 use Rattle.theory_bounds.specs.Bare.{same-verdict as same-verdict-bare, same-model, same-bounds, same-groups, same-kind}
-use Rattle.theory_answers.specs.Small.{AllAbove, model-small}
+use Rattle.theory_answers.specs.Moved.{AllAbove}
+use Rattle.theory_answers.specs.Small.{model-small}
 use Rattle.theory_answers.specs.Refuted.{Due, due-refutation}
 use Rattle.theory_answers.specs.Meaning.{computed-written, no-tie}
 use Rattle.theory_answers.specs.Decided.{DueKind, LowestFalseLine, names-the-lowest, lines-ok, yes-solvable, no-unsolvable, solvable-yes, unsolvable-no, due-accepted, accepted-no, kind-due}

@@ -1,0 +1,2 @@
+pub mod Rearranged
+pub mod Order
