@@ -73,7 +73,6 @@ module _ (f : ℕ → ℕ) where
       go (inl t) = inl (record { k = t .k; low = omega (arith, t .low); far = t .far; before = t .before })
       go (inr e) = last e (decLt b (f n))
 
-
   -- where one is beyond b there is a first
   pub first : (b n k : ℕ) → k < n → b < f k → First b n
   first b n k l h = go (first-or-none b n)

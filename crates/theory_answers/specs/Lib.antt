@@ -9,5 +9,6 @@ pub mod Decided
 pub mod Unique
 pub mod Groups
 pub mod Absent
+pub mod Chain
 pub mod Longer
 pub mod Same

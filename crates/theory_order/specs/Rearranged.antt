@@ -75,6 +75,6 @@ rearranged-valid n L M p whole v =
     let o = valid-list n L v in
     let count : lineCount M ≡ lineCount L = sym (length-tabulate (lineCount M) (lineAt M)) ∙ sym (same-length p) ∙ length-tabulate (lineCount L) (lineAt L) in
     each-valid n M (o .variables) whole (omega (arith, count, o .count)) (λ j l a.
-        let r = includes (turned-back p) j l a in
-        let at = at-line L (r .0) l (r .1) in
-        line-valid-more n n (r .0) 0 l (omega arith) (subst (λ (m : Line). lineValidity n (r .0) m ≡ Valid) (at .1) (o .each (r .0) (at .0))))
+    let r = includes (turned-back p) j l a in
+    let at = at-line L (r .0) l (r .1) in
+    line-valid-more n n (r .0) 0 l (omega arith) (subst (λ (m : Line). lineValidity n (r .0) m ≡ Valid) (at .1) (o .each (r .0) (at .0))))
