@@ -22,3 +22,5 @@ pub mod ImpliedLineVersions
 pub mod ImpliedLine
 pub mod SecondsVersions
 pub mod Seconds
+pub mod Order
+pub mod Small

@@ -9,6 +9,7 @@ use Rattle.integers.specs.Linear.{ints}
 use Rattle.integers.specs.Sequence.{tabulate}
 use Rattle.lines.specs.declared.Line.{Line}
 use Rattle.lines.specs.Line.{Assignment, leftSide, Meets, Solves}
+use Rattle.lines.specs.Solutions.{solves-tabulate, tabulate-solves}
 use Rattle.theory_answers.specs.Semantics.{IsModel, IsLeast}
 
 -- -x ≤ -M of variable 0, and x - y ≤ -M of each two neighbours
@@ -22,16 +23,6 @@ chain M n = tabulate n (chainLine M)
 -- variable k has (k + 1)·M
 abbrev pub climbing : ℕ → Assignment
 climbing M k = pos (suc k * M)
-
--- ---- lines by their numbers
-each-solves : (n : ℕ) (f : ℕ → Line) (s : Assignment) → ((k : ℕ) → Meets s (f k)) → Solves (tabulate n f) s
-each-solves zero f s h = tt
-each-solves (suc n) f s h = (h 0, each-solves n (λ k. f (suc k)) s (λ k. h (suc k)))
-
-solves-each : (n : ℕ) (f : ℕ → Line) (s : Assignment) → Solves (tabulate n f) s → (k : ℕ) → k < n → Meets s (f k)
-solves-each zero f s h k l = absurd (omega arith)
-solves-each (suc n) f s h zero l = h .0
-solves-each (suc n) f s h (suc k) l = solves-each n (λ i. f (suc i)) s (h .1) k (omega arith)
 
 module _ (M : ℕ) where
   -- what a chain says of t, line by line
@@ -62,15 +53,15 @@ module _ (M : ℕ) where
 
   -- it is a solution, and no variable has less in any other
   pub chain-solved : (n : ℕ) → Solves (chain M n) (climbing M)
-  chain-solved n = each-solves n (chainLine M) (climbing M) climbs
+  chain-solved n = tabulate-solves n (chainLine M) (climbing M) (λ k l. climbs k)
 
   chain-least : (n : ℕ) (t : Assignment) → Solves (chain M n) t → (k : ℕ) → k < n → pos (suc k * M) ⩽ t k
-  chain-least n t h zero l = once (t 0) M (first-line t (solves-each n (chainLine M) t h 0 l))
+  chain-least n t h zero l = once (t 0) M (first-line t (solves-tabulate n (chainLine M) t h 0 l))
     where
       once : (a : ℤ) (m : ℕ) → pos m ⩽ a → pos (1 * m) ⩽ a
       once a m = simp ints (omega arith)
   chain-least n t h (suc k) l =
-      rise (t k) (t (suc k)) (suc k * M) (suc (suc k) * M) M (omega arith) (chain-least n t h k (omega arith)) (chain-line t k (solves-each n (chainLine M) t h (suc k) l))
+      rise (t k) (t (suc k)) (suc k * M) (suc (suc k) * M) M (omega arith) (chain-least n t h k (omega arith)) (chain-line t k (solves-tabulate n (chainLine M) t h (suc k) l))
     where
       rise : (a b : ℤ) (p q m : ℕ) → q ≡ p + m → pos p ⩽ a → a +ℤ pos m ⩽ b → pos q ⩽ b
       rise a b p q m = simp ints (omega arith)

@@ -1,6 +1,6 @@
 -- A solution in which no value has a size beyond L and up to L + M stays one where all values beyond are moved by one: toward zero where no d is below -M, and
 -- away from it where none is above M.
-use mathlib.Core.Path.{_≡_, refl, ap}
+use mathlib.Core.Path.{_≡_, ap}
 use mathlib.Core.Logic.{_⊎_, inl, inr}
 use mathlib.Core.List.{List, [], _∷_}
 use Prim.Native.Nat.{ℕ, zero, suc, _+_, _-_, _≤_, _<_, min}

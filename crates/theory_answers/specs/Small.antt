@@ -3,14 +3,14 @@
 --
 -- Of n values that are not all so small, none lies in some stretch of M (`free`). Those beyond it may then be moved by one, and the assignment still solves the
 -- list: toward zero, against the model being nearest; or away from it, against the greatest value being one.
-use mathlib.Core.Path.{_≡_, refl, sym, ap, _∙_}
+use mathlib.Core.Path.{_≡_, refl, ap}
 use mathlib.Core.Logic.{_⊎_, inl, inr}
 use mathlib.Core.Bool.{Bool, true, false}
 use mathlib.Core.List.{List, [], _∷_}
 use Prim.Native.Nat.{ℕ, zero, suc, _+_, _*_, _≤_, _<_}
 use native.Mathlib.Omega.{arith}
 use native.Mathlib.Decide.{decLt}
-use lib.IntN.{ℤ, pos, negsuc, negℤ, natAbs, _+ℤ_, _-ℤ_}
+use lib.IntN.{ℤ, pos, negsuc, negℤ, natAbs, _+ℤ_}
 use lib.Signed.{ltZ}
 use Rattle.integers.specs.Integer.{_⩽_, _⋖_, Within}
 use Rattle.integers.specs.Linear.{ints, given, negPart, ≤ℤ-trans}
@@ -25,7 +25,7 @@ use Rattle.lines.specs.Valid.{AllOk, line-ok, valid-list}
 use Rattle.steps.specs.Point.{signed}
 use Rattle.theory_answers.specs.Semantics.{Agrees, IsModel, sumOf, IsGreatest, IsLeast}
 use Rattle.theory_answers.specs.Moved.{AllAbove, AllBelow, inward-near, inward-far, outward-far, outward-least, drawnIn, drawnOut, solves-inward, solves-outward}
-use Rattle.theory_answers.specs.Gap.{First, first, Free, free}
+use Rattle.theory_answers.specs.Gap.{first, free}
 
 -- every d lies within M
 abbrev pub AllWithin : ℕ → List Line → Type 0

@@ -12,7 +12,7 @@ use Rattle.theory_walks.specs.Distance.{le-refl}
 use Rattle.theory_walks.specs.Row.{In}
 use Rattle.theory_walks.specs.Negative.{noNegative}
 use Rattle.theory_walks.specs.Graph.{source, member, ends-points}
-use Rattle.theory_covering.specs.Covers.{Merged, merged-clear}
+use Rattle.theory_covering.specs.Covers.{merged-clear}
 use Rattle.theory_bounds.specs.Verdict.{hasFalse, no-false, lowest-false, dueKind}
 use Rattle.theory_order.specs.Rearranged.{Includes, Rearranged, includes, turned-back}
 

@@ -1,20 +1,18 @@
 -- Lines in another order: each line of the one list is one of the other, so that both have the same solutions, and are valid together.
 use mathlib.Core.Path.{_≡_, refl, sym, ap, subst, _∙_}
-use mathlib.Core.Logic.{_↔_}
-use mathlib.Core.List.{List, [], _∷_, _++_}
-use Prim.Native.Nat.{ℕ, zero, suc, _+_, _%_, _<_, _≤_}
+use mathlib.Core.List.{List, _∷_}
+use Prim.Native.Nat.{ℕ, zero, suc, _%_, _<_}
 use native.Mathlib.Omega.{arith}
-use borrow.Author.Tests.{le-ltb, eq-eqb}
 use lib.IntN.{ℤ}
 use lib.ListN.{length}
 use Rattle.integers.specs.Sequence.{length-tabulate}
 use Rattle.lines.specs.declared.Line.{Line}
 use Rattle.lines.specs.declared.Validity.the-variants.{Valid}
-use Rattle.lines.specs.Limits.{lineSize, maxVariables, maxLines}
-use Rattle.lines.specs.Line.{lineAt, lineCount, linesOf, Assignment, Solves, Entails, SameSolutions}
-use Rattle.lines.specs.Refusal.{lineValidity, linesValidity, validityOf}
-use Rattle.lines.specs.Valid.{valid-list, line-valid-more}
-use Rattle.theory_walks.specs.Graph.{At, at-line, solves-line, lines-solve}
+use Rattle.lines.specs.Limits.{lineSize}
+use Rattle.lines.specs.Line.{lineAt, lineCount, linesOf, Entails, SameSolutions}
+use Rattle.lines.specs.Refusal.{lineValidity, validityOf}
+use Rattle.lines.specs.Valid.{valid-list, list-valid, lines-valid, line-valid-more}
+use Rattle.theory_walks.specs.Graph.{At, at-line, line-at, solves-line, lines-solve}
 
 -- ms has the lines of ls in another order: two neighbours are swapped, anywhere, as often as it takes
 pub data Rearranged : List Line → List Line → Type 0 where
@@ -56,25 +54,14 @@ pub same-solutions : (ls ms : List Line) → Rearranged ls ms → SameSolutions 
 same-solutions ls ms p s = (entails ms ls (includes (turned-back p)) s, entails ls ms (includes p) s)
 
 -- ---- validity: the limits look at how many lines there are, and the rules at one line each
-lines-valid : (n k : ℕ) (ls : List Line) → ((j : ℕ) (l : Line) → At ls j l → lineValidity n 0 l ≡ Valid) → linesValidity n k ls ≡ Valid
-unfolding linesValidity
-lines-valid n k [] h = refl
-lines-valid n k (l ∷ ls) h =
-    let first : lineValidity n k l ≡ Valid = line-valid-more n n 0 k l (omega arith) (h 0 l refl) in
-    rw first (lines-valid n (k + 1) ls (λ j m a. h (suc j) m a))
-
--- a list of whole lines, few enough, of which none breaks a rule
-pub each-valid : (n : ℕ) (L : List ℤ) → n ≤ maxVariables → length L % lineSize ≡ 0 → lineCount L ≤ maxLines → ((j : ℕ) (l : Line) → At (linesOf L) j l → lineValidity n 0 l ≡ Valid)
-    → validityOf n L ≡ Valid
-unfolding validityOf
-each-valid n L few whole count h =
-    rw (le-ltb maxVariables n few, eq-eqb (length L % lineSize) 0 whole, le-ltb maxLines (lineCount L) count, lines-valid n 0 (linesOf L) h)
-
 pub rearranged-valid : (n : ℕ) (L M : List ℤ) → Rearranged (linesOf L) (linesOf M) → length M % lineSize ≡ 0 → validityOf n L ≡ Valid → validityOf n M ≡ Valid
 rearranged-valid n L M p whole v =
     let o = valid-list n L v in
     let count : lineCount M ≡ lineCount L = sym (length-tabulate (lineCount M) (lineAt M)) ∙ sym (same-length p) ∙ length-tabulate (lineCount L) (lineAt L) in
-    each-valid n M (o .variables) whole (omega (arith, count, o .count)) (λ j l a.
-    let r = includes (turned-back p) j l a in
-    let at = at-line L (r .0) l (r .1) in
-    line-valid-more n n (r .0) 0 l (omega arith) (subst (λ (m : Line). lineValidity n (r .0) m ≡ Valid) (at .1) (o .each (r .0) (at .0))))
+    list-valid n M (o .variables) whole (omega (arith, count, o .count)) (lines-valid n (lineCount M) (lineAt M) 0 each)
+  where
+    each : (k : ℕ) → k < lineCount M → lineValidity n 0 (lineAt M k) ≡ Valid
+    each k h =
+        let r = includes (turned-back p) k (lineAt M k) (line-at M k h) in
+        let at = at-line L (r .0) (lineAt M k) (r .1) in
+        line-valid-more n n (r .0) 0 (lineAt M k) (omega arith) (subst (λ (l : Line). lineValidity n (r .0) l ≡ Valid) (at .1) (valid-list n L v .each (r .0) (at .0)))
