@@ -5,24 +5,24 @@
 -- ImpliedLine.antt and Sessions.antt: deciding, both questions and sessions promise what is stated there, and nothing is added here.
 use mathlib.Core.Path.{_≡_, refl, sym, ap, _∙_}
 use mathlib.Core.Logic.{_↔_}
-use mathlib.Core.Bool.{Bool, true, false, cond}
+use mathlib.Core.Bool.{Bool, cond}
 use mathlib.Core.List.{List, [], _∷_, _++_}
 use Prim.Native.Nat.{ℕ, _%_}
 use lib.IntN.{ℤ}
 use lib.ListN.{length, take, drop}
+use Rattle.integers.specs.Laws.{never}
 use Rattle.lines.specs.declared.Line.{Line}
 use Rattle.lines.specs.declared.Validity.{Validity}
 use Rattle.lines.specs.Limits.{lineSize}
-use Rattle.lines.specs.Line.{linesOf, numbersOf}
+use Rattle.lines.specs.Line.{lineAt, linesOf, numbersOf}
 use Rattle.lines.specs.LineNumbers.{lines-of-numbers}
-use Rattle.lines.specs.Refusal.{_orElse_}
+use Rattle.lines.specs.Refusal.{_orElse_, lineTests, linesValidity, validityOf}
 use Rattle.lines.specs.Valid.{workable}
 use Rattle.check_soundness.specs.Head.{kindOf}
 use Rattle.theory_bounds.specs.Verdict.{verdictOf}
-use Rattle.theory_bounds.specs.Answers.{modelOf, boundsOf, groupsOf}
 use Rattle.theory_answers.specs.Decided.{lines-ok}
 use Rattle.theory_answers.specs.Same.{same-verdict, same-written}
-use Rattle.theory_order.specs.Rearranged.{Rearranged, same-solutions, rearranged-valid}
+use Rattle.theory_order.specs.Rearranged.{Rearranged, swapped, same-solutions, rearranged-valid}
 use Rattle.theory_order.specs.Often.{occurrences, rearranged-as-often}
 use Rattle.theory_order.specs.Order.{rearranged-kind}
 use Rattle.decide_buffers.specs.Room.{Lent, lengthsOf, modelRoom, boundsRoom, groupsRoom, roomsValidity, decideValidity}
@@ -35,7 +35,9 @@ use Rattle.session.specs.Promise.{Adds}
 use Rattle.session.specs.Sequence.{Reached}
 use Rattle.c_deciding.specs.Calls.{decideCode, DecideReturns}
 use Rattle.demands.specs.Calls.{Call, call-valid, call-yes, call-due, on-yes, on-no}
-use Rattle.demands.specs.Demands.{ValidFor, SameAnswers, answers-by-solutions-alone}
+use Rattle.demands.specs.Demands.{ValidFor, answers-by-solutions-alone}
+use Rattle.demands.specs.Versions.{falseList}
+use Rattle.demands.specs.DecideVersions.{Version, Keeps, roomWith, atMost5, firstLineOnly, first-line-no, first-line-yes}
 use Rattle.demands.specs.PairCalls.{PairAsked}
 use Rattle.demands.specs.Implied.{pair-by-solutions-alone}
 use Rattle.demands.specs.ImpliedLine.{LineCall, line-by-solutions-alone}
@@ -129,6 +131,19 @@ pub returned-alike : (n : ℕ) (L M : List ℤ) → ValidFor n L → length M % 
     → (r q : ℤ) (b a e : Lent) → DecideReturns n L r b a → DecideReturns n M q b e → r ≡ q
 returned-alike n L M v whole p r q b a e c d = c .is ∙ ap decideCode (answers-alike n L M v (rearranged-valid n L M p whole v) p b) ∙ sym (d .is)
 
+-- So it is with every version of deciding that keeps its promise, and the promise rules out those of which it is not so: a verdict that depends on the first
+-- line gives two orders two answers.
+abbrev pub InAnyOrder : Version → Type 0
+InAnyOrder f = (n : ℕ) (L M : List ℤ) → ValidFor n L → ValidFor n M → Rearranged (linesOf L) (linesOf M) → (b : Lent) → f n L b .answer ≡ f n M b .answer
+
+pub kept-in-any-order : (f : Version) → Keeps f → InAnyOrder f
+kept-in-any-order f k n L M v w p b = k n L b .is ∙ answers-alike n L M v w p b ∙ sym (k n M b .is)
+
+pub first-line-only-by-order : InAnyOrder firstLineOnly → ⊥
+unfolding validityOf linesValidity lineTests lineAt
+first-line-only-by-order h =
+    let e : decide.No ≡ decide.Yes = sym first-line-no ∙ h 1 (falseList ++ atMost5) (atMost5 ++ falseList) refl refl swapped (roomWith 1 0) ∙ first-line-yes in never (cc)
+
 -- ---- what a list implies
 
 -- The pair: one answer, all four numbers included.
@@ -149,6 +164,5 @@ pub session-in-any-order : (n : ℕ) (ls ms : List Line) (q r : Bool) (s u : Lis
     → (m : Line) (y : Answer) (c : Lent) (v : List ℤ) (e : Lent) → Adds u m y c v e → NotRefused y
     → Rearranged (ls ++ l ∷ []) (ms ++ m ∷ []) → SameButWalks n x a y e
 session-in-any-order n ls ms q r s u reached reached′ l x b t a d h m y c v e f k p =
-    let lines : (ks : List Line) → ks ≡ linesOf (numbersOf ks) = λ ks. sym (lines-of-numbers ks) in
     order-does-not-matter n (numbersOf (ls ++ l ∷ [])) (numbersOf (ms ++ m ∷ [])) (rw (lines-of-numbers (ls ++ l ∷ []), lines-of-numbers (ms ++ m ∷ [])) p)
     (add-is-a-call n ls q s reached l x b t a d h) (add-is-a-call n ms r u reached′ m y c v e f k)

@@ -1,7 +1,7 @@
 -- What was asked of sizes, in the words of docs/SPECIFICATION.md, each statement proved by citing the rest. On a list of n variables, with M the limit on d:
 -- every value of a model lies within ±n·M, and so does every bound that is there; every implied sum or difference lies within twice that; the model that shows
 -- that a line is not implied lies within ±n·(M + 1). All values of models fit 32 bits. These sizes are reached: `chainList` has a value, and a bound, of n·M.
-use mathlib.Core.Path.{_≡_, refl, sym, ap, ap₂, subst, _∙_}
+use mathlib.Core.Path.{_≡_, refl, sym, ap, _∙_}
 use mathlib.Core.Logic.{_⊎_, inl, inr}
 use mathlib.Core.Bool.{Bool, true, false, cond, _&&_}
 use mathlib.Core.List.{List, [], _∷_, _++_}
@@ -19,11 +19,10 @@ use Rattle.integers.specs.Sequence.{length-tabulate}
 use Rattle.lines.specs.declared.Line.{Line}
 use Rattle.lines.specs.declared.Validity.the-variants.{Valid}
 use Rattle.lines.specs.Limits.{lineSize, maxVariables, maxLines, maxConstant, workConstant, absentLeast, absentGreatest}
-use Rattle.lines.specs.Line.{lineCount, linesOf, numbersOf, Assignment, assignmentOf, Meets, Solves, Solvable}
+use Rattle.lines.specs.Line.{lineCount, linesOf, numbersOf, Assignment, assignmentOf, Meets, Solvable}
 use Rattle.lines.specs.LineNumbers.{length-numbersOf, lines-of-numbers, lines-snoc}
 use Rattle.lines.specs.Refusal.{coefficientsOk, variableOk, variablesOk, loneOk, constantOk, identifierOk, lineValidity, linesValidity}
 use Rattle.lines.specs.Valid.{AllOk, valid-list, workable, list-valid, lines-valid}
-use Rattle.theory_bounds.specs.Answers.{modelOf}
 use Rattle.theory_answers.specs.Semantics.{valueOf, sumOf, IsModel, IsGreatest, LeastWritten, GreatestWritten}
 use Rattle.theory_answers.specs.Meaning.{model-is-model, only-model}
 use Rattle.theory_answers.specs.Small.{all-above, valid-within, model-small, value-small, sum-small, least-small}
