@@ -177,7 +177,8 @@ fn the_sizes_are_reached() {
             line
         };
         let lines: Vec<Line> = chain().into_iter().map(turned).collect();
-        let Verdict::Yes(Solved { model, bounds, .. }) = decide(&mut chance, MOST_N, &lines).verdict
+        let Verdict::Yes(Solved { model, bounds, .. }) =
+            decide(&mut chance, MOST_N, &lines).verdict
         else {
             panic!("a chain is a yes");
         };
@@ -220,7 +221,10 @@ fn no_size_is_passed() {
         let asked = extreme(&mut chance, n);
         if let Implied::No(model) = implied(&mut chance, n, &lines, asked) {
             let most = n as i64 * (LARGEST_BOUND + 1);
-            assert!(model.iter().all(|z| z.abs() <= most), "{model:?}\n{lines:?}");
+            assert!(
+                model.iter().all(|z| z.abs() <= most),
+                "{model:?}\n{lines:?}"
+            );
         }
     }
     assert!(far >= 100, "{far}");
