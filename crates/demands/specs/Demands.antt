@@ -1,6 +1,7 @@
 -- What was demanded, in the words of docs/SPECIFICATION.md, each statement proved by citing the rest: here of deciding, of the answers and of the checkers, in
 -- Exported.antt of what C gets, in Files.antt of files and the program, in Sessions.antt of sessions, in Implied.antt and ImpliedLine.antt of what a list
--- implies, in Seconds.antt of models in seconds, in Shorter.antt of the shorter of two refutations.
+-- implies, in Seconds.antt of models in seconds, in Shorter.antt of the shorter of two refutations, in Order.antt of the order of lines, in Small.antt of how
+-- large the answers are.
 --
 -- A reader has to believe the meaning of the words (`Solves`, `Written` in theory_answers/specs/Semantics.antt, `Refutes` and `BreaksAt` in check_soundness/specs),
 -- the table of refusals (`refusalTable` in Refusals.antt, with `lentRooms` in decide_buffers/specs/Room.antt) and what a call is (`Call` in Calls.antt), and
@@ -47,7 +48,8 @@ use Rattle.check_soundness.specs.Bare.{same-checked}
 use Rattle.theory_bounds.specs.Verdict.{verdictOf, dueKind}
 use Rattle.theory_bounds.specs.Answers.{modelOf, boundsOf, groupsOf}
 use Rattle.theory_bounds.specs.Bare.{same-verdict as same-verdict-bare, same-model, same-bounds, same-groups, same-kind}
-use Rattle.theory_answers.specs.Small.{AllAbove, model-small}
+use Rattle.theory_answers.specs.Moved.{AllAbove}
+use Rattle.theory_answers.specs.Small.{model-small}
 use Rattle.theory_answers.specs.Refuted.{Due, due-refutation}
 use Rattle.theory_answers.specs.Meaning.{computed-written, no-tie}
 use Rattle.theory_answers.specs.Decided.{DueKind, LowestFalseLine, names-the-lowest, lines-ok, yes-solvable, no-unsolvable, solvable-yes, unsolvable-no, due-accepted, accepted-no, kind-due}

@@ -20,19 +20,20 @@ use Rattle.lines.specs.declared.Line.{Line}
 use Rattle.lines.specs.declared.Refusal.{Refusal}
 use Rattle.lines.specs.declared.Validity.{Validity}
 use Rattle.lines.specs.declared.Validity.the-variants as validity
-use Rattle.lines.specs.Line.{lineCount, linesOf, Assignment, Meets, Solves, Solvable, Entails}
+use Rattle.lines.specs.Line.{lineCount, linesOf, Assignment, Meets, Solves, Solvable, Entails, SameSolutions}
 use Rattle.lines.specs.Refusal.{placeOf}
-use Rattle.lines.specs.Valid.{valid-list}
+use Rattle.lines.specs.Valid.{valid-list, workable}
 use Rattle.check_soundness.specs.Refutes.{Refutes}
 use Rattle.theory_bounds.specs.Verdict.{verdictOf}
 use Rattle.theory_bounds.specs.Answers.{modelOf}
 use Rattle.theory_answers.specs.Refuted.{Due}
 use Rattle.theory_answers.specs.Longer.{longer-entails}
+use Rattle.theory_answers.specs.Same.{model-too, same-verdict}
 use Rattle.decide_buffers.specs.Room.{modelRoom}
 use Rattle.decide.specs.Decided.{cleared}
 use Rattle.implied_line.specs.declared.LineAnswer.{LineAnswer}
 use Rattle.implied_line.specs.declared.LineAnswer.the-variants.{Implied, NotImplied, Unsolvable, Refused}
-use Rattle.implied_line.specs.Opposite.{opposite, opposed, meets-opposite}
+use Rattle.implied_line.specs.Opposite.{opposite, opposed, opposed-works, meets-opposite, solves-opposed}
 use Rattle.implied_line.specs.Answer.{lineRooms, questionValidity, judgedBy, judged, unlessRefused, impliedAnswer, LineLent, lengthsOf, answerFor, modelLeft, workLeft, AnswersLine}
 use Rattle.implied_line.specs.Judged.{LineAsked, asked}
 use Rattle.implied_line.specs.Meaning.{Implies, Breaks, BreakingModel, implies-more, breaks-before, implied-exactly, not-implied-exactly, unsolvable-exactly, breaking-model, one-breaking-model, implied-shown, shown-implied}
@@ -97,7 +98,7 @@ module _ {n : ℕ} {L : List ℤ} {l : Line} (c : LineCall n L l) where
   all-valid : questionValidity n L l (lengthsOf (c .before)) ≡ validity.Valid
   all-valid = answered-valid n L l (c .before) (λ r e. c .not-refused r (c .promised .is ∙ e))
 
-  was-asked : LineAsked n L l (c .before .model) (c .before .work)
+  pub was-asked : LineAsked n L l (c .before .model) (c .before .work)
   was-asked = asked n L l (c .before) all-valid
 
   answer-is : c .answer ≡ judged n L l
@@ -194,6 +195,40 @@ line-unlearned n L M l c d =
       none-stays = λ e. q .none-exactly .1 (λ s. r .none-exactly .0 e (record { assignment = s .assignment; solves = more (s .assignment) (s .solves) }));
       no-before = λ e. r .no-exactly .1 (breaks-before (linesOf L) (linesOf (L ++ M)) l more (q .no-exactly .0 e));
     }
+
+-- Answers depend on the solutions alone: two lists with the same solutions have the same answer, and on a no the same model, whatever stood in the buffers.
+pub line-by-solutions-alone : (n : ℕ) (L M : List ℤ) (l : Line) (c : LineCall n L l) (d : LineCall n M l) → SameSolutions (linesOf L) (linesOf M)
+    → (c .answer ≡ d .answer) × (c .answer ≡ NotImplied → take (modelRoom n) (c .after .model) ≡ take (modelRoom n) (d .after .model))
+line-by-solutions-alone n L M l c d same = (answers, (λ e. right-line n M l d .only-model (sym answers ∙ e) _ (moved (right-line n L l c .model e))))
+  where
+    v : LineAsked n L l (c .before .model) (c .before .work)
+    v = was-asked c
+
+    w : LineAsked n M l (d .before .model) (d .before .work)
+    w = was-asked d
+
+    -- the solutions of the lists with the opposite line behind them are the same, too
+    opposed-same : SameSolutions (linesOf (opposed L l)) (linesOf (opposed M l))
+    opposed-same s =
+        let f = solves-opposed L l (valid-list n L (v .list) .whole) s in
+        let g = solves-opposed M l (valid-list n M (w .list) .whole) s in
+        ((λ h. let p = f .0 h in g .1 (same s .0 (p .0), p .1)), (λ h. let p = g .0 h in f .1 (same s .1 (p .0), p .1)))
+
+    answers : c .answer ≡ d .answer
+    answers =
+        answer-is c
+        ∙ ap₂ judgedBy (same-verdict n L M (workable n L (v .list)) (workable n M (w .list)) same)
+        (same-verdict n (opposed L l) (opposed M l) (opposed-works n (lineCount L) L l (v .list) (v .line)) (opposed-works n (lineCount M) M l (w .list) (w .line)) opposed-same)
+        ∙ sym (answer-is d)
+
+    moved : {m : List ℤ} → BreakingModel n L l m → BreakingModel n M l m
+    moved b =
+        record {
+          model-length = b .model-length;
+          model-is = model-too (linesOf (opposed L l)) (linesOf (opposed M l)) opposed-same (b .model-is);
+          solves = same _ .0 (b .solves);
+          breaks = b .breaks;
+        }
 
 -- ---- the exported function
 

@@ -24,3 +24,5 @@ pub mod SecondsVersions
 pub mod Seconds
 pub mod ShorterVersions
 pub mod Shorter
+pub mod Order
+pub mod Small
