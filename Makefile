@@ -14,7 +14,7 @@ export PREFIX LIBDIR DESTDIR CC
 
 .PHONY: all install dist FORCE
 
-all: target/lib/libutvpi.a
+all:
 	@./utvpi --help > /dev/null
 
 target/lib/libutvpi.a: FORCE
