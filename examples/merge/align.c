@@ -192,7 +192,7 @@ int align(struct merge *merge)
     for (size_t at = 0; at < merge->log_count; at++) {
         struct log *log = &merge->logs[at];
         if (!log->aligned) {
-            return refuse(log->name, "it has no frame in common with the other logs",
+            return refuse(log->name, "it has no frame in common with the other logs that is rare",
                           "give logs of one bus that were recorded at the same time");
         }
         for (size_t frame = 0; frame < log->count; frame++) {

@@ -88,18 +88,28 @@ static void take_middle(struct merge *merge)
 {
     static int64_t middle[UTVPI_MODEL_ROOM(UTVPI_MOST_VARIABLES)];
     for (size_t at = 0; at < merge->n; at++) {
-        int64_t least = merge->bounds[2 * at], greatest = merge->bounds[2 * at + 1];
         int64_t sense = merge->logs[merge->windows[at].log].sense;
-        if (least == UTVPI_NO_LEAST || greatest == UTVPI_NO_GREATEST) {
-            return;
-        }
-        middle[at] = sense * divided(sense * (least + greatest), 2);
+        middle[at] = sense * divided(sense * (merge->bounds[2 * at] + merge->bounds[2 * at + 1]), 2);
     }
     if (values_hold(merge, middle)) {
         for (size_t at = 0; at < merge->n; at++) {
             merge->model[at] = middle[at];
         }
     }
+}
+
+/* Whether frames tie each log to the first, so that no offset is without bounds. */
+static int look_for_ties(const struct merge *merge)
+{
+    for (size_t at = 0; at < merge->n; at++) {
+        if (merge->bounds[2 * at] == UTVPI_NO_LEAST ||
+            merge->bounds[2 * at + 1] == UTVPI_NO_GREATEST) {
+            return refuse(merge->logs[merge->windows[at].log].name,
+                          "no frame that is alone in a window ties it to the first log",
+                          "write a shorter --window or a longer --reach, or give longer logs");
+        }
+    }
+    return STATUS_YES;
 }
 
 int decide(struct merge *merge)
@@ -123,6 +133,9 @@ int decide(struct merge *merge)
     }
     if (!UTVPI_IS_YES(result) || !values_hold(merge, merge->model)) {
         distrust("the library answered yes, but its values fail its own check");
+    }
+    if (look_for_ties(merge) != STATUS_YES) {
+        return STATUS_BAD;
     }
     take_middle(merge);
     return STATUS_YES;
@@ -160,8 +173,8 @@ static void hold(struct merge *merge, utvpi_line line, int64_t greatest)
 }
 
 /* By how much what is sent by window u's offset can at most be behind what is sent by
- * window v's, beside what the frames' own times say; UTVPI_NO_GREATEST where there is no
- * limit. Each two windows are asked about once. */
+ * window v's, beside what the frames' own times say. Each two windows are asked about
+ * once. */
 int64_t most_behind(struct merge *merge, uint64_t u, uint64_t v)
 {
     static struct {

@@ -126,12 +126,20 @@ static const char *read_number(struct merge *merge, const char *name, const char
     return "there is no such option";
 }
 
-/* Opens a file to write to. Gives back what is wrong, or NULL. */
-static const char *open_file(FILE **file, const char *name)
+/* Opens a file to write to, where one is named that is no log. Gives back a status, after
+ * what is wrong is said. */
+static int open_file(const struct merge *merge, FILE **file, const char *name)
 {
+    for (size_t at = 0; name != NULL && at < merge->log_count; at++) {
+        if (strcmp(name, merge->logs[at].name) == 0) {
+            return refuse(name, "this is a log to read", "name another file to write to");
+        }
+    }
     FILE *opened = name == NULL ? NULL : fopen(name, "wb");
     *file = opened == NULL ? *file : opened;
-    return name == NULL ? "a file has to follow" : opened == NULL ? strerror(errno) : NULL;
+    return name == NULL || opened != NULL
+               ? STATUS_YES
+               : refuse(name, strerror(errno), "name a file that can be written");
 }
 
 /* Reads the arguments. Gives back a status, after what is wrong is said. */
@@ -150,11 +158,9 @@ static int read_arguments(struct merge *merge, int argc, char **argv)
             wrong = next == NULL ? "LOG:LINE has to follow" : NULL;
             merge->unmatched[merge->unmatched_count++] = next;
             at++;
-        } else if (strcmp(name, "--output") == 0) {
-            wrong = open_file(&merge->out, next);
-            at++;
-        } else if (strcmp(name, "--report") == 0) {
-            wrong = open_file(&merge->report, next);
+        } else if (strcmp(name, "--output") == 0 || strcmp(name, "--report") == 0) {
+            wrong = next == NULL ? "a file has to follow" : NULL;
+            *(name[2] == 'o' ? &merge->output : &merge->report_to) = next;
             at++;
         } else if (name[0] == '-') {
             wrong = read_number(merge, name, next);
@@ -196,9 +202,12 @@ static int mark_unmatched(struct merge *merge, const char *frame)
     return refuse(frame, "no log has such a frame", "write --unmatched LOG:LINE, as merge names it");
 }
 
-/* Reads the logs, decides and prints. */
+/* Reads the logs, decides and prints; all is found and checked before. */
 static int run(struct merge *merge)
 {
+    if (open_file(merge, &merge->report, merge->report_to) != STATUS_YES) {
+        return STATUS_BAD;
+    }
     for (size_t at = 0; at < merge->log_count; at++) {
         if (read_log(merge, &merge->logs[at]) != STATUS_YES) {
             return STATUS_BAD;
@@ -212,14 +221,20 @@ static int run(struct merge *merge)
     if (align(merge) != STATUS_YES || make_rules(merge) != STATUS_YES) {
         return STATUS_BAD;
     }
-    if (decide(merge) == STATUS_NO) {
+    int status = decide(merge);
+    if (status == STATUS_NO) {
         print_no(merge);
-        return STATUS_NO;
     }
-    put_in_order(merge);
-    print_report(merge);
-    print_merged(merge);
-    return STATUS_YES;
+    if (status == STATUS_YES) {
+        put_in_order(merge);
+        find_open(merge);
+        status = open_file(merge, &merge->out, merge->output);
+    }
+    if (status == STATUS_YES) {
+        print_yes(merge);
+        print_merged(merge);
+    }
+    return status;
 }
 
 static void give_back(struct merge *merge)
@@ -233,6 +248,7 @@ static void give_back(struct merge *merge)
     free(merge->work);
     free(merge->bus);
     free(merge->order);
+    free(merge->open);
 }
 
 int main(int argc, char **argv)

@@ -80,12 +80,18 @@ struct bus_frame {
     size_t place;
 };
 
+/* Two frames whose order nothing settles. */
+struct open_pair {
+    const struct bus_frame *one, *other;
+};
+
 struct merge {
     /* As asked for; a window of 0 is to be chosen. Times are in microseconds. */
     int64_t tick, tolerance, ppm, asked_reach, asked_window;
     bool strict, all;
     const char **unmatched;
     size_t unmatched_count;
+    const char *output, *report_to;
     FILE *out, *report;
 
     struct log logs[MOST_LOGS];
@@ -118,6 +124,8 @@ struct merge {
     struct bus_frame **order;
     size_t bus_count;
     size_t contradictions;
+    struct open_pair *open;
+    size_t open_count;
 };
 
 /* The frames with one key in two rows of frames that are in the order of keys. */
@@ -155,14 +163,13 @@ void distrust(const char *what);
 int decide(struct merge *merge);
 int64_t most_behind(struct merge *merge, uint64_t u, uint64_t v);
 
-/* order.c: the frames of the bus, in order; which of two frames is first. */
-enum { FIRST = -1, OPEN = 0, SECOND = 1 };
+/* order.c: the frames of the bus, in order, and those whose order is open. */
 void put_in_order(struct merge *merge);
-int order_of(struct merge *merge, const struct bus_frame *one, const struct bus_frame *other);
+void find_open(struct merge *merge);
 
 /* report.c: what is printed. */
 void print_merged(const struct merge *merge);
-void print_report(struct merge *merge);
+void print_yes(const struct merge *merge);
 void print_no(const struct merge *merge);
 
 #endif

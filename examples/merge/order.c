@@ -9,6 +9,9 @@
 /* Not in order yet. */
 #define NOWHERE SIZE_MAX
 
+/* Which of two frames is first. */
+enum { FIRST = -1, OPEN = 0, SECOND = 1 };
+
 static int64_t middle_of(const struct merge *merge, uint64_t window)
 {
     return merge->begin + merge->windows[window].number * merge->length + merge->length / 2;
@@ -166,12 +169,12 @@ static bool settled(struct merge *merge, const struct frame *one, const struct f
 {
     int64_t most = most_behind(merge, one->window, other->window);
     int64_t off = slack(merge, one->log) + slack(merge, other->log);
-    return most != UTVPI_NO_GREATEST && one->at - other->at + most + off < 0;
+    return one->at - other->at + most + off < 0;
 }
 
 /* Which of two frames of the bus is first: by a recorder that saw both, or else by the
  * rules, for two recorders that saw one each. */
-int order_of(struct merge *merge, const struct bus_frame *one, const struct bus_frame *other)
+static int order_of(struct merge *merge, const struct bus_frame *one, const struct bus_frame *other)
 {
     for (size_t at = 0; at < merge->log_count; at++) {
         if (one->by[at] != NULL && other->by[at] != NULL) {
@@ -258,5 +261,45 @@ void put_in_order(struct merge *merge)
     for (size_t at = 0; at < merge->bus_count; at++) {
         merge->order[at] = choose_next(merge, next);
         merge->order[at]->place = at;
+    }
+}
+
+/* Keeps two frames whose order is open; the room doubles. */
+static void add_open(struct merge *merge, const struct bus_frame *one,
+                     const struct bus_frame *other)
+{
+    if ((merge->open_count & (merge->open_count - 1)) == 0) {
+        size_t room = merge->open_count == 0 ? 1 : 2 * merge->open_count;
+        merge->open = take(merge->open, room, sizeof *merge->open);
+    }
+    merge->open[merge->open_count++] = (struct open_pair){one, other};
+}
+
+/* Finds the frames whose order with this one is open and that go behind it. In a log that
+ * has not this one, they end with a frame that is surely settled to be behind it. */
+static void find_open_with(struct merge *merge, const struct bus_frame *one, size_t *next)
+{
+    for (size_t log = 0; log < merge->log_count; log++) {
+        const struct log *other = &merge->logs[log];
+        while (next[log] < other->count && other->frames[next[log]].bus->place <= one->place) {
+            next[log]++;
+        }
+        bool ended = one->by[log] != NULL;
+        for (size_t at = next[log]; !ended && at < other->count; at++) {
+            const struct bus_frame *frame = other->frames[at].bus;
+            int order = frame->place <= one->place ? SECOND : order_of(merge, one, frame);
+            if (order == OPEN && frame->first->log == log) {
+                add_open(merge, one, frame);
+            }
+            ended = order == FIRST && frame->sure;
+        }
+    }
+}
+
+void find_open(struct merge *merge)
+{
+    size_t next[MOST_LOGS] = {0};
+    for (size_t at = 0; at < merge->bus_count; at++) {
+        find_open_with(merge, merge->order[at], next);
     }
 }
