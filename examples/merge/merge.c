@@ -91,8 +91,8 @@ static bool read_millionths(const char *text, int64_t *number)
     return true;
 }
 
-/* An option that a number follows: where it goes, its range, and whether it is in
- * millionths of what is written. */
+/* An option that a number follows: where it goes, its range, and by what it is divided once
+ * it is read in millionths. */
 struct option {
     const char *name;
     int64_t *number;
@@ -126,6 +126,21 @@ static const char *read_number(struct merge *merge, const char *name, const char
     return "there is no such option";
 }
 
+/* Reads an option and the text behind it. Whether there is such an option. */
+static bool read_text(struct merge *merge, const char *name, const char *text)
+{
+    if (strcmp(name, "--output") == 0) {
+        merge->output = text;
+    } else if (strcmp(name, "--report") == 0) {
+        merge->report_to = text;
+    } else if (strcmp(name, "--unmatched") == 0) {
+        merge->unmatched[merge->unmatched_count++] = text;
+    } else {
+        return false;
+    }
+    return true;
+}
+
 /* Opens a file to write to, where one is named that is no log. Gives back a status, after
  * what is wrong is said. */
 static int open_file(const struct merge *merge, FILE **file, const char *name)
@@ -154,13 +169,8 @@ static int read_arguments(struct merge *merge, int argc, char **argv)
             merge->strict = true;
         } else if (strcmp(name, "--all") == 0) {
             merge->all = true;
-        } else if (strcmp(name, "--unmatched") == 0) {
-            wrong = next == NULL ? "LOG:LINE has to follow" : NULL;
-            merge->unmatched[merge->unmatched_count++] = next;
-            at++;
-        } else if (strcmp(name, "--output") == 0 || strcmp(name, "--report") == 0) {
-            wrong = next == NULL ? "a file has to follow" : NULL;
-            *(name[2] == 'o' ? &merge->output : &merge->report_to) = next;
+        } else if (read_text(merge, name, next)) {
+            wrong = next == NULL ? "a file has to follow, or LOG:LINE" : NULL;
             at++;
         } else if (name[0] == '-') {
             wrong = read_number(merge, name, next);
