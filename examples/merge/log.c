@@ -8,9 +8,9 @@
 #include <stdlib.h>
 #include <string.h>
 
-/* The most digits of seconds, so that microseconds are no more than 64 bits hold; the
+/* The most digits of seconds, so that what is made of microseconds fits 64 bits; the
  * digits of the two forms of identifiers; the most bytes of data, of both kinds. */
-#define MOST_DIGITS 12
+#define MOST_DIGITS 11
 #define SHORT_IDENTIFIER 3
 #define LONG_IDENTIFIER 8
 #define MOST_SHORT_IDENTIFIER 0x7FF
