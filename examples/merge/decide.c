@@ -2,6 +2,7 @@
 #include "merge.h"
 
 #include <stdlib.h>
+#include <string.h>
 
 /* The library takes the list as numbers, a line behind the other. */
 _Static_assert(sizeof(utvpi_line) == UTVPI_LINE_BYTES, "a line is its numbers");
@@ -14,6 +15,18 @@ static const int32_t *numbers_of(const struct merge *merge)
 static size_t length_of(const struct merge *merge)
 {
     return UTVPI_LINE_NUMBERS * merge->line_count;
+}
+
+/* A model as the library writes it. */
+typedef int64_t model_number;
+static model_number model[UTVPI_MODEL_ROOM(UTVPI_MOST_VARIABLES)];
+
+/* The values that the library wrote last. */
+static void copy_model(const struct merge *merge, int64_t *values)
+{
+    for (size_t at = 0; at < merge->n; at++) {
+        values[at] = model[at];
+    }
 }
 
 /* Says that an answer can't be trusted, and ends the program. */
@@ -47,7 +60,7 @@ static const uint8_t *list_bytes(const struct merge *merge)
 /* Whether the library's check takes these values for a model of the list. */
 static bool values_hold(const struct merge *merge, const int64_t *values)
 {
-    static uint8_t bytes[sizeof(int64_t) * UTVPI_MODEL_ROOM(UTVPI_MOST_VARIABLES)];
+    static uint8_t bytes[sizeof(int64_t) * UTVPI_MOST_VARIABLES];
     for (size_t at = 0; at < merge->n; at++) {
         pack(bytes + sizeof(int64_t) * at, (uint64_t)values[at], sizeof(int64_t));
     }
@@ -86,15 +99,14 @@ static bool refutation_holds(const struct merge *merge)
  * check, and taken where it accepts them. */
 static void take_middle(struct merge *merge)
 {
-    static int64_t middle[UTVPI_MODEL_ROOM(UTVPI_MOST_VARIABLES)];
+    int64_t middle[UTVPI_MOST_VARIABLES];
     for (size_t at = 0; at < merge->n; at++) {
         int64_t sense = merge->logs[merge->windows[at].log].sense;
-        middle[at] = sense * divided(sense * (merge->bounds[2 * at] + merge->bounds[2 * at + 1]), 2);
+        int64_t twice = merge->bounds[2 * at] + merge->bounds[2 * at + 1];
+        middle[at] = sense * divided(sense * twice, 2);
     }
     if (values_hold(merge, middle)) {
-        for (size_t at = 0; at < merge->n; at++) {
-            merge->model[at] = middle[at];
-        }
+        memcpy(merge->offsets, middle, (size_t)merge->n * sizeof middle[0]);
     }
 }
 
@@ -117,7 +129,7 @@ int decide(struct merge *merge)
     merge->work = take(NULL, UTVPI_WORK_BYTES(merge->n), 1);
     int64_t result = utvpi_decide(
         merge->n, numbers_of(merge), length_of(merge),
-        merge->model, UTVPI_MODEL_ROOM(merge->n), merge->bounds, UTVPI_BOUNDS_ROOM(merge->n),
+        model, UTVPI_MODEL_ROOM(merge->n), merge->bounds, UTVPI_BOUNDS_ROOM(merge->n),
         merge->groups, UTVPI_GROUPS_ROOM(merge->n),
         merge->refutation, UTVPI_REFUTATION_ROOM(merge->n),
         merge->identifiers, UTVPI_IDENTIFIERS_ROOM(merge->n),
@@ -131,7 +143,8 @@ int decide(struct merge *merge)
         }
         return STATUS_NO;
     }
-    if (!UTVPI_IS_YES(result) || !values_hold(merge, merge->model)) {
+    copy_model(merge, merge->offsets);
+    if (!UTVPI_IS_YES(result) || !values_hold(merge, merge->offsets)) {
         distrust("the library answered yes, but its values fail its own check");
     }
     if (look_for_ties(merge) != STATUS_YES) {
@@ -147,25 +160,29 @@ static int64_t worked_out(utvpi_line line, const int64_t *values)
     return line.a * values[line.x] + line.b * values[line.y];
 }
 
+/* Asks whether a line is implied; if not, the library writes a model that breaks it. */
+static int64_t ask_line(struct merge *merge, utvpi_line line)
+{
+    return utvpi_implied_line(merge->n, numbers_of(merge), length_of(merge), line, model,
+                              UTVPI_MODEL_ROOM(merge->n), merge->work, UTVPI_WORK_ROOM(merge->n));
+}
+
 /* Holds a greatest value to a second question: that it is one is implied, and one less is
  * not, as values that meet the rules show. A line can ask only for what is in its range. */
 static void hold(struct merge *merge, utvpi_line line, int64_t greatest)
 {
-    static int64_t values[UTVPI_MODEL_ROOM(UTVPI_MOST_VARIABLES)];
-    if (worked_out(line, merge->model) > greatest) {
+    int64_t values[UTVPI_MOST_VARIABLES];
+    if (worked_out(line, merge->offsets) > greatest) {
         distrust("the library's greatest difference of two offsets is below one that there is");
     }
     if (greatest > UTVPI_MOST_BOUND || greatest <= -UTVPI_MOST_BOUND) {
         return;
     }
     line.d = (int32_t)greatest;
-    int64_t implied = utvpi_implied_line(merge->n, numbers_of(merge), length_of(merge), line,
-                                         values, UTVPI_MODEL_ROOM(merge->n), merge->work,
-                                         UTVPI_WORK_ROOM(merge->n));
+    int64_t implied = ask_line(merge, line);
     line.d--;
-    int64_t less = utvpi_implied_line(merge->n, numbers_of(merge), length_of(merge), line, values,
-                                      UTVPI_MODEL_ROOM(merge->n), merge->work,
-                                      UTVPI_WORK_ROOM(merge->n));
+    int64_t less = ask_line(merge, line);
+    copy_model(merge, values);
     if (!UTVPI_IS_YES(implied) || !UTVPI_IS_NO(less) || !values_hold(merge, values) ||
         worked_out(line, values) != greatest) {
         distrust("the library's greatest difference of two offsets is not what values show");

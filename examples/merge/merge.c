@@ -209,7 +209,7 @@ static int mark_unmatched(struct merge *merge, const char *frame)
             }
         }
     }
-    return refuse(frame, "no log has such a frame", "write --unmatched LOG:LINE, as merge names it");
+    return refuse(frame, "no log has such a frame", "write LOG:LINE, as merge names a frame");
 }
 
 /* Reads the logs, decides and prints; all is found and checked before. */

@@ -111,8 +111,8 @@ struct merge {
     size_t line_count;
     size_t tightest[UTVPI_MOST_VARIABLES][UTVPI_MOST_VARIABLES];
 
-    /* The answer. */
-    int64_t model[UTVPI_MODEL_ROOM(UTVPI_MOST_VARIABLES)];
+    /* The answer: the offset of each window, and what else the library says. */
+    int64_t offsets[UTVPI_MOST_VARIABLES];
     int64_t bounds[UTVPI_BOUNDS_ROOM(UTVPI_MOST_VARIABLES)];
     uint32_t groups[UTVPI_GROUPS_ROOM(UTVPI_MOST_VARIABLES)];
     uint32_t refutation[UTVPI_REFUTATION_ROOM(UTVPI_MOST_VARIABLES)];

@@ -23,15 +23,15 @@ static int64_t offset_at(const struct merge *merge, const struct frame *frame)
     uint64_t left = frame->window;
     if (frame->at < middle_of(merge, left)) {
         if (left == 0 || merge->windows[left - 1].log != frame->log) {
-            return merge->model[left];
+            return merge->offsets[left];
         }
         left--;
     } else if (left + 1 == merge->n || merge->windows[left + 1].log != frame->log) {
-        return merge->model[left];
+        return merge->offsets[left];
     }
     int64_t from = middle_of(merge, left), to = middle_of(merge, left + 1);
-    return merge->model[left] +
-           divided((merge->model[left + 1] - merge->model[left]) * (frame->at - from), to - from);
+    return merge->offsets[left] +
+           divided((merge->offsets[left + 1] - merge->offsets[left]) * (frame->at - from), to - from);
 }
 
 /* Two frames that may be one, by their places in two logs. Of the rows of pairs that are in
