@@ -23,7 +23,7 @@ target/lib/libutvpi.a: FORCE
 install: all
 	@packaging/install
 
-dist: all
+dist: all target/examples/merge
 	@packaging/dist
 
 target/examples/merge: $(wildcard examples/merge/*.[ch]) include/utvpi.h target/lib/libutvpi.a

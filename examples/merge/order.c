@@ -31,7 +31,8 @@ static int64_t offset_at(const struct merge *merge, const struct frame *frame)
     }
     int64_t from = middle_of(merge, left), to = middle_of(merge, left + 1);
     return merge->offsets[left] +
-           divided((merge->offsets[left + 1] - merge->offsets[left]) * (frame->at - from), to - from);
+           divided((merge->offsets[left + 1] - merge->offsets[left]) * (frame->at - from),
+                   to - from);
 }
 
 /* Two frames that may be one, by their places in two logs. Of the rows of pairs that are in
