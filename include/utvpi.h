@@ -2,9 +2,10 @@
  * model of a list, and a proposed refutation of a list; a check of a refutation that
  * arrives in pieces, one that finds the shorter of two refutations, three functions for
  * sessions, in which lines come one at a time, two that say what a list implies, about
- * two variables or of one line more, two that write a model in seconds, and two for lists
- * in files. A program links one file, libutvpi.a, which ./build-library makes in
- * target/lib/.
+ * two variables or of one line more, two that write a model in seconds, two for lists
+ * in files, and one that puts a refusal in words. A program links one file, libutvpi.a,
+ * which ./build-library makes in target/lib/; make install puts it in place, with
+ * libutvpi.so, the manual pages and what pkg-config asks for.
  *
  * Deciding, sessions, what a list implies, the shorter of two refutations and seconds
  * take and write numbers, as the machine holds them. The two checks take bytes, the lowest
@@ -71,6 +72,11 @@
 extern "C" {
 #endif
 
+/* The version of this header and of the library that belongs to it. The first number is
+ * raised where a program that was compiled with the header before has to be compiled
+ * again or changed; it is the number behind libutvpi.so, too. */
+#define UTVPI_VERSION "1.0.0"
+
 /* Deciding, checking, sessions and what a list implies return one number; of two
  * variables it is the result of a struct:
  *
@@ -106,6 +112,9 @@ extern "C" {
 /* The greatest bound of a line; the least is its opposite. */
 #define UTVPI_MOST_BOUND 1000000
 
+/* The greatest value of a model that is checked; the least is its opposite. */
+#define UTVPI_MOST_VALUE 1000000000000
+
 /* The greatest identifier of a message: 29 bits. */
 #define UTVPI_MOST_IDENTIFIER 536870911
 
@@ -127,6 +136,16 @@ extern "C" {
 #define UTVPI_IDENTIFIERS_ROOM(n) ((size_t)4 + (size_t)4 * (size_t)(n))
 #define UTVPI_WORK_ROOM(n) \
     ((size_t)16 * (size_t)(n) * (size_t)(n) + (size_t)64 * (size_t)(n) + (size_t)64)
+
+/* The same in bytes, for malloc: the rooms above and the lengths that the calls ask for
+ * are in numbers. For n = 0 the first three are 0: there malloc may give NULL, which is
+ * no lack of memory. */
+#define UTVPI_MODEL_BYTES(n) (sizeof(int64_t) * UTVPI_MODEL_ROOM(n))
+#define UTVPI_BOUNDS_BYTES(n) (sizeof(int64_t) * UTVPI_BOUNDS_ROOM(n))
+#define UTVPI_GROUPS_BYTES(n) (sizeof(uint32_t) * UTVPI_GROUPS_ROOM(n))
+#define UTVPI_REFUTATION_BYTES(n) (sizeof(uint32_t) * UTVPI_REFUTATION_ROOM(n))
+#define UTVPI_IDENTIFIERS_BYTES(n) (sizeof(uint32_t) * UTVPI_IDENTIFIERS_ROOM(n))
+#define UTVPI_WORK_BYTES(n) (sizeof(int64_t) * UTVPI_WORK_ROOM(n))
 
 /* The most stack that a call takes, in bytes. utvpi_check_model,
  * utvpi_check_refutation and utvpi_read_list hold the longest list there, however
@@ -318,7 +337,11 @@ utvpi_part utvpi_shorter(uint64_t n, const int32_t *list, size_t list_len,
  *
  * The pointers are as for utvpi_decide: no two buffers may overlap. On a refusal the
  * state and every buffer are left as they were. */
-#define UTVPI_SESSION_ROOM(n) ((size_t)3 + (size_t)UTVPI_LINE_NUMBERS * UTVPI_MOST_LINES)
+#define UTVPI_SESSION_ROOM(n) \
+    ((size_t)0 * (size_t)(n) + (size_t)3 + (size_t)UTVPI_LINE_NUMBERS * UTVPI_MOST_LINES)
+
+/* The same in bytes, for malloc. */
+#define UTVPI_SESSION_BYTES(n) (sizeof(int64_t) * UTVPI_SESSION_ROOM(n))
 
 /* A line, by value. The head of this file says what its numbers are. */
 typedef struct utvpi_line {
@@ -535,9 +558,12 @@ enum utvpi_refusal {
     UTVPI_TOO_MANY_VARIABLES = 1,
 
     /* The list's numbers are no multiple of UTVPI_LINE_NUMBERS, or its bytes no
-     * multiple of UTVPI_LINE_BYTES: look for a cut or added part, for numbers that
-     * are not four bytes each, or for a length in bytes where one in numbers is
-     * asked for. */
+     * multiple of UTVPI_LINE_BYTES: look for a cut or added part, or for numbers that
+     * are not four bytes each. It catches a length in lines where one in numbers is asked
+     * for, unless the lines are a multiple of UTVPI_LINE_NUMBERS. It can't catch a length
+     * in bytes where one in numbers is asked for: that is a multiple, too, and the call
+     * reads beyond the list. In bytes hand over UTVPI_LINE_BYTES times the lines, in
+     * numbers UTVPI_LINE_NUMBERS times. */
     UTVPI_BROKEN_LIST_LENGTH = 2,
 
     /* The list has more than UTVPI_MOST_LINES lines: leave out lines that add
@@ -572,8 +598,8 @@ enum utvpi_refusal {
     /* The model is not exactly 8*n bytes: give one value for each variable. */
     UTVPI_BAD_MODEL_LENGTH = 9,
 
-    /* The model's value at this place, the first such, is below
-     * -1,000,000,000,000 or above 1,000,000,000,000: choose a nearer one. */
+    /* The model's value at this place, the first such, is below -UTVPI_MOST_VALUE or
+     * above UTVPI_MOST_VALUE, 1,000,000,000,000: choose a nearer one. */
     UTVPI_BAD_MODEL_VALUE = 10,
 
     /* The refutation has more than UTVPI_MOST_REFUTATION numbers, of four bytes
@@ -660,6 +686,12 @@ enum utvpi_output {
     UTVPI_OUTPUT_IDENTIFIERS = 5,
     UTVPI_OUTPUT_STATE = 6
 };
+
+/* A refusal in words, with the number of enum utvpi_refusal, in English: what is wrong, a
+ * colon, and what to do about it, without a capital and without a full stop. Of a number
+ * that is none, 0 too, it says so. The text is a constant: it lasts, and is not to be
+ * freed. It is not part of what is proved. */
+const char *utvpi_refusal_text(int number);
 
 #ifdef __cplusplus
 }

@@ -2,6 +2,7 @@
 //! the rooms of the buffers from the library's header, so that the tests have them from
 //! there alone.
 
+#[path = "../examples/rust/header.rs"]
 mod header;
 
 /// The limits, lengths, kinds and parts of results that the header defines, by their

@@ -14,8 +14,9 @@ struct words {
     enum about about;
 };
 
-/* The table of refusals. A number of the library's header that has no row here is
- * an error, whatever the compiler's options are. */
+/* The table of refusals. What a file can't bring about is said in the library's words. A
+ * number of the library's header that has no row here is an error, whatever the compiler's
+ * options are. */
 #pragma GCC diagnostic error "-Wswitch"
 static struct words words_of(enum utvpi_refusal number)
 {
@@ -28,7 +29,7 @@ static struct words words_of(enum utvpi_refusal number)
                               "use fewer, or decide parts that share no event one by one",
                               VARIABLES};
     case UTVPI_BROKEN_LIST_LENGTH:
-        return (struct words){"the list has a broken length", fault, NOTHING};
+        return (struct words){utvpi_refusal_text(number), fault, NOTHING};
     case UTVPI_TOO_MANY_LINES:
         return (struct words){"there are more than " AS_TEXT(UTVPI_MOST_LINES)
                               " rules; one with = counts twice",
@@ -47,16 +48,13 @@ static struct words words_of(enum utvpi_refusal number)
                               "choose a coarser unit, or an origin nearer to the values",
                               RULE_AT_PLACE};
     case UTVPI_SHORT_OUTPUT:
-        return (struct words){"a buffer for output is too short, or no state of a session is lent",
-                              fault, NOTHING};
+        return (struct words){utvpi_refusal_text(number), fault, NOTHING};
     case UTVPI_SHORT_WORK_AREA:
-        return (struct words){"the work area is too short", fault, NOTHING};
+        return (struct words){utvpi_refusal_text(number), fault, NOTHING};
     case UTVPI_BAD_MODEL_LENGTH:
-        return (struct words){"the model has not one value for each event", fault, NOTHING};
+        return (struct words){utvpi_refusal_text(number), fault, NOTHING};
     case UTVPI_BAD_MODEL_VALUE:
-        return (struct words){"a value of the model is below -1,000,000,000,000 or above"
-                              " 1,000,000,000,000",
-                              fault, NOTHING};
+        return (struct words){utvpi_refusal_text(number), fault, NOTHING};
     case UTVPI_LONG_REFUTATION:
         return (struct words){"the refutation has more than " AS_TEXT(UTVPI_MOST_REFUTATION)
                               " numbers",
@@ -94,8 +92,7 @@ static struct words words_of(enum utvpi_refusal number)
         return (struct words){"something follows the record that ends the list",
                               "cut the file off at this byte, or get it again", NOTHING};
     case UTVPI_NO_ROOM:
-        return (struct words){"a buffer has no room for the list, or for its file", fault,
-                              NOTHING};
+        return (struct words){utvpi_refusal_text(number), fault, NOTHING};
     case UTVPI_RECORD_NO_IDENTIFIER:
         return (struct words){"this record is a line of kind 4, and its identifier is 0",
                               "write the line as kind 2, which has no identifier, or look for a"
@@ -113,11 +110,11 @@ static struct words words_of(enum utvpi_refusal number)
                               "say how many seconds a tick lasts, or how many ticks a second has",
                               LAST_CLOCK};
     case UTVPI_BAD_COUNT:
-        return (struct words){"a value is too large to be a float exactly", fault, NOTHING};
+        return (struct words){utvpi_refusal_text(number), fault, NOTHING};
     case UTVPI_SHORT_SECONDS:
-        return (struct words){"the buffer for seconds is too short", fault, NOTHING};
+        return (struct words){utvpi_refusal_text(number), fault, NOTHING};
     case UTVPI_BAD_RECORDER:
-        return (struct words){"an event names a clock that is not there", fault, NOTHING};
+        return (struct words){utvpi_refusal_text(number), fault, NOTHING};
     case UTVPI_BAD_TABLE:
         return (struct words){"there are more than " AS_TEXT(UTVPI_MOST_RECORDERS) " clocks",
                               "leave out clocks that no event has, or decide parts that share no"
