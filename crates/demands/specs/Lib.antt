@@ -22,3 +22,4 @@ pub mod ImpliedLineVersions
 pub mod ImpliedLine
 pub mod SecondsVersions
 pub mod Seconds
+pub mod TreeCalls

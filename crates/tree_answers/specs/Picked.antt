@@ -1,7 +1,7 @@
 -- The lines that a choice picks, as a list of their own: each once, in list order, however often it is picked. The choice's list, in which each other line is
 -- 0 ≤ 0, has the same solutions, and its refutations are those of the whole list with steps of these lines alone.
 use mathlib.Core.Path.{_≡_, refl, sym, ap, subst, _∙_}
-use mathlib.Core.Logic.{_↔_, _⊎_, inl, inr, ⊎-elim}
+use mathlib.Core.Logic.{_↔_, inl, inr, ⊎-elim}
 use mathlib.Core.Bool.{Bool, true, false, cond, _||_}
 use mathlib.Core.List.{List, [], _∷_, _++_}
 use Prim.Native.Nat.{ℕ, zero, suc, _+_, _*_, _/_, _%_, _<_, _≤_}
@@ -58,6 +58,10 @@ pickedFrom L xs i (suc c) = pickedOne L xs i ++ pickedFrom L xs (i + 1) c
 -- the lines that these numbers name: each once, in list order
 abbrev pub pickedLines : List ℤ → List ℕ → List Line
 pickedLines L xs = pickedFrom L xs 0 (lineCount L)
+
+-- and their numbers, as a list of their own
+unfoldable pub pickedList : List ℤ → List ℕ → List ℤ
+pickedList L xs = numbersOf (pickedLines L xs)
 
 pub in-exactly : (i : ℕ) (xs : List ℕ) → (isIn i xs ≡ true) ↔ In i xs
 in-exactly i [] = ((λ e. never (cc)), (λ h. absurd h))
@@ -124,15 +128,19 @@ module _ (L : List ℤ) (xs : List ℕ) where
       go true rest = rw (line-valid-more n n i k (lineAt L i) (omega arith) (f i (omega arith))) (rest (k + 1))
       go false rest = rest k
 
-  pub picked-valid : (n : ℕ) → validityOf n L ≡ Valid → validityOf n (numbersOf (pickedLines L xs)) ≡ Valid
-  unfolding validityOf
+  pub list-picked : linesOf (pickedList L xs) ≡ pickedLines L xs
+  unfolding pickedList
+  list-picked = lines-of-numbers (pickedLines L xs)
+
+  pub picked-valid : (n : ℕ) → validityOf n L ≡ Valid → validityOf n (pickedList L xs) ≡ Valid
+  unfolding validityOf pickedList
   picked-valid n v =
       let o = valid-list n L v in
-      let K : List ℤ = numbersOf (pickedLines L xs) in
+      let K : List ℤ = pickedList L xs in
       let size : length K ≡ lineSize * length (pickedLines L xs) = length-numbersOf (pickedLines L xs) in
       let whole : length K % lineSize ≡ 0 = omega arith in
       let few : lineCount K ≤ maxLines = omega (arith, few-lines 0 (lineCount L), o .count) in
-      let lines : linesValidity n 0 (linesOf K) ≡ Valid = ap (linesValidity n 0) (lines-of-numbers (pickedLines L xs)) ∙ lines-valid n (o .each) 0 0 (lineCount L) (omega arith) in
+      let lines : linesValidity n 0 (linesOf K) ≡ Valid = ap (linesValidity n 0) list-picked ∙ lines-valid n (o .each) 0 0 (lineCount L) (omega arith) in
       rw (le-ltb maxVariables n (o .variables), eq-eqb (length K % lineSize) 0 whole, le-ltb maxLines (lineCount K) few, lines)
 
 -- ---- a refutation with steps of these lines alone
@@ -181,12 +189,9 @@ false-kind = record { kind = 3; into = λ L R c. (kind-3 c, ap kindOf (c .is)); 
     go L R (kind-3 c) e = c
 
 -- each step is of a line of the list, so that only of such lines need Q follow from P
-pub steps-change : (L : List ℤ) (R : List ℕ) (P Q : ℕ → Type 0) → Refutes L R → ((j : ℕ) → j / 2 < lineCount L → P j → Q j) → EachStep P R → EachStep Q R
-steps-change L R P Q r f p = go (drop headSize R) (refutes-each L Within (λ j s e. from-line L j s e .0) (λ j w. omega (arith, w .is, w .within)) R r) p
+steps-change : (L : List ℤ) (R : List ℕ) (P Q : ℕ → Type 0) → Refutes L R → ((j : ℕ) → j / 2 < lineCount L → P j → Q j) → EachStep P R → EachStep Q R
+steps-change L R P Q r f p = go (drop headSize R) (refutes-each L (λ j. j / 2 < lineCount L) (λ j s e. from-line L j s e .0) (λ j w. omega (arith, w .is, w .within)) R r) p
   where
-    Within : ℕ → Type 0
-    Within j = j / 2 < lineCount L
-
     go : (js : List ℕ) → Each (λ j. j / 2 < lineCount L) js → Each P js → Each Q js
     go [] l p = tt
     go (j ∷ js) l p = (f j (l .0) (p .0), go js (l .1) (p .1))
