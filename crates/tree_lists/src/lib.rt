@@ -1,9 +1,14 @@
 // The list of a choice: the whole list, with zeros for each line that is not picked.
 use lines::limits::LINE_SIZE;
+use lines::limits::MAX_LINES;
+use tree_choices::choose;
 ghost use mathlib.Core.Path.{_≡_};
-ghost use Prim.Native.Nat.{_<_};
+ghost use Prim.Native.Nat.{_<_, _≤_};
 ghost use lib.ListN.{length};
+ghost use Rattle.lines.specs.Limits.{maxLines};
+ghost use Rattle.lines.specs.Line.{lineCount};
 ghost use Rattle.tree_lists.specs.Masked.{isPicked, maskedNumber, maskedInto};
+ghost use Rattle.tree_lists.specs.Condition.{numberedFlags};
 
 // Whether the line is picked; a line with no flag is not.
 fn is_picked(picked: &[u8], line: usize) -> bool
@@ -38,4 +43,15 @@ pub fn mask(list: &[i32], picked: &[u8], out: &mut [i32])
         out[i] = masked_number(list, picked, i);
         i += 1;
     }
+}
+
+// The list of a choice, as `mask` writes it, by the choice's number in a tree that has `total` choices.
+pub fn write_choice(list: &[i32], tree: &[u32], total: usize, choice: usize, out: &mut [i32])
+    requires { ⌜ lineCount (now list) ≤ maxLines ⌝ }
+    ensures { λ _. ⌜ now (out .exit) ≡ maskedInto (numberedFlags (now (tree .entry)) (lineCount (now (list .entry))) total choice) (now (list .entry)) (now (out .entry)) ⌝ }
+{
+    let lines = list.len() / LINE_SIZE;
+    let mut picked = [0u8; MAX_LINES];
+    choose(tree, lines, total, choice, &mut picked[0..lines]);
+    mask(list, &picked[0..lines], out);
 }
