@@ -23,3 +23,6 @@ pub mod ImpliedLine
 pub mod SecondsVersions
 pub mod Seconds
 pub mod TreeCalls
+pub mod TreeVersions
+pub mod TreeExists
+pub mod Trees

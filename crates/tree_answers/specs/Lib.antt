@@ -1,3 +1,4 @@
 pub mod First
+pub mod Order
 pub mod Picked
 pub mod Longer

@@ -15,7 +15,7 @@ use Rattle.integers.specs.Laws.{never}
 use Rattle.lines.specs.declared.Line.{Line}
 use Rattle.lines.specs.declared.Validity.the-variants.{Valid}
 use Rattle.lines.specs.Limits.{lineSize, maxVariables, maxLines}
-use Rattle.lines.specs.Line.{numbersOf, lineAt, lineCount, linesOf, Assignment, Meets, Solves, SameSolutions, isFalse}
+use Rattle.lines.specs.Line.{numbersOf, lineAt, lineCount, linesOf, Assignment, Meets, Solves, Solvable, SameSolutions, isFalse}
 use Rattle.lines.specs.LineNumbers.{length-numbersOf, lines-of-numbers}
 use Rattle.lines.specs.Refusal.{lineValidity, linesValidity, validityOf}
 use Rattle.lines.specs.Solutions.{solves-append}
@@ -206,6 +206,12 @@ module _ (L : List ℤ) (t : Row) (k : ℕ) where
     (λ h. solved-masked (choiceFlags L t k) L s (λ i l e. solves-picked L (choiceAt t k) s .0 h i (l, picked-exactly L t k i l .0 e))),
   )
 
+  pub choice-solvable : Solvable (linesOf (choiceList L t k)) ↔ Solvable (pickedLines L (choiceAt t k))
+  choice-solvable = (
+    (λ s. record { assignment = s .assignment; solves = choice-solutions (s .assignment) .0 (s .solves) }),
+    (λ s. record { assignment = s .assignment; solves = choice-solutions (s .assignment) .1 (s .solves) }),
+  )
+
   -- and the refutations of the whole list with steps of these alone
   pub choice-refutes : (R : List ℕ) → Refutes (choiceList L t k) R ↔ (Refutes L R × EachStep (StepOf L (choiceAt t k)) R)
   unfolding choiceList
@@ -263,6 +269,10 @@ module _ (L : List ℤ) (t : Row) (k : ℕ) where
       back h = ap isFalse (line-picked (choiceFlags L t k) L i l (picked-exactly L t k i l .1 (h .0 .1))) ∙ h .1
 
   -- the lowest of them
+  pub picked-false : (i : ℕ) → Picks L (choiceAt t k) i → isFalse (lineAt L i) ≡ true → (i < lineCount (choiceList L t k)) × (isFalse (lineAt (choiceList L t k) i) ≡ true)
+  unfolding choiceList
+  picked-false i p e = (subst (λ (c : ℕ). i < c) (sym (same-count (choiceFlags L t k) L)) (p .0), false-picked i (p .0) .1 (p, e))
+
   pub lowest-picked : (i : ℕ) → LowestFalseLine (choiceList L t k) i → LowestFalsePicked L (choiceAt t k) i
   unfolding choiceList
   lowest-picked i w =
