@@ -15,14 +15,9 @@ use Rattle.integers.specs.Laws.{never}
 use Rattle.lines.specs.Line.{lineAt, lineCount, linesOf, Assignment, Meets, Solves}
 use Rattle.lines.specs.declared.Validity.the-variants.{Valid}
 use Rattle.lines.specs.Refusal.{validityOf}
-use Rattle.tree_reading.specs.declared.Node.{Node}
-use Rattle.tree_reading.specs.declared.Reading.the-variants.{Read}
-use Rattle.tree_reading.specs.Reading.{validTree}
-use Rattle.tree_reading.specs.Taken.{treeIn}
-use Rattle.tree_reading.specs.Tree.{Kind, all, any, Row, none, line, node, maxDepth, Fits, levels}
+use Rattle.tree_reading.specs.Tree.{Kind, all, any, Row, none, line, node, Fits, levels}
 use Rattle.tree_reading.specs.Choices.{pairs, joined, choices, count}
-use Rattle.tree_choices.specs.Choosing.{marked, chosen}
-use Rattle.tree_choices.specs.Chosen.{picked}
+use Rattle.tree_choices.specs.Choosing.{marked}
 use Rattle.tree_reading.specs.Counted.{count-choices}
 use Rattle.tree_choices.specs.Formula.{All, Some, Holds, both-all, holds-some, some-holds, some-number, number-some}
 use Rattle.tree_lists.specs.Masked.{isPicked, masked, masked-valid, masked-solved, solved-masked}
@@ -161,19 +156,6 @@ module _ (L : List ℤ) (t : Row) (s : Assignment) where
       let listed : All (λ i. i < lineCount L) lines = each-at (lineCount L) (choices all t) n k (listed (lineCount L) levels all t f) in
       let met : All P lines = all-picked P (lineCount L) lines listed (masked-solved (flagsOf (lineCount L) lines) L s h) in
       some-holds P all t (number-some P (choices all t) n k met)
-
--- ---- choice number k, found in the numbers of a tree with so many choices: its flags, and the list of the lines with a flag
-abbrev pub numberedFlags : List ℕ → ℕ → ℕ → ℕ → List ℕ
-numberedFlags s m total k = flagsOf m (chosen s m maxDepth all 0 total k)
-
-unfoldable pub numberedList : List ℕ → List ℤ → ℕ → ℕ → List ℤ
-numberedList s L total k = masked (numberedFlags s (lineCount L) total k) L
-
--- it is the list of that choice
-pub numbered-list : (s : List ℕ) (L : List ℤ) (b : Node) → validTree s (lineCount L) ≡ Read b → (k : ℕ) → k < b .choices
-    → numberedList s L (b .choices) k ≡ choiceList L (treeIn s (lineCount L)) k
-unfolding numberedList choiceList
-numbered-list s L b e k l = ap (λ (lines : List ℕ). masked (flagsOf (lineCount L) lines) L) (picked s (lineCount L) b e k l)
 
 -- a choice is decided as its list: it is valid
 pub choice-valid : (n : ℕ) (L : List ℤ) (t : Row) (k : ℕ) → validityOf n L ≡ Valid → validityOf n (choiceList L t k) ≡ Valid

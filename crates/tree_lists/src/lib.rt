@@ -3,12 +3,14 @@ use lines::limits::LINE_SIZE;
 use lines::limits::MAX_LINES;
 use tree_choices::choose;
 ghost use mathlib.Core.Path.{_≡_};
-ghost use Prim.Native.Nat.{_<_, _≤_};
-ghost use lib.ListN.{length};
-ghost use Rattle.lines.specs.Limits.{maxLines};
-ghost use Rattle.lines.specs.Line.{lineCount};
+ghost use mathlib.Core.List.{_++_};
+ghost use Prim.Native.Nat.{_<_};
+ghost use lib.ListN.{length, drop};
 ghost use Rattle.tree_lists.specs.Masked.{isPicked, maskedNumber, maskedInto};
-ghost use Rattle.tree_lists.specs.Condition.{numberedFlags};
+ghost use Rattle.tree_lists.specs.Numbered.{numberedList, ChoiceReady};
+
+// The numbers of the most lines.
+pub const MOST_NUMBERS: usize = LINE_SIZE * MAX_LINES;
 
 // Whether the line is picked; a line with no flag is not.
 fn is_picked(picked: &[u8], line: usize) -> bool
@@ -45,13 +47,12 @@ pub fn mask(list: &[i32], picked: &[u8], out: &mut [i32])
     }
 }
 
-// The list of a choice, as `mask` writes it, by the choice's number in a tree that has `total` choices.
+// The list of a choice, by the choice's number in a tree that has `total` choices, at the front of a buffer.
 pub fn write_choice(list: &[i32], tree: &[u32], total: usize, choice: usize, out: &mut [i32])
-    requires { ⌜ lineCount (now list) ≤ maxLines ⌝ }
-    ensures { λ _. ⌜ now (out .exit) ≡ maskedInto (numberedFlags (now (tree .entry)) (lineCount (now (list .entry))) total choice) (now (list .entry)) (now (out .entry)) ⌝ }
+    requires { ⌜ ChoiceReady (now list) (now out) ⌝ }
+    ensures { λ _. ⌜ now (out .exit) ≡ numberedList (now (tree .entry)) (now (list .entry)) total choice ++ drop (length (now (list .entry))) (now (out .entry)) ⌝ }
 {
-    let lines = list.len() / LINE_SIZE;
     let mut picked = [0u8; MAX_LINES];
-    choose(tree, lines, total, choice, &mut picked[0..lines]);
-    mask(list, &picked[0..lines], out);
+    choose(tree, list.len() / LINE_SIZE, total, choice, &mut picked);
+    mask(list, &picked, out);
 }
