@@ -5,10 +5,10 @@
 -- tree_reading/specs/Faults.antt), the choices (`choices` in tree_reading/specs/Choices.antt), the tree as a formula (`Condition` in
 -- tree_lists/specs/Condition.antt), the lines that a choice picks (`pickedLines` in tree_answers/specs/Picked.antt), what a call is (`ChoiceCall` and
 -- `FirstCall` in TreeCalls.antt) and the words of Demands.antt, and nothing of how the answers are computed. The promises of the code are `DecidesChoice` and
--- `AnswersFirst` (tree_deciding/specs/Answer.antt), for every input.
+-- `AnswersFirst` (tree_deciding/specs/Answer.antt), for every input; the exported functions return `ChoiceReturns` and `FirstReturns`.
 use mathlib.Core.Path.{_≡_, refl, sym, ap, ap₂, subst, _∙_}
 use mathlib.Core.Logic.{_↔_, _⊎_, inl, inr}
-use mathlib.Core.Bool.{true, false}
+use mathlib.Core.Bool.{Bool, true, false}
 use mathlib.Core.List.{List, [], _∷_, _++_}
 use Prim.Native.Nat.{ℕ, _+_, _*_, _<_, _≤_}
 use native.Mathlib.Omega.{arith}
@@ -35,6 +35,7 @@ use Rattle.theory_answers.specs.Decided.{DueKind, lines-ok, names-the-lowest, s
 use Rattle.theory_answers.specs.Longer.{no-stays, yes-before, least-stays-or-rises, greatest-stays-or-falls, groups-kept, equal-kept, different-kept, model-kept}
 use Rattle.theory_answers.specs.Same.{written-too}
 use Rattle.decide_buffers.specs.Room.{Lent, lengthsOf, ModelLent, modelLengthsOf, modelRoom, workRoom, modelRooms, lentRooms, firstShort, roomsValidity}
+use Rattle.c_codes.specs.Codes.{noCode}
 use Rattle.decide_identifiers.specs.Identifiers.{length-identifiers, identifier-whole}
 use Rattle.decide.specs.declared.Answer.the-variants as decide
 use Rattle.decide.specs.Decided.{cleared, DecideOk}
@@ -62,12 +63,16 @@ use Rattle.tree_deciding.specs.declared.ConditionRefusal.{ConditionRefusal}
 use Rattle.tree_deciding.specs.declared.ConditionRefusal.the-variants as refusal
 use Rattle.tree_deciding.specs.declared.TreeAnswer.{TreeAnswer}
 use Rattle.tree_deciding.specs.declared.TreeAnswer.the-variants.{Yes, No, Refused}
-use Rattle.tree_deciding.specs.Answer.{TreeValidity, valid, refused, _orNext_, ofDeciding, ofTree, unlessRefused, choiceValidity, firstValidity, treeOver, choiceAnswer, firstAnswer, DecidesChoice, AnswersFirst}
+use Rattle.tree_deciding.specs.Answer.{TreeValidity, valid, refused, _orNext_, ofDeciding, ofTree, unlessRefused, choiceValidity, firstValidity, treeOver, choiceAnswer, firstAnswer, choiceAnswerFor, firstAnswerFor, DecidesChoice, AnswersFirst}
 use Rattle.demands.specs.Calls.{Call, call-yes, call-no, verdict-yes, verdict-no, call-due}
 use Rattle.demands.specs.Refusals.{Row, listTable, roomsTable, FirstApplies}
 use Rattle.demands.specs.Refused.{Gives, gives-refused, list-gives, rooms-give}
 use Rattle.demands.specs.Demands.{ValidFor, Accepted, EachIdentifier, GoOnSharing, right-answer}
+use Rattle.tree_deciding.specs.Refusal.{conditionNumber, conditionPlace, one-condition}
 use Rattle.tree_deciding.specs.Meaning.{NotRefused}
+use Rattle.c_trees.specs.declared.CChoice.{CChoice}
+use Rattle.c_trees.specs.Calls.{refusedResult, choiceReturned, FirstReturns, ChoiceReturns}
+use Rattle.c_trees.specs.Laws.{refusal-told, choices-apart}
 use Rattle.demands.specs.TreeVersions.{rightChoice, right-choice-keeps, rightFirst, right-first-keeps}
 use Rattle.demands.specs.TreeExists.{a-choice-call, a-first-call, choice-call-of, first-call-of}
 use Rattle.demands.specs.TreeCalls.{choice-answers, first-answers, ChoiceCall, FirstCall, choice-list, choice-tree, choice-answer, choice-left, choice-yes, choice-no, choice-written, as-call, as-alone, choice-identifiers, first-list, first-tree, first-condition, first-none, first-found, first-model, first-no-model, first-work}
@@ -476,3 +481,112 @@ right-first n L t c =
       beyond-model = beyond-first c;
       work = first-work c;
     }
+
+-- ---- the exported calls
+
+-- What C gets: a yes with the number of the choice, a no, or a refusal with its number and its place.
+abbrev pub yesReturned : ℕ → CChoice
+yesReturned k = record { result = pos 0; refusal = 0; place = 0; choice = k }
+
+abbrev pub noReturned : ℕ → CChoice
+noReturned k = record { result = pos noCode; refusal = 0; place = 0; choice = k }
+
+abbrev pub refusalReturned : ConditionRefusal → CChoice
+refusalReturned q = record { result = refusedResult; refusal = conditionNumber q; place = conditionPlace q; choice = 0 }
+
+-- A result other than -1 is that of a call which was not refused, on the tree that has these numbers, so that all this holds of it. The choice is the one asked for.
+pub record ReturnedChoice (n : ℕ) (L : List ℤ) (s : List ℕ) (k : ℕ) (r : CChoice) (b a : Lent) : Type 0 where
+  pub tree : Tree
+  pub numbered : s ≡ treeNumbers tree
+  pub call : ChoiceCall n L tree k
+  pub before : call .before ≡ b
+  pub after : call .after ≡ a
+  pub yes : (call .answer ≡ Yes k) ↔ (r ≡ yesReturned k)
+  pub no : (call .answer ≡ No) ↔ (r ≡ noReturned k)
+  pub yes-or-no : (r ≡ yesReturned k) ⊎ (r ≡ noReturned k)
+
+-- Of the first choice the number found is returned, and 0 where none has a solution.
+pub record ReturnedFirst (n : ℕ) (L : List ℤ) (s : List ℕ) (r : CChoice) (b a : ModelLent) : Type 0 where
+  pub tree : Tree
+  pub numbered : s ≡ treeNumbers tree
+  pub call : FirstCall n L tree
+  pub before : call .before ≡ b
+  pub after : call .after ≡ a
+  pub yes : (k : ℕ) → (call .answer ≡ Yes k) ↔ (r ≡ yesReturned k)
+  pub no : (call .answer ≡ No) ↔ (r ≡ noReturned 0)
+  pub yes-or-no : ((k : ℕ) × (r ≡ yesReturned k)) ⊎ (r ≡ noReturned 0)
+
+-- the struct tells the answer, since no two answers have one
+told : (asked : ℕ) (r : CChoice) (x : TreeAnswer) → r ≡ choiceReturned asked x → (y : TreeAnswer) → (x ≡ y) ↔ (r ≡ choiceReturned asked y)
+told asked r x d y = ((λ e. d ∙ ap (choiceReturned asked) e), (λ e. choices-apart asked x y (sym d ∙ e)))
+
+module _ (n : ℕ) (L : List ℤ) (s : List ℕ) (k : ℕ) (r : CChoice) (b a : Lent) (d : ChoiceReturns n L s k r b a) where
+  pub returned-choice-is-a-call : (r .result ≡ refusedResult → ⊥) → ReturnedChoice n L s k r b a
+  returned-choice-is-a-call h =
+      let c = choice-call-of n L s (choiceAnswerFor n L s k b) (λ q e. h (ap (λ (z : CChoice). z .result) (d .is ∙ ap (choiceReturned k) e))) k b a (d .decides) in
+      let answer = told k r (c .2 .answer) (d .is ∙ ap (choiceReturned k) (sym (c .3))) in
+      record {
+        tree = c .0;
+        numbered = c .1;
+        call = c .2;
+        before = c .4;
+        after = c .5;
+        yes = answer (Yes k);
+        no = answer No;
+        yes-or-no = either (choiceVerdict n L (c .0) k) (λ e. answer (Yes k) .0 (choice-answer (c .2) true e)) (λ e. answer No .0 (choice-answer (c .2) false e));
+      }
+    where
+      either : (v : Bool) → (v ≡ true → r ≡ yesReturned k) → (v ≡ false → r ≡ noReturned k) → (r ≡ yesReturned k) ⊎ (r ≡ noReturned k)
+      either true f g = inl (f refl)
+      either false f g = inr (g refl)
+
+  -- -1 is the first refusal that applies, and then the buffers are as they were.
+  pub choice-refusal-returned : (q : ConditionRefusal) → (r ≡ refusalReturned q) ↔ RefusedBy n L (ChoiceRefused s (lineCount L) k) (roomsTable lentRooms n (lengthsOf b)) q
+  choice-refusal-returned q =
+      let f = choice-refused-exactly-if n L s k (choiceAnswerFor n L s k b) b a (d .decides) q in
+      let t = told k r (choiceAnswerFor n L s k b) (d .is) (Refused q) in
+      ((λ e. f .0 (t .1 e)), (λ g. t .0 (f .1 g)))
+
+  pub returned-choice-refusal-changes-nothing : r .result ≡ refusedResult → a ≡ b
+  returned-choice-refusal-changes-nothing e =
+      let q = refusal-told k (choiceAnswerFor n L s k b) (ap (λ (z : CChoice). z .result) (sym (d .is)) ∙ e) in
+      refused-choice-changes-nothing n L s k (q .0) b a (subst (λ (x : TreeAnswer). DecidesChoice n L s k x b a) (q .1) (d .decides))
+
+module _ (n : ℕ) (L : List ℤ) (s : List ℕ) (r : CChoice) (b a : ModelLent) (d : FirstReturns n L s r b a) where
+  pub returned-first-is-a-call : (r .result ≡ refusedResult → ⊥) → ReturnedFirst n L s r b a
+  returned-first-is-a-call h =
+      let c = first-call-of n L s (firstAnswerFor n L s b) (λ q e. h (ap (λ (z : CChoice). z .result) (d .is ∙ ap (choiceReturned 0) e))) b a (d .answers) in
+      let answer = told 0 r (c .2 .answer) (d .is ∙ ap (choiceReturned 0) (sym (c .3))) in
+      record {
+        tree = c .0;
+        numbered = c .1;
+        call = c .2;
+        before = c .4;
+        after = c .5;
+        yes = λ k. answer (Yes k);
+        no = answer No;
+        yes-or-no = either (c .2 .answer) (c .2 .not-refused) (λ k e. answer (Yes k) .0 e) (λ e. answer No .0 e);
+      }
+    where
+      either : (x : TreeAnswer) → NotRefused x → ((k : ℕ) → x ≡ Yes k → r ≡ yesReturned k) → (x ≡ No → r ≡ noReturned 0) → ((k : ℕ) × (r ≡ yesReturned k)) ⊎ (r ≡ noReturned 0)
+      either (Yes k) u f g = inl (k, f k refl)
+      either No u f g = inr (g refl)
+      either (Refused q) u f g = absurd (u q refl)
+
+  pub first-refusal-returned : (q : ConditionRefusal) → (r ≡ refusalReturned q) ↔ RefusedBy n L (TreeRefused s (lineCount L)) (roomsTable modelRooms n (modelLengthsOf b)) q
+  first-refusal-returned q =
+      let f = first-refused-exactly-if n L s (firstAnswerFor n L s b) b a (d .answers) q in
+      let t = told 0 r (firstAnswerFor n L s b) (d .is) (Refused q) in
+      ((λ e. f .0 (t .1 e)), (λ g. t .0 (f .1 g)))
+
+  pub returned-first-refusal-changes-nothing : r .result ≡ refusedResult → a ≡ b
+  returned-first-refusal-changes-nothing e =
+      let q = refusal-told 0 (firstAnswerFor n L s b) (ap (λ (z : CChoice). z .result) (sym (d .is)) ∙ e) in
+      refused-first-changes-nothing n L s (q .0) b a (subst (λ (x : TreeAnswer). AnswersFirst n L s x b a) (q .1) (d .answers))
+
+-- A refusal is known by its number and its place, and no two answers are returned alike.
+pub refusals-apart : (q p : ConditionRefusal) → conditionNumber q ≡ conditionNumber p → conditionPlace q ≡ conditionPlace p → q ≡ p
+refusals-apart = one-condition
+
+pub choices-returned-apart : (asked : ℕ) (x y : TreeAnswer) → choiceReturned asked x ≡ choiceReturned asked y → x ≡ y
+choices-returned-apart = choices-apart
