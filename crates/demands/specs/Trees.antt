@@ -1,13 +1,14 @@
 -- What was asked of conditions with alternatives, in the words of docs/SPECIFICATION.md, each statement proved by citing the rest: a tree over the lines of a list,
 -- its choices, and the answers to both questions about it.
 --
--- A reader has to believe what a tree is, with its numbers (`Row`, `treeNumbers` in tree_reading/specs/Tree.antt), what is at fault in numbers (`Fault` in
--- tree_reading/specs/Faults.antt), the choices (`choices` in tree_reading/specs/Choices.antt), the tree as a formula (`Condition` in
--- tree_lists/specs/Condition.antt), the lines that a choice picks (`pickedLines` in tree_answers/specs/Picked.antt), what a call is (`ChoiceCall` and
--- `FirstCall` in TreeCalls.antt) and the words of Demands.antt, and nothing of how the answers are computed. The promises of the code are `DecidesChoice` and
--- `AnswersFirst` (tree_deciding/specs/Answer.antt), for every input; the exported functions return `ChoiceReturns` and `FirstReturns`.
+-- A reader has to believe what a tree is, with its numbers (`Row`, `treeNumbers` in tree_reading/specs/Tree.antt), what is at fault in numbers and when they are
+-- refused (`Fault` in Faults.antt and `TreeRefused` in Refused.antt beside it, `ChoiceRefused` in tree_choices/specs/Missing.antt), the choices (`choices` in
+-- tree_reading/specs/Choices.antt), the tree as a formula (`Condition` in tree_lists/specs/Condition.antt), the lines that a choice picks (`pickedLines` in
+-- tree_answers/specs/Picked.antt), what a call is (`ChoiceCall` and `FirstCall` in TreeCalls.antt) and the words of Demands.antt, and nothing of how the answers
+-- are computed. The promises of the code are `DecidesChoice` and `AnswersFirst` (tree_deciding/specs/Answer.antt), for every input; the exported functions
+-- return `ChoiceReturns` and `FirstReturns`.
 use mathlib.Core.Path.{_≡_, refl, sym, ap, ap₂, subst, _∙_}
-use mathlib.Core.Logic.{_↔_, _⊎_, inl, inr}
+use mathlib.Core.Logic.{_↔_, _⊎_, inl, inr, ⊎-elim}
 use mathlib.Core.Bool.{Bool, true, false}
 use mathlib.Core.List.{List, [], _∷_, _++_}
 use Prim.Native.Nat.{ℕ, _+_, _*_, _<_, _≤_}
@@ -35,13 +36,13 @@ use Rattle.theory_answers.specs.Decided.{DueKind, lines-ok, names-the-lowest, s
 use Rattle.theory_answers.specs.Longer.{no-stays, yes-before, least-stays-or-rises, greatest-stays-or-falls, groups-kept, equal-kept, different-kept, model-kept}
 use Rattle.theory_answers.specs.Same.{written-too}
 use Rattle.decide_buffers.specs.Room.{Lent, lengthsOf, ModelLent, modelLengthsOf, modelRoom, workRoom, modelRooms, lentRooms, firstShort, roomsValidity}
-use Rattle.c_codes.specs.Codes.{noCode}
 use Rattle.decide_identifiers.specs.Identifiers.{length-identifiers, identifier-whole}
 use Rattle.decide.specs.declared.Answer.the-variants as decide
 use Rattle.decide.specs.Decided.{cleared, DecideOk}
 use Rattle.decide.specs.Parts.{modelIn, boundsIn, groupsIn, refutationIn, identifiersIn, model-in as model-at}
-use Rattle.tree_reading.specs.Tree.{Kind, all, any, Row as Tree, node, treeNumbers, maxDepth, levels, Fits}
-use Rattle.tree_reading.specs.Choices.{choices, count, oversOf}
+use Rattle.c_codes.specs.Codes.{noCode}
+use Rattle.tree_reading.specs.Tree.{Kind, all, any, Row as Tree, treeNumbers, maxDepth, levels, Fits}
+use Rattle.tree_reading.specs.Choices.{joined, choices, count, oversOf}
 use Rattle.tree_reading.specs.Shape.{Alternates, depthOf, Listed, shape, fits, depth-levels}
 use Rattle.tree_reading.specs.declared.TreeRefusal.{TreeRefusal}
 use Rattle.tree_reading.specs.declared.Reading.{Reading}
@@ -64,23 +65,23 @@ use Rattle.tree_deciding.specs.declared.ConditionRefusal.the-variants as refusa
 use Rattle.tree_deciding.specs.declared.TreeAnswer.{TreeAnswer}
 use Rattle.tree_deciding.specs.declared.TreeAnswer.the-variants.{Yes, No, Refused}
 use Rattle.tree_deciding.specs.Answer.{TreeValidity, valid, refused, _orNext_, ofDeciding, ofTree, unlessRefused, choiceValidity, firstValidity, treeOver, choiceAnswer, firstAnswer, choiceAnswerFor, firstAnswerFor, DecidesChoice, AnswersFirst}
-use Rattle.demands.specs.Calls.{Call, call-yes, call-no, verdict-yes, verdict-no, call-due}
-use Rattle.demands.specs.Refusals.{Row, listTable, roomsTable, FirstApplies}
-use Rattle.demands.specs.Refused.{Gives, gives-refused, list-gives, rooms-give}
-use Rattle.demands.specs.Demands.{ValidFor, Accepted, EachIdentifier, GoOnSharing, right-answer}
 use Rattle.tree_deciding.specs.Refusal.{conditionNumber, conditionPlace, one-condition}
 use Rattle.tree_deciding.specs.Meaning.{NotRefused}
 use Rattle.c_trees.specs.declared.CChoice.{CChoice}
 use Rattle.c_trees.specs.Calls.{refusedResult, choiceReturned, FirstReturns, ChoiceReturns}
 use Rattle.c_trees.specs.Laws.{refusal-told, choices-apart}
+use Rattle.demands.specs.Calls.{Call, call-yes, call-no, verdict-yes, verdict-no, call-due}
+use Rattle.demands.specs.Refusals.{Row, listTable, roomsTable, FirstApplies}
+use Rattle.demands.specs.Refused.{Gives, gives-refused, list-gives, rooms-give}
+use Rattle.demands.specs.Demands.{ValidFor, Accepted, EachIdentifier, GoOnSharing, right-answer}
+use Rattle.demands.specs.TreeCalls.{choice-answers, first-answers, ChoiceCall, FirstCall, choice-list, choice-tree, choice-answer, choice-left, choice-yes, choice-no, choice-written, as-call, as-alone, choice-identifiers, first-list, first-tree, first-condition, first-none, first-found, first-model, first-no-model, first-work}
 use Rattle.demands.specs.TreeVersions.{rightChoice, right-choice-keeps, rightFirst, right-first-keeps}
 use Rattle.demands.specs.TreeExists.{a-choice-call, a-first-call, choice-call-of, first-call-of}
-use Rattle.demands.specs.TreeCalls.{choice-answers, first-answers, ChoiceCall, FirstCall, choice-list, choice-tree, choice-answer, choice-left, choice-yes, choice-no, choice-written, as-call, as-alone, choice-identifiers, first-list, first-tree, first-condition, first-none, first-found, first-model, first-no-model, first-work}
 
 -- ---- a tree and its numbers
 
--- A tree fits in a list of m lines exactly if all-of nodes hold lines and any-of nodes, any-of nodes hold lines and all-of nodes, its depth is at most 8, and its
--- lines are in the list. (The root is all-of, and t are its children.)
+-- A tree fits in a list of m lines exactly if all-of nodes hold lines and any-of nodes, any-of nodes hold lines and all-of nodes, its depth is at most the greatest, and
+-- its lines are in the list. (The root is all-of, and t are its children.)
 pub fits-exactly-if : (m : ℕ) (t : Tree) → Fits m all levels t ↔ (Alternates all t × (depthOf t ≤ maxDepth) × Listed m t)
 fits-exactly-if m t = (
   (λ f. let s = shape m all levels t f in (s .alternates, depth-levels t (s .low), s .listed)),
@@ -91,7 +92,7 @@ fits-exactly-if m t = (
 pub numbers-of-one-tree : (t u : Tree) → treeNumbers t ≡ treeNumbers u → t ≡ u
 numbers-of-one-tree = one-tree
 
--- Numbers are refused, by 41, 42 or 40, or else they are the numbers of one tree that fits, with at most 256 choices at each node; and not both.
+-- Numbers are refused, by 41, 42 or 40, or else they are the numbers of one tree that fits, without a node that has too many choices; and not both.
 pub refused-or-one-tree : (s : List ℕ) (m : ℕ)
     → ((r : TreeRefusal) × TreeRefused s m r) ⊎ ((t : Tree) × NumbersOf s m t × (oversOf t ≡ []) × ((u : Tree) → NumbersOf s m u → u ≡ t) × ((r : TreeRefusal) → TreeRefused s m r → ⊥))
 refused-or-one-tree s m = go (validTree s m) refl
@@ -120,16 +121,17 @@ one-first-fault = one-first
 pub as-many-as-counted : (k : Kind) (children : Tree) → length (choices k children) ≡ count k children
 as-many-as-counted = count-choices
 
--- In any-of the choices of an earlier branch come first; those of the branches after it follow in their order.
-pub earlier-branch-first : (l : Kind) (children after : Tree) (i : ℕ) → i < count l children → getD (choices any (node l children after)) i [] ≡ getD (choices l children) i []
+-- The choices of a child, a line's being the one that picks it, are joined with those of the children after it. In any-of those of an earlier branch come first, and
+-- those of the branches after it follow in their order.
+pub earlier-branch-first : (child after : List (List ℕ)) (i : ℕ) → i < length child → getD (joined any child after) i [] ≡ getD child i []
 earlier-branch-first = earlier-first
 
-pub later-branches-follow : (l : Kind) (children after : Tree) (j : ℕ) → getD (choices any (node l children after)) (count l children + j) [] ≡ getD (choices any after) j []
+pub later-branches-follow : (child after : List (List ℕ)) (j : ℕ) → getD (joined any child after) (length child + j) [] ≡ getD after j []
 later-branches-follow = later-behind
 
--- In all-of each choice of a child comes with each choice of the children after it, which change faster.
-pub last-child-fastest : (l : Kind) (children after : Tree) (i j : ℕ) → i < count l children → j < count all after
-    → getD (choices all (node l children after)) (i * count all after + j) [] ≡ getD (choices l children) i [] ++ getD (choices all after) j []
+-- In all-of each choice of a child comes with each choice of the children after it, and these change faster.
+pub last-child-fastest : (child after : List (List ℕ)) (i j : ℕ) → i < length child → j < length after
+    → getD (joined all child after) (i * length after + j) [] ≡ getD child i [] ++ getD after j []
 last-child-fastest = last-fastest
 
 -- ---- refusals
@@ -172,8 +174,8 @@ module _ (n : ℕ) (L : List ℤ) (Faulty : TreeRefusal → Type 0) (rooms : Lis
       go valid e = absurd (h r e)
       go (refused q) e = cc
 
--- Deciding choice number k of the numbers s: what is at fault is 41 or 42 at the first fault, else 40 at the first node with over 256 choices, else 43 where the tree has at
--- most k choices. It answers by the first refusal that applies, and by yes or no exactly if none does.
+-- Deciding choice number k of the numbers s: of the tree it is 41 or 42 at the first fault, else 40 at the first node with too many choices, else 43 where it has at
+-- most k choices. The call answers by the first refusal that applies, and by yes or no exactly if none does.
 pub choice-refused-exactly-if : (n : ℕ) (L : List ℤ) (s : List ℕ) (k : ℕ) (x : TreeAnswer) (b a : Lent) → DecidesChoice n L s k x b a
     → (r : ConditionRefusal) → (x ≡ Refused r) ↔ RefusedBy n L (ChoiceRefused s (lineCount L) k) (roomsTable lentRooms n (lengthsOf b)) r
 unfolding choiceAnswer choiceValidity roomsValidity
@@ -210,7 +212,7 @@ choice-answers-exist n L s k b = let o = rightChoice n L s k b in (o .answer, o 
 pub first-answers-exist : (n : ℕ) (L : List ℤ) (s : List ℕ) (b : ModelLent) → (x : TreeAnswer) × (a : ModelLent) × AnswersFirst n L s x b a
 first-answers-exist n L s b = let o = rightFirst n L s b in (o .answer, o .after, right-first-keeps n L s b)
 
--- A valid list, a tree that fits with at most 256 choices at each node, one of its choices, and buffers that have room: there is a call that is not refused.
+-- A valid list, a tree that fits, without a node that has too many choices, one of its choices, and buffers that have room: there is a call that is not refused.
 pub choice-calls-exist : (n : ℕ) (L : List ℤ) (t : Tree) → Fits (lineCount L) all levels t → oversOf t ≡ [] → (k : ℕ) → k < count all t → (b : Lent) → DecideOk n L b
     → (c : ChoiceCall n L t k) × (c .before ≡ b)
 choice-calls-exist = a-choice-call
@@ -260,7 +262,8 @@ shows-choice n L t k R v d =
 
 -- Choice number k picks the lines `choiceAt t k`; a line picked twice counts once, and lines keep list order and their own numbers (`pickedLines`).
 pub record RightChoice (n : ℕ) (L : List ℤ) (t : Tree) (k : ℕ) (c : ChoiceCall n L t k) : Type 0 where
-  -- It is yes exactly if whole numbers exist that meet every line picked.
+  -- It is yes, with the number that was asked for, exactly if whole numbers exist that meet every line picked; else it is no.
+  pub yes-or-no : (c .answer ≡ Yes k) ⊎ (c .answer ≡ No)
   pub yes-exactly : (c .answer ≡ Yes k) ↔ Solvable (pickedLines L (choiceAt t k))
   pub no-exactly : (c .answer ≡ No) ↔ (Solvable (pickedLines L (choiceAt t k)) → ⊥)
   -- On a yes the one model, the tightest bounds and the groups are written. It is a call of deciding these lines as a list of their own, so that all that was
@@ -284,6 +287,7 @@ right-choice n L t k c =
     let r = right-answer n K d in
     let s = choice-solvable L t k in
     record {
+      yes-or-no = either (choiceVerdict n L t k) (choice-answer c true) (choice-answer c false);
       yes-exactly = (
         (λ e. s .0 (r .yes-exactly .0 (verdict-yes d (choice-yes c e)))),
         (λ h. choice-answer c true (call-yes d (r .yes-exactly .1 (s .1 h)))),
@@ -302,6 +306,10 @@ right-choice n L t k c =
       work = r .work;
     }
   where
+    either : {A B : Type 0} (v : Bool) → (v ≡ true → A) → (v ≡ false → B) → A ⊎ B
+    either true f g = inl (f refl)
+    either false f g = inr (g refl)
+
     identified : c .answer ≡ No → EachIdentifier L (refutationIn (c .after)) (identifiersIn (c .after))
     identified e =
         let R = refutationIn (c .after) in
@@ -533,12 +541,8 @@ module _ (n : ℕ) (L : List ℤ) (s : List ℕ) (k : ℕ) (r : CChoice) (b a : 
         after = c .5;
         yes = answer (Yes k);
         no = answer No;
-        yes-or-no = either (choiceVerdict n L (c .0) k) (λ e. answer (Yes k) .0 (choice-answer (c .2) true e)) (λ e. answer No .0 (choice-answer (c .2) false e));
+        yes-or-no = ⊎-elim (λ e. inl (answer (Yes k) .0 e)) (λ e. inr (answer No .0 e)) (right-choice n L (c .0) k (c .2) .yes-or-no);
       }
-    where
-      either : (v : Bool) → (v ≡ true → r ≡ yesReturned k) → (v ≡ false → r ≡ noReturned k) → (r ≡ yesReturned k) ⊎ (r ≡ noReturned k)
-      either true f g = inl (f refl)
-      either false f g = inr (g refl)
 
   -- -1 is the first refusal that applies, and then the buffers are as they were.
   pub choice-refusal-returned : (q : ConditionRefusal) → (r ≡ refusalReturned q) ↔ RefusedBy n L (ChoiceRefused s (lineCount L) k) (roomsTable lentRooms n (lengthsOf b)) q
