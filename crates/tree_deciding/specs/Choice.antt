@@ -46,6 +46,9 @@ pub record DecidesListed (n : ℕ) (M : List ℤ) (k : ℕ) (answer : TreeAnswer
   pub decided : Decided n M found b a
   pub is : answer ≡ asTreeAnswer k found
 
+pub listed-decides : {n : ℕ} {M N : List ℤ} {k : ℕ} {x : Answer} {answer : TreeAnswer} {b a : Lent} → N ≡ M → Decided n N x b a → answer ≡ asTreeAnswer k x → DecidesListed n M k answer b a
+listed-decides {n} {M} {N} {k} {x} {answer} {b} {a} e d i = record { found = x; decided = subst (λ (P : List ℤ). Decided n P x b a) e d; is = i }
+
 module _ (n : ℕ) (L : List ℤ) (s : List ℕ) (k : ℕ) (b : Lent) where
   pub list-refused : (r : Refusal) → validityOf n L ≡ validity.Refused r → DecidesChoice n L s k (Refused (Deciding r)) b b
   unfolding choiceAnswer choiceValidity

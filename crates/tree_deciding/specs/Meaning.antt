@@ -6,7 +6,7 @@ use mathlib.Core.Bool.{Bool, true, false, cond}
 use mathlib.Core.List.{List}
 use Prim.Native.Nat.{ℕ, _<_, _≤_}
 use native.Mathlib.Omega.{arith}
-use borrow.Author.Tests.{ltb-true, ltb-false, lt-ltb, le-ltb}
+use borrow.Author.Tests.{ltb-true, ltb-false}
 use lib.Dec.{ltb}
 use lib.IntN.{ℤ}
 use Rattle.integers.specs.Laws.{never}
@@ -40,6 +40,7 @@ use Rattle.tree_deciding.specs.declared.ConditionRefusal.{ConditionRefus
 use Rattle.tree_deciding.specs.declared.TreeAnswer.{TreeAnswer}
 use Rattle.tree_deciding.specs.declared.TreeAnswer.the-variants.{Yes, No, Refused}
 use Rattle.tree_deciding.specs.Answer.{TreeValidity, valid, refused, _orNext_, ofDeciding, ofTree, choiceValidity, firstValidity, unlessRefused, treeOver, choiceFound, firstFound, choiceAnswer, firstAnswer, choiceAnswerFor, firstAnswerFor, ChoiceNo}
+use Rattle.tree_deciding.specs.Tried.{found-yes, found-no}
 
 abbrev pub NotRefused : TreeAnswer → Type 0
 NotRefused x = (r : ConditionRefusal) → x ≡ Refused r → ⊥
@@ -96,15 +97,15 @@ pub one-taken : (L : List ℤ) (s : List ℕ) (root : Node) → validTree s (lin
 one-taken L s root e t d = one-tree (treeOver L s) t (sym (taken s (lineCount L) root e .numbers .numbered) ∙ d .numbered)
 
 -- ---- the first question
-found-yes : (total k j : ℕ) → firstFound total k ≡ Yes j → (k < total) × (k ≡ j)
-found-yes total k j = go (ltb k total) refl
+yes-found : (total k j : ℕ) → firstFound total k ≡ Yes j → (k < total) × (k ≡ j)
+yes-found total k j = go (ltb k total) refl
   where
     go : (t : Bool) → ltb k total ≡ t → cond t (Yes k) No ≡ Yes j → (k < total) × (k ≡ j)
     go true p e = let same : k ≡ j = cc in (ltb-true k total p, same)
     go false p e = never (cc)
 
-found-no : (total k : ℕ) → firstFound total k ≡ No → total ≤ k
-found-no total k = go (ltb k total) refl
+no-found : (total k : ℕ) → firstFound total k ≡ No → total ≤ k
+no-found total k = go (ltb k total) refl
   where
     go : (t : Bool) → ltb k total ≡ t → cond t (Yes k) No ≡ No → total ≤ k
     go true p e = never (cc)
@@ -128,27 +129,27 @@ module _ (n : ℕ) (L : List ℤ) (s : List ℕ) (b : ModelLent) (answered : Not
   -- yes exactly if some assignment meets the condition
   pub first-yes-exactly : ((k : ℕ) × (firstAnswerFor n L s b ≡ Yes k)) ↔ ((a : Assignment) × Condition L tree a)
   first-yes-exactly = (
-    (λ y. yes-exactly n L tree (ok .list) fits .0 (found-yes (count all tree) (firstChoice n L tree) (y .0) (sym first-is ∙ y .1) .0)),
+    (λ y. yes-exactly n L tree (ok .list) fits .0 (yes-found (count all tree) (firstChoice n L tree) (y .0) (sym first-is ∙ y .1) .0)),
     (λ c.
         let below = yes-exactly n L tree (ok .list) fits .1 c in
-        (firstChoice n L tree, first-is ∙ ap (λ (u : Bool). cond u (Yes (firstChoice n L tree)) No) (lt-ltb _ _ below))),
+        (firstChoice n L tree, first-is ∙ found-yes (count all tree) (firstChoice n L tree) below)),
   )
 
   -- no exactly if none does
   pub first-no-exactly : (firstAnswerFor n L s b ≡ No) ↔ ((a : Assignment) → Condition L tree a → ⊥)
   first-no-exactly = (
     (λ e.
-        let high = found-no (count all tree) (firstChoice n L tree) (sym first-is ∙ e) in
+        let high = no-found (count all tree) (firstChoice n L tree) (sym first-is ∙ e) in
         no-exactly n L tree (ok .list) fits .0 (omega (arith, high, lowest-at-most (choiceVerdict n L tree) (count all tree)))),
     (λ f.
         let all-tried : count all tree ≤ firstChoice n L tree = omega (arith, no-exactly n L tree (ok .list) fits .1 f) in
-        first-is ∙ ap (λ (u : Bool). cond u (Yes (firstChoice n L tree)) No) (le-ltb _ _ all-tried)),
+        first-is ∙ found-no (count all tree) (firstChoice n L tree) all-tried),
   )
 
   -- the choice is the first with a solution, and its model meets the condition
   pub first-yes : (k : ℕ) → firstAnswerFor n L s b ≡ Yes k → FirstSolvable n L tree k × Condition L tree (assignmentOf (modelOf n (linesOf (choiceList L tree k))))
   first-yes k e =
-      let f = found-yes (count all tree) (firstChoice n L tree) k (sym first-is ∙ e) in
+      let f = yes-found (count all tree) (firstChoice n L tree) k (sym first-is ∙ e) in
       subst (λ (j : ℕ). FirstSolvable n L tree j × Condition L tree (assignmentOf (modelOf n (linesOf (choiceList L tree j))))) (f .1)
       (first-solvable n L tree (ok .list) (f .0), model-meets n L tree (ok .list) fits (f .0))
 

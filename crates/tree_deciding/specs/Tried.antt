@@ -55,6 +55,22 @@ pub record FirstTried (n : ℕ) (L : List ℤ) (t : Row) (model work : List ℤ)
   pub same-length : length work′ ≡ length work
   pub behind : drop (usedRoom n) work′ ≡ drop (usedRoom n) work
 
+-- in the search: no choice before i has a solution, and the model is as it was
+pub record Trying (n : ℕ) (L : List ℤ) (t : Row) (total : ℕ) (model work : List ℤ) (i : ℕ) (model′ work′ : List ℤ) : Type 0 where
+  pub below : i ≤ total
+  pub searched : Searched (choiceVerdict n L t) total i
+  pub same-model : model′ ≡ model
+  pub model-length : length model′ ≡ length model
+  pub same-length : length work′ ≡ length work
+  pub behind : drop (usedRoom n) work′ ≡ drop (usedRoom n) work
+
+-- the answer, by the choice that was found
+pub found-yes : (total k : ℕ) → k < total → firstFound total k ≡ Yes k
+found-yes total k h = ap (λ (t : Bool). cond t (Yes k) No) (lt-ltb k total h)
+
+pub found-no : (total k : ℕ) → total ≤ k → firstFound total k ≡ No
+found-no total k h = ap (λ (t : Bool). cond t (Yes k) No) (le-ltb k total h)
+
 module _ (n : ℕ) (L : List ℤ) (s : List ℕ) (total : ℕ) (model work : List ℤ) (a : TryAsked n L s total model work) where
   abbrev tree : Row
   tree = treeOver L s
@@ -91,21 +107,14 @@ module _ (n : ℕ) (L : List ℤ) (s : List ℕ) (total : ℕ) (model work : Lis
           behind = m .searched .behind;
         }
 
-  -- ---- the search: no choice before i has a solution, and the model is as it was
-  pub record Trying (i : ℕ) (model′ work′ : List ℤ) : Type 0 where
-    pub below : i ≤ total
-    pub searched : Searched (choiceVerdict n L tree) total i
-    pub same-model : model′ ≡ model
-    pub same-length : length work′ ≡ length work
-    pub behind : drop (usedRoom n) work′ ≡ drop (usedRoom n) work
-
-  pub none-tried : Trying 0 model work
-  none-tried = record { below = omega arith; searched = searched-none (choiceVerdict n L tree) total; same-model = refl; same-length = refl; behind = refl }
+  -- ---- the search
+  pub none-tried : Trying n L tree total model work 0 model work
+  none-tried = record { below = omega arith; searched = searched-none (choiceVerdict n L tree) total; same-model = refl; model-length = refl; same-length = refl; behind = refl }
 
   abbrev verdicts : ℕ → Bool
   verdicts = choiceVerdict n L tree
 
-  module _ (i : ℕ) {model′ work′ : List ℤ} (t : Trying i model′ work′) where
+  module _ (i : ℕ) {model′ work′ : List ℤ} (t : Trying n L tree total model work i model′ work′) where
     pub asked-still : TryAsked n L s total model′ work′
     asked-still =
         record {
@@ -113,39 +122,38 @@ module _ (n : ℕ) (L : List ℤ) (s : List ℕ) (total : ℕ) (model work : Lis
           root = a .root;
           read = a .read;
           total-is = a .total-is;
-          model-room = omega (arith, a .model-room, ap length (t .same-model));
+          model-room = omega (arith, a .model-room, t .model-length);
           work-room = omega (arith, a .work-room, t .same-length);
         }
 
     module _ (below : i < total) {found : Bool} {model″ work″ : List ℤ} (r : Tried n L tree i model′ work′ found model″ work″) where
-      pub one-more : found ≡ false → Trying (i + 1) model″ work″
+      pub one-more : found ≡ false → Trying n L tree total model work (i + 1) model″ work″
       one-more e =
           record {
             below = omega arith;
             searched = searched-more verdicts total i below (r .verdict ∙ e) (t .searched);
             same-model = r .on-no e ∙ t .same-model;
+            model-length = ap length (r .on-no e ∙ t .same-model);
             same-length = r .same-length ∙ t .same-length;
             behind = r .behind ∙ t .behind;
           }
 
       pub found-first : found ≡ true → FirstTried n L tree model work i model″ work″
       found-first e =
-          let known : firstFound (count all tree) i ≡ Yes i = ap (λ (c : Bool). cond c (Yes i) No) (lt-ltb i (count all tree) (omega (arith, counted))) in
           record {
             is = searched-found verdicts total i below (r .verdict ∙ e) (t .searched) ∙ ap (lowest verdicts 0) counted;
             model-left = r .on-yes e
                 ∙ ap (λ (m : List ℤ). modelOf n (linesOf (choiceList L tree i)) ++ drop (modelRoom n) m) (t .same-model)
-                ∙ sym (ap (λ (x : TreeAnswer). modelLeft n L tree x model) known);
+                ∙ sym (ap (λ (x : TreeAnswer). modelLeft n L tree x model) (found-yes (count all tree) i (omega (arith, counted))));
             same-length = r .same-length ∙ t .same-length;
             behind = r .behind ∙ t .behind;
           }
 
     pub all-tried : total ≤ i → FirstTried n L tree model work i model′ work′
     all-tried h =
-        let known : firstFound (count all tree) i ≡ No = ap (λ (c : Bool). cond c (Yes i) No) (le-ltb i (count all tree) (omega (arith, counted))) in
         record {
           is = searched-all verdicts total i (omega (arith, t .below)) (t .searched) ∙ ap (lowest verdicts 0) counted;
-          model-left = t .same-model ∙ sym (ap (λ (x : TreeAnswer). modelLeft n L tree x model) known);
+          model-left = t .same-model ∙ sym (ap (λ (x : TreeAnswer). modelLeft n L tree x model) (found-no (count all tree) i (omega (arith, counted))));
           same-length = t .same-length;
           behind = t .behind;
         }

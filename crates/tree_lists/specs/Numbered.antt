@@ -7,8 +7,8 @@ use native.Mathlib.Omega.{arith}
 use borrow.Author.Tests.{eqb-true, eqb-false}
 use lib.Dec.{eqb}
 use lib.IntN.{ℤ, pos}
-use lib.ListN.{length, getD, set, drop, replicate, length-set, length-replicate, getD-replicate}
-use lib.Seq.{getD-set-same, getD-set-other}
+use lib.ListN.{length, getD, set, take, drop, replicate, length-set, length-replicate, getD-replicate}
+use lib.Seq.{getD-set-same, getD-set-other, take-at}
 use Rattle.integers.specs.Sequence.{tabulate-cong}
 use Rattle.lines.specs.Limits.{lineSize, maxLines}
 use Rattle.lines.specs.Line.{number, lineCount}
@@ -19,7 +19,7 @@ use Rattle.tree_reading.specs.Reading.{validTree}
 use Rattle.tree_reading.specs.Taken.{treeIn}
 use Rattle.tree_choices.specs.Choosing.{marked, chosen}
 use Rattle.tree_choices.specs.Chosen.{picked}
-use Rattle.tree_lists.specs.Masked.{maskedNumber, masked, maskedInto, with-room}
+use Rattle.tree_lists.specs.Masked.{maskedNumber, masked, maskedInto, with-room, same-length}
 use Rattle.tree_lists.specs.Condition.{flagsOf, choiceList}
 
 -- the lines that choice k picks in a tree with these numbers and so many choices, over m lines
@@ -35,6 +35,14 @@ pub numbered-list : (s : List ℕ) (L : List ℤ) (b : Node) → validTree s (li
     → numberedList s L (b .choices) k ≡ choiceList L (treeIn s (lineCount L)) k
 unfolding numberedList choiceList
 numbered-list s L b e k l = ap (λ (lines : List ℕ). masked (flagsOf (lineCount L) lines) L) (picked s (lineCount L) b e k l)
+
+pub numbered-length : (s : List ℕ) (L : List ℤ) (total k : ℕ) → length (numberedList s L total k) ≡ length L
+unfolding numberedList
+numbered-length s L total k = same-length (flagsOf (lineCount L) (numberedLines s (lineCount L) total k)) L
+
+-- what begins with it, up to its end
+pub numbered-front : (s : List ℕ) (L : List ℤ) (total k : ℕ) (out rest : List ℤ) → out ≡ numberedList s L total k ++ rest → take (length L) out ≡ numberedList s L total k
+numbered-front s L total k out rest e = ap (take (length L)) e ∙ take-at (numberedList s L total k) rest (length L) (numbered-length s L total k)
 
 -- ---- more flags than lines say the same of the lines
 same-flag : (k : ℕ) (p q xs : List ℕ) → k < length p → k < length q → getD p k 0 ≡ getD q k 0 → getD (marked p xs) k 0 ≡ getD (marked q xs) k 0

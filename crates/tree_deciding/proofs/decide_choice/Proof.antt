@@ -1,92 +1,69 @@
+-- `tree_deciding::decide_choice` meets its contract: a refusal of the list or of the tree, or what deciding the choice's list leaves.
+use mathlib.Core.Path.{_≡_, sym, _∙_}
 use borrow.Author.Needs.{needs}
+use Rattle.lines.specs.declared.Validity.the-variants.{Valid}
+use Rattle.lines.specs.Refusal.{validityOf}
+use Rattle.lines.specs.Valid.{valid-list}
+use Rattle.decide_buffers.specs.Room.{Lent}
+use Rattle.tree_deciding.specs.Choice.{list-refused, tree-refused, decides}
 use Rattle.tree_deciding.proofs.decide_choice.Statement.{statement}
 use Rattle.tree_deciding.proofs.decide_choice.Tie as tie
-use Rattle.tree_deciding.proofs.decide_choice.Reads as reads
-use Rattle.tree_deciding.proofs.decide_choice.Lts as lts
-use Rattle.lines.proofs.list_validity.Reads as list-validity-reads
-use Rattle.tree_choices.proofs.choice_in_tree.Reads as choice-in-tree-reads
-use Rattle.tree_deciding.proofs.decide_listed.Reads as decide-listed-reads
 
--- src/lib.rt:117:9
-list-validity-requires : tie.Need-list-validity-requires
-list-validity-requires c κs = search needs
+-- the list was looked at: the start, and what the buffers held
+module _ (looked : tie.After-list-validity) where
+  abbrev start : tie.Start
+  start = looked .before .before .before .before .before
 
--- src/lib.rt:118:30
-enum-known-found : tie.Need-enum-known-found
-enum-known-found c = search needs
+  abbrev lent : Lent
+  lent = record { model = start .args .model .now; bounds = start .args .bounds .now; groups = start .args .groups .now; refutation = start .args .refutation .now; identifiers = start .args .identifiers .now; work = start .args .work .now }
 
--- src/lib.rt:119:9
 returns : tie.Need-returns
-returns c = search needs
+returns c =
+    let looked = c .before .before .before in
+    list-refused _ _ _ _ (lent looked) _ (sym (looked .list-validity .ensures) ∙ c .before .found .given .1)
 
-enum-told : tie.Need-enum-told
-enum-told c = search needs
+-- the list is valid
+module _ (told : tie.After-enum-told) where
+  abbrev seen : tie.After-list-validity
+  seen = told .before .before
 
--- src/lib.rt:121:11
-choice-in-tree-requires : tie.Need-choice-in-tree-requires
-choice-in-tree-requires c κs = search needs
+  valid : validityOf (start seen .args .n) (start seen .args .list .now) ≡ Valid
+  valid = sym (seen .list-validity .ensures) ∙ told .enum-told .given .1
 
--- src/lib.rt:122:26
-enum-known-r : tie.Need-enum-known-r
-enum-known-r c = search needs
-
--- src/lib.rt:123:23
-enum-known-node : tie.Need-enum-known-node
-enum-known-node c = search needs
-
--- src/lib.rt:123:32
 decide-listed-requires : tie.Need-decide-listed-requires
-decide-listed-requires c κs = search needs
+decide-listed-requires c κs = valid-list _ _ (valid (c .before .before .before .before .before .before .before .before .before .before))
 
--- src/lib.rt:101:1
 returns-2 : tie.Need-returns-2
-returns-2 c = search needs
+returns-2 c =
+    let read = c .before .before .before in
+    let told = read .before in
+    tree-refused _ _ _ _ (lent (seen told)) (valid told) _ (sym (read .choice-in-tree .ensures) ∙ c .before .r .given .1)
 
--- src/lib.rt:101:1
-same-length : tie.Need-same-length
-same-length c = search needs
-
--- src/lib.rt:101:1
-same-length-2 : tie.Need-same-length-2
-same-length-2 c = search needs
-
--- src/lib.rt:101:1
-same-length-3 : tie.Need-same-length-3
-same-length-3 c = search needs
-
--- src/lib.rt:101:1
-same-length-4 : tie.Need-same-length-4
-same-length-4 c = search needs
-
--- src/lib.rt:101:1
-same-length-5 : tie.Need-same-length-5
-same-length-5 c = search needs
-
--- src/lib.rt:101:1
-same-length-6 : tie.Need-same-length-6
-same-length-6 c = search needs
-
--- src/lib.rt:101:1
 returns-3 : tie.Need-returns-3
-returns-3 c = search needs
+returns-3 c =
+    let listed = c .before .before .before .before .before .before .before .before .before in
+    let known = listed .before .before .before .before .before .before .before .before in
+    let read = known .before .before in
+    let told = read .before in
+    decides _ _ _ _ (lent (seen told)) (valid told) _ (sym (read .choice-in-tree .ensures) ∙ known .node .given .1) (listed .decide-listed .ensures)
 
 pub decide-choice-spec : {M : Type 1} → statement M
 decide-choice-spec =
     tie.close
     (tie.spec
-    list-validity-requires
-    enum-known-found
+    (search needs)
+    (search needs)
     returns
-    enum-told
-    choice-in-tree-requires
-    enum-known-r
-    enum-known-node
+    (search needs)
+    (search needs)
+    (search needs)
+    (search needs)
     decide-listed-requires
     returns-2
-    same-length
-    same-length-2
-    same-length-3
-    same-length-4
-    same-length-5
-    same-length-6
+    (search needs)
+    (search needs)
+    (search needs)
+    (search needs)
+    (search needs)
+    (search needs)
     returns-3)

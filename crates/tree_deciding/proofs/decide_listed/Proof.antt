@@ -1,78 +1,57 @@
+-- `tree_deciding::decide_listed` meets its contract: what is decided is the front of the array, which holds the choice's list.
+use mathlib.Core.Path.{_≡_, sym, ap, _∙_}
+use mathlib.Core.List.{List}
 use borrow.Author.Needs.{needs}
+use lib.IntN.{ℤ}
+use lib.ListN.{length, take}
+use Rattle.tree_lists.specs.Numbered.{numberedList, numbered-length, numbered-front}
+use Rattle.tree_deciding.specs.Choice.{listed-decides}
 use Rattle.tree_deciding.proofs.decide_listed.Statement.{statement}
 use Rattle.tree_deciding.proofs.decide_listed.Tie as tie
-use Rattle.tree_deciding.proofs.decide_listed.Reads as reads
-use Rattle.tree_deciding.proofs.decide_listed.Lts as lts
-use Rattle.decide.proofs.decide.Reads as decide-reads
-use Rattle.tree_deciding.proofs.as_tree_answer.Reads as as-tree-answer-reads
-use Rattle.tree_lists.proofs.write_choice.Reads as write-choice-reads
 
--- src/lib.rt:86:45
-slice-aggregate-write-choice : tie.Need-slice-aggregate-write-choice
-slice-aggregate-write-choice c = search needs
+-- the choice's list is written
+module _ (written : tie.After-write-choice) where
+  abbrev start : tie.Start
+  start = written .before .before .before .before .before .before
 
--- src/lib.rt:86:5
-write-choice-requires : tie.Need-write-choice-requires
-write-choice-requires c κs = search needs
+  abbrev list : List ℤ
+  list = start .args .list .now
 
--- src/lib.rt:89:9
-array-share-prefix-chosen : tie.Need-array-share-prefix-chosen
-array-share-prefix-chosen c = search needs
+  abbrev listed : List ℤ
+  listed = numberedList (start .args .tree .now) list (start .args .total) (start .args .choice)
 
--- src/lib.rt:89:9
+  abbrev chosen : List ℤ
+  chosen = written .write-choice .last .1 .1 .1 .1 .0
+
+  list-is : take (length list) chosen ≡ listed
+  list-is = numbered-front (start .args .tree .now) list (start .args .total) (start .args .choice) chosen _ (written .write-choice .ensures)
+
+  length-is : length listed ≡ length list
+  length-is = numbered-length (start .args .tree .now) list (start .args .total) (start .args .choice)
+
 slice-aggregate-decide : tie.Need-slice-aggregate-decide
-slice-aggregate-decide c = search needs
+slice-aggregate-decide c = let written = c .before .before in sym (ap length (list-is written) ∙ length-is written)
 
--- src/lib.rt:87:9
-decide-requires : tie.Need-decide-requires
-decide-requires c κs = search needs
-
--- src/lib.rt:97:5
-as-tree-answer-requires : tie.Need-as-tree-answer-requires
-as-tree-answer-requires c κs = search needs
-
--- src/lib.rt:67:1
-same-length : tie.Need-same-length
-same-length c = search needs
-
--- src/lib.rt:67:1
-same-length-2 : tie.Need-same-length-2
-same-length-2 c = search needs
-
--- src/lib.rt:67:1
-same-length-3 : tie.Need-same-length-3
-same-length-3 c = search needs
-
--- src/lib.rt:67:1
-same-length-4 : tie.Need-same-length-4
-same-length-4 c = search needs
-
--- src/lib.rt:67:1
-same-length-5 : tie.Need-same-length-5
-same-length-5 c = search needs
-
--- src/lib.rt:67:1
-same-length-6 : tie.Need-same-length-6
-same-length-6 c = search needs
-
--- src/lib.rt:67:1
 returns : tie.Need-returns
-returns c = search needs
+returns c =
+    let decided = c .before .before .before .before .before .before .before .before .before .before in
+    let written = decided .before .before .before .before .before .before .before .before .before in
+    listed-decides (list-is written) (decided .decide .ensures) (c .as-tree-answer .ensures)
 
 pub decide-listed-spec : {M : Type 1} → statement M
 decide-listed-spec =
     tie.close
     (tie.spec
-    slice-aggregate-write-choice
-    write-choice-requires
-    array-share-prefix-chosen
+    (search needs)
+    (search needs)
+    (search needs)
     slice-aggregate-decide
-    decide-requires
-    as-tree-answer-requires
-    same-length
-    same-length-2
-    same-length-3
-    same-length-4
-    same-length-5
-    same-length-6
+    (search needs)
+    (search needs)
+    (search needs)
+    (search needs)
+    (search needs)
+    (search needs)
+    (search needs)
+    (search needs)
     returns)

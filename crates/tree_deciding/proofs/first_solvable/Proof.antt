@@ -1,59 +1,43 @@
+-- `tree_deciding::first_solvable` meets its contract. The invariant is `Trying`: no choice before this one has a solution.
+use Prim.Native.Nat.{_-_}
+use native.Mathlib.Omega.{arith}
 use borrow.Author.Needs.{needs}
+use Rattle.tree_deciding.specs.Answer.{treeOver}
+use Rattle.tree_deciding.specs.Tried.{Trying, none-tried, asked-still, one-more, found-first, all-tried}
 use Rattle.tree_deciding.proofs.first_solvable.Statement.{statement}
 use Rattle.tree_deciding.proofs.first_solvable.Tie as tie
-use Rattle.tree_deciding.proofs.first_solvable.Reads as reads
-use Rattle.tree_deciding.proofs.first_solvable.Lts as lts
-use Rattle.tree_deciding.proofs.try_choice.Reads as try-choice-reads
 
 abbrev Inv-loop : tie.InvT-loop
-Inv-loop n list tree total model₀ work₀ choice₀ model work choice = ?
+Inv-loop n list tree total model₀ work₀ choice₀ model work choice = Trying n list (treeOver list tree) total model₀ work₀ choice model work
 
 abbrev μ-loop : tie.MeasureT-loop
-μ-loop n list tree total model₀ work₀ choice₀ model work choice = ?
+μ-loop n list tree total model₀ work₀ choice₀ model work choice = total - choice
 
--- src/lib.rt:171:5
 loop-holds : tie.Need-loop-holds Inv-loop μ-loop
-loop-holds c = search needs
+loop-holds c = none-tried _ _ _ _ _ _ (c .before .pre)
 
--- src/lib.rt:172:12
 try-choice-requires : tie.Need-try-choice-requires Inv-loop μ-loop
-try-choice-requires c κs = search needs
+try-choice-requires c κs =
+    let inside = c .before .before in
+    let turn = inside .before in
+    (asked-still _ _ _ _ _ _ (turn .before .before .pre) _ (turn .loop .inv), inside .loop-test .taken)
 
--- src/lib.rt:173:13
-same-length : tie.Need-same-length Inv-loop μ-loop
-same-length c = search needs
-
--- src/lib.rt:173:13
-same-length-2 : tie.Need-same-length-2 Inv-loop μ-loop
-same-length-2 c = search needs
-
--- src/lib.rt:173:13
 returns : tie.Need-returns Inv-loop μ-loop
-returns c = search needs
+returns c =
+    let tried = c .before .before .before in
+    let inside = tried .before .before .before in
+    let turn = inside .before in
+    found-first _ _ _ _ _ _ (turn .before .before .pre) _ (turn .loop .inv) (inside .loop-test .taken) (tried .try-choice .ensures) (c .if1 .taken)
 
--- src/lib.rt:175:9
-add-choice : tie.Need-add-choice Inv-loop μ-loop
-add-choice c = search needs
-
--- src/lib.rt:171:5
-loop-less : tie.Need-loop-less Inv-loop μ-loop
-loop-less c = search needs
-
--- src/lib.rt:171:5
 loop-again : tie.Need-loop-again Inv-loop μ-loop
-loop-again c = search needs
+loop-again c =
+    let tried = c .before .before .before in
+    let inside = tried .before .before .before in
+    let turn = inside .before in
+    one-more _ _ _ _ _ _ (turn .before .before .pre) _ (turn .loop .inv) (inside .loop-test .taken) (tried .try-choice .ensures) (c .if1 .left)
 
--- src/lib.rt:159:1
-same-length-3 : tie.Need-same-length-3 Inv-loop μ-loop
-same-length-3 c = search needs
-
--- src/lib.rt:159:1
-same-length-4 : tie.Need-same-length-4 Inv-loop μ-loop
-same-length-4 c = search needs
-
--- src/lib.rt:159:1
 returns-2 : tie.Need-returns-2 Inv-loop μ-loop
-returns-2 c = search needs
+returns-2 c = let end = c .before in all-tried _ _ _ _ _ _ (end .before .before .pre) _ (end .loop .inv) (omega arith)
 
 pub first-solvable-spec : {M : Type 1} → statement M
 first-solvable-spec =
@@ -63,12 +47,12 @@ first-solvable-spec =
     μ-loop
     loop-holds
     try-choice-requires
-    same-length
-    same-length-2
+    (search needs)
+    (search needs)
     returns
-    add-choice
-    loop-less
+    (search needs)
+    (search needs)
     loop-again
-    same-length-3
-    same-length-4
+    (search needs)
+    (search needs)
     returns-2)
