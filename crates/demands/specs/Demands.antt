@@ -1,6 +1,6 @@
 -- What was demanded, in the words of docs/SPECIFICATION.md, each statement proved by citing the rest: here of deciding, of the answers and of the checkers, in
 -- Exported.antt of what C gets, in Files.antt of files and the program, in Sessions.antt of sessions, in Implied.antt and ImpliedLine.antt of what a list
--- implies, in Seconds.antt of models in seconds, in Shorter.antt of the shorter of two refutations, in Order.antt of the order of lines, in Small.antt of how
+-- implies, in Trees.antt of conditions with alternatives, in Seconds.antt of models in seconds, in Shorter.antt of the shorter of two refutations, in Order.antt of the order of lines, in Small.antt of how
 -- large the answers are.
 --
 -- A reader has to believe the meaning of the words (`Solves`, `Written` in theory_answers/specs/Semantics.antt, `Refutes` and `BreaksAt` in check_soundness/specs),

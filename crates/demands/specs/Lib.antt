@@ -26,3 +26,7 @@ pub mod ShorterVersions
 pub mod Shorter
 pub mod Order
 pub mod Small
+pub mod TreeCalls
+pub mod TreeVersions
+pub mod TreeExists
+pub mod Trees
