@@ -1,0 +1,325 @@
+/* A file with alternatives: the library finds the first choice of them that can be met, and
+ * decides each choice up to it, or all where there is none. Every answer is checked, by the
+ * library's checkers and by the choices as they are counted here, and then printed: the
+ * alternatives that hold, or why each fails. */
+#include "list.h"
+
+#include <stdlib.h>
+
+static const struct text nothing = {"", 0};
+
+/* Why a choice fails: a refutation, with the identifiers of its steps and how many they are,
+ * and in how many alternatives its rules stand. Whether that was told, with this refutation
+ * or with another whose rules the choice has, too. */
+struct clash {
+    uint32_t refutation[UTVPI_REFUTATION_ROOM(UTVPI_MOST_VARIABLES)];
+    uint32_t identifiers[UTVPI_IDENTIFIERS_ROOM(UTVPI_MOST_VARIABLES)];
+    uint32_t steps;
+    size_t alternatives;
+    bool told;
+};
+
+/* For each choice why it fails, and which lines it picks. */
+static struct clash clashes[UTVPI_MOST_CHOICES];
+static bool picked[UTVPI_MOST_CHOICES][UTVPI_MOST_LINES];
+
+/* The values that the library finds with the first choice. */
+static int64_t model[UTVPI_MODEL_ROOM(UTVPI_MOST_VARIABLES)];
+
+/* Whether a node is an alternative: an all-of that is not the root. */
+static bool is_alternative(const struct tree *tree, size_t node)
+{
+    return node > 0 && tree->numbers[2 * node] == UTVPI_ALL_OF;
+}
+
+/* The line of a step of a refutation. */
+static size_t line_at(const struct clash *clash, uint32_t step)
+{
+    return clash->refutation[3 + (size_t)step] / 2;
+}
+
+/* Whether a choice picks all rules of a refutation. */
+static bool has_rules_of(const bool *lines, const struct clash *clash)
+{
+    bool all = true;
+    for (uint32_t step = 0; step < clash->steps; step++) {
+        all = all && lines[line_at(clash, step)];
+    }
+    return all;
+}
+
+/* Marks the nodes that have rules of a refutation as children. */
+static void mark_rules(struct tree *tree, const struct clash *clash)
+{
+    bool used[UTVPI_MOST_LINES] = {false};
+    for (uint32_t step = 0; step < clash->steps; step++) {
+        used[line_at(clash, step)] = true;
+    }
+    for (size_t at = 0; at < tree->count; at++) {
+        tree->nodes[at].named = tree->nodes[at].named_below = false;
+        if (tree->numbers[2 * at] == UTVPI_LEAF && used[tree->numbers[2 * at + 1]]) {
+            tree->nodes[tree->nodes[at].parent].named = true;
+        }
+    }
+}
+
+/* Names the alternatives in which the rules of a refutation stand; one around another is
+ * not named, since the other stands for both. Gives back how many they are. */
+static size_t name_alternatives(struct tree *tree, const struct clash *clash)
+{
+    size_t count = 0;
+    mark_rules(tree, clash);
+    for (size_t at = tree->count; at > 0; at--) {
+        struct node *node = &tree->nodes[at - 1];
+        struct node *parent = &tree->nodes[node->parent];
+        parent->named_below = parent->named_below || node->named || node->named_below;
+        node->named = node->named && !node->named_below && is_alternative(tree, at - 1);
+        count += node->named ? 1 : 0;
+    }
+    return count;
+}
+
+/* Has a choice decided that is to fail, and keeps why. Gives back a status. */
+static int take_clash(struct list *list, size_t choice, int64_t *work)
+{
+    struct clash *clash = &clashes[choice];
+    utvpi_choice found = decide_choice(list, choice, work);
+    if (!UTVPI_IS_NO(found.result) || found.choice != choice) {
+        return disagree("the library left out a choice of alternatives that it does not refute");
+    }
+    int status = give_answer(list, list->variables, found.result, UNPRINTED);
+    if (status != STATUS_NO) {
+        return status;
+    }
+    clash->steps = copy_last_no(clash->refutation, clash->identifiers);
+    pick_lines(&list->tree, picked[choice]);
+    if (!has_rules_of(picked[choice], clash)) {
+        return disagree("the library answered no, but with rules of other alternatives");
+    }
+    clash->alternatives = name_alternatives(&list->tree, clash);
+    return STATUS_NO;
+}
+
+/* Takes the first choices, so many, which are all to fail, and goes to the one behind them.
+ * False where one does not fail, which is said. */
+static bool take_clashes(struct list *list, size_t count, int64_t *work)
+{
+    first_choice(&list->tree);
+    for (size_t choice = 0; choice < count; choice++) {
+        if (take_clash(list, choice, work) != STATUS_NO) {
+            return false;
+        }
+        next_choice(&list->tree);
+    }
+    return true;
+}
+
+/* Prints which alternative of its either a node is. */
+static void print_alternative(const struct tree *tree, size_t at)
+{
+    const struct node *node = &tree->nodes[at];
+    printf("alternative %" PRIu32 " of %" PRIu32, node->ordinal + 1,
+           tree->numbers[2 * node->parent + 1]);
+}
+
+/* Prints why choices fail: the alternatives that can't hold, together where they are
+ * several, and the refutation. */
+static void print_clash(struct list *list, const struct clash *clash)
+{
+    size_t left = name_alternatives(&list->tree, clash);
+    if (left == 0) {
+        print_no(list, clash->refutation, clash->identifiers,
+                 "No. No whole numbers meet all the rules, whichever alternatives are taken.");
+        return;
+    }
+    putchar('\n');
+    for (size_t at = 0; at < list->tree.count; at++) {
+        if (list->tree.nodes[at].named) {
+            printf("%s:%zu: ", list->file, list->tree.nodes[at].line);
+            print_alternative(&list->tree, at);
+            left--;
+            fputs(left > 0 ? ", with\n" : "", stdout);
+        }
+    }
+    print_no(list, clash->refutation, clash->identifiers,
+             clash->alternatives == 1 ? " fails." : ", fails.");
+}
+
+/* Whether a refutation goes before another: the shorter one; of two as short, the one that
+ * needs fewer alternatives. */
+static bool goes_before(const struct clash *one, const struct clash *other)
+{
+    return one->steps != other->steps ? one->steps < other->steps
+                                      : one->alternatives < other->alternatives;
+}
+
+/* The next refutation to be printed, of so many choices: the shortest of those that are not
+ * told; where only_general, of those that need no alternative. NULL where there is none. */
+static const struct clash *next_clash(size_t count, bool only_general)
+{
+    const struct clash *next = NULL;
+    for (size_t choice = 0; choice < count; choice++) {
+        const struct clash *clash = &clashes[choice];
+        if (!clash->told && !(only_general && clash->alternatives > 0) &&
+            (next == NULL || goes_before(clash, next))) {
+            next = clash;
+        }
+    }
+    return next;
+}
+
+/* Prints why each of so many choices fails, the shortest reason first, and each once: what
+ * has the rules of one that was printed is told. */
+static void print_clashes(struct list *list, size_t count)
+{
+    const struct clash *clash = next_clash(count, true);
+    if (clash == NULL) {
+        puts("No. No whole numbers meet all the rules, whichever alternatives are taken:");
+        clash = next_clash(count, false);
+    }
+    while (clash != NULL) {
+        print_clash(list, clash);
+        for (size_t choice = 0; choice < count; choice++) {
+            clashes[choice].told =
+                clashes[choice].told || has_rules_of(picked[choice], clash);
+        }
+        clash = next_clash(count, false);
+    }
+}
+
+/* How many alternatives a node stands in. */
+static int level_of(const struct tree *tree, size_t node)
+{
+    int level = 0;
+    for (size_t at = node; at > 0; at = tree->nodes[at].parent) {
+        level += is_alternative(tree, at) ? 1 : 0;
+    }
+    return level;
+}
+
+/* Prints what a yes says of a node that is taken, where it is an alternative or the first
+ * line of a rule in one: the line of the file, and it, further in the more alternatives it
+ * stands in. */
+static void print_taken(const struct list *list, size_t at, int widest)
+{
+    const struct tree *tree = &list->tree;
+    const struct node *node = &tree->nodes[at];
+    bool alternative = is_alternative(tree, at);
+    bool rule = tree->numbers[2 * at] == UTVPI_LEAF && node->parent > 0 &&
+                tree->nodes[at - 1].line != node->line;
+    if (alternative || rule) {
+        int digits = snprintf(NULL, 0, "%zu", node->line);
+        int blanks = 2 * level_of(tree, at) - (alternative ? 2 : 0);
+        printf("  %s:%zu: %*s", list->file, node->line, widest - digits + blanks, "");
+        if (alternative) {
+            print_alternative(tree, at);
+        } else {
+            show(stdout, list->origins[tree->numbers[2 * at + 1]].rule);
+        }
+        putchar('\n');
+    }
+}
+
+/* Prints the first sentence of a yes, with the alternatives of the choice at hand and their
+ * rules, as the file has them. */
+void print_alternatives(const struct list *list)
+{
+    const struct tree *tree = &list->tree;
+    int widest = snprintf(NULL, 0, "%zu", tree->nodes[tree->count - 1].line);
+    puts("Yes. Whole numbers meet all the rules with these alternatives, the first that can"
+         " hold:\n");
+    for (size_t at = 1; at < tree->count; at++) {
+        if (tree->nodes[at].taken) {
+            print_taken(list, at, widest);
+        }
+    }
+    fputs(list->variables > 0 ? "\n" : "", stdout);
+}
+
+/* Makes the list of the choice at hand: the lines that it does not pick say 0 <= 0. */
+static const struct list *list_of_choice(const struct list *list)
+{
+    static struct list chosen;
+    static int32_t numbers[UTVPI_LINE_NUMBERS * UTVPI_MOST_LINES];
+    static bool lines[UTVPI_MOST_LINES];
+    pick_lines(&list->tree, lines);
+    for (size_t at = 0; at < length_of(list); at++) {
+        numbers[at] = lines[at / UTVPI_LINE_NUMBERS] ? list->numbers[at] : 0;
+    }
+    chosen = *list;
+    chosen.numbers = numbers;
+    return &chosen;
+}
+
+/* Prints a yes with the choice at hand, the first that does not fail. */
+static int answer_yes(const struct list *list, uint64_t choice, int64_t *work)
+{
+    utvpi_choice found = decide_choice(list, choice, work);
+    if (!UTVPI_IS_YES(found.result) || found.choice != choice) {
+        return disagree("the library found alternatives that can hold, and then that they can't");
+    }
+    if (!is_last_model(list, model)) {
+        return disagree("the library found two sets of values for the same alternatives");
+    }
+    return give_answer(list_of_choice(list), list->variables, found.result, IN_WORDS);
+}
+
+/* Prints a no, where so many choices fail and the library knows no more. */
+static int answer_no(struct list *list, size_t count, int64_t *work)
+{
+    utvpi_choice beyond = decide_choice(list, count, work);
+    if (!UTVPI_IS_REFUSAL(beyond.result) || beyond.refusal != UTVPI_NO_SUCH_CHOICE) {
+        return disagree("the library has more choices of alternatives than this program finds");
+    }
+    print_clashes(list, count);
+    return STATUS_NO;
+}
+
+/* Has the library's answer on the first choice that can be met checked, and prints it. */
+static int give_first(struct list *list, utvpi_choice first, int64_t *work)
+{
+    size_t count = list->tree.nodes[0].choices;
+    bool yes = UTVPI_IS_YES(first.result);
+    if (UTVPI_IS_REFUSAL(first.result)) {
+        print_refusal(list, list->file, (int)first.refusal, (size_t)first.place);
+        return STATUS_BAD;
+    }
+    if (!within_limits(list) || count > UTVPI_MOST_CHOICES) {
+        return disagree("the library answered what is beyond its limits");
+    }
+    if ((!yes && !UTVPI_IS_NO(first.result)) || first.choice >= count) {
+        return disagree("the library gave a number that is no answer");
+    }
+    count = yes ? (size_t)first.choice : count;
+    if (!take_clashes(list, count, work)) {
+        return STATUS_DISAGREE;
+    }
+    return yes ? answer_yes(list, count, work) : answer_no(list, count, work);
+}
+
+/* Answers a file with alternatives, unless the library refuses it. Gives back the exit
+ * status. */
+int answer_alternatives(struct list *list)
+{
+    int64_t *work = take_work_area(list->file, list->variables);
+    if (work == NULL) {
+        return STATUS_BAD;
+    }
+    utvpi_choice first = utvpi_tree_first(
+        list->variables, numbers_of(list), length_of(list), list->tree.numbers,
+        2 * list->tree.count, model, UTVPI_MODEL_ROOM(UTVPI_MOST_VARIABLES), work,
+        work_room(list->variables));
+    int status = give_first(list, first, work);
+    free(work);
+    return status;
+}
+
+/* Says that a file with alternatives can't go with this option. Gives back a status. */
+int refuse_alternatives(const struct list *list, const char *option)
+{
+    char what[80];
+    snprintf(what, sizeof what, "here begin alternatives, which %s does not take", option);
+    wrong(list, (struct origin){list->tree.either_line, nothing}, nothing, what,
+          "decide the file without this option, or give it a file for each alternative");
+    return STATUS_BAD;
+}
