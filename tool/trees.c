@@ -8,10 +8,11 @@
 
 static const struct text nothing = {"", 0};
 
-/* Why a choice fails: a refutation, with the identifiers of its steps and how many they are,
- * and in how many alternatives its rules stand. Whether that was told, with this refutation
- * or with another whose rules the choice has, too. */
+/* Why a choice fails: the lines that it picks; a refutation, with the identifiers of its
+ * steps and how many they are; and in how many alternatives its rules stand. Whether that
+ * was told, with this refutation or with another whose rules the choice has, too. */
 struct clash {
+    bool picked[UTVPI_MOST_LINES];
     uint32_t refutation[UTVPI_REFUTATION_ROOM(UTVPI_MOST_VARIABLES)];
     uint32_t identifiers[UTVPI_IDENTIFIERS_ROOM(UTVPI_MOST_VARIABLES)];
     uint32_t steps;
@@ -19,9 +20,11 @@ struct clash {
     bool told;
 };
 
-/* For each choice why it fails, and which lines it picks. */
-static struct clash clashes[UTVPI_MOST_CHOICES];
-static bool picked[UTVPI_MOST_CHOICES][UTVPI_MOST_LINES];
+/* The choices that fail, in their order. */
+struct clashes {
+    struct clash *each;
+    size_t count;
+};
 
 /* The values that the library finds with the first choice. */
 static int64_t model[UTVPI_MODEL_ROOM(UTVPI_MOST_VARIABLES)];
@@ -79,10 +82,9 @@ static size_t name_alternatives(struct tree *tree, const struct clash *clash)
     return count;
 }
 
-/* Has a choice decided that is to fail, and keeps why. Gives back a status. */
-static int take_clash(struct list *list, size_t choice, int64_t *work)
+/* Has the choice at hand decided, which is to fail, and notes why. Gives back a status. */
+static int take_clash(struct list *list, uint64_t choice, int64_t *work, struct clash *clash)
 {
-    struct clash *clash = &clashes[choice];
     utvpi_choice found = decide_choice(list, choice, work);
     if (!UTVPI_IS_NO(found.result) || found.choice != choice) {
         return disagree("the library left out a choice of alternatives that it does not refute");
@@ -92,8 +94,8 @@ static int take_clash(struct list *list, size_t choice, int64_t *work)
         return status;
     }
     clash->steps = copy_last_no(clash->refutation, clash->identifiers);
-    pick_lines(&list->tree, picked[choice]);
-    if (!has_rules_of(picked[choice], clash)) {
+    pick_lines(&list->tree, clash->picked);
+    if (!has_rules_of(clash->picked, clash)) {
         return disagree("the library answered no, but with rules of other alternatives");
     }
     clash->alternatives = name_alternatives(&list->tree, clash);
@@ -101,17 +103,16 @@ static int take_clash(struct list *list, size_t choice, int64_t *work)
 }
 
 /* Takes the first choices, so many, which are all to fail, and goes to the one behind them.
- * False where one does not fail, which is said. */
-static bool take_clashes(struct list *list, size_t count, int64_t *work)
+ * Gives back a status. */
+static int take_clashes(struct list *list, int64_t *work, struct clashes *clashes)
 {
+    int status = STATUS_NO;
     first_choice(&list->tree);
-    for (size_t choice = 0; choice < count; choice++) {
-        if (take_clash(list, choice, work) != STATUS_NO) {
-            return false;
-        }
+    for (size_t choice = 0; status == STATUS_NO && choice < clashes->count; choice++) {
+        status = take_clash(list, choice, work, &clashes->each[choice]);
         next_choice(&list->tree);
     }
-    return true;
+    return status;
 }
 
 /* Prints which alternative of its either a node is. */
@@ -153,13 +154,13 @@ static bool goes_before(const struct clash *one, const struct clash *other)
                                       : one->alternatives < other->alternatives;
 }
 
-/* The next refutation to be printed, of so many choices: the shortest of those that are not
- * told; where only_general, of those that need no alternative. NULL where there is none. */
-static const struct clash *next_clash(size_t count, bool only_general)
+/* The next refutation to be printed: the shortest of those that are not told; where
+ * only_general, of those that need no alternative. NULL where there is none. */
+static const struct clash *next_clash(const struct clashes *clashes, bool only_general)
 {
     const struct clash *next = NULL;
-    for (size_t choice = 0; choice < count; choice++) {
-        const struct clash *clash = &clashes[choice];
+    for (size_t choice = 0; choice < clashes->count; choice++) {
+        const struct clash *clash = &clashes->each[choice];
         if (!clash->told && !(only_general && clash->alternatives > 0) &&
             (next == NULL || goes_before(clash, next))) {
             next = clash;
@@ -168,22 +169,22 @@ static const struct clash *next_clash(size_t count, bool only_general)
     return next;
 }
 
-/* Prints why each of so many choices fails, the shortest reason first, and each once: what
- * has the rules of one that was printed is told. */
-static void print_clashes(struct list *list, size_t count)
+/* Prints why each choice fails, the shortest reason first, and each once: it is told of all
+ * choices that have its rules. */
+static void print_clashes(struct list *list, struct clashes *clashes)
 {
-    const struct clash *clash = next_clash(count, true);
+    const struct clash *clash = next_clash(clashes, true);
     if (clash == NULL) {
         puts("No. No whole numbers meet all the rules, whichever alternatives are taken:");
-        clash = next_clash(count, false);
+        clash = next_clash(clashes, false);
     }
     while (clash != NULL) {
         print_clash(list, clash);
-        for (size_t choice = 0; choice < count; choice++) {
-            clashes[choice].told =
-                clashes[choice].told || has_rules_of(picked[choice], clash);
+        for (size_t choice = 0; choice < clashes->count; choice++) {
+            struct clash *other = &clashes->each[choice];
+            other->told = other->told || has_rules_of(other->picked, clash);
         }
-        clash = next_clash(count, false);
+        clash = next_clash(clashes, false);
     }
 }
 
@@ -236,50 +237,71 @@ void print_alternatives(const struct list *list)
     fputs(list->variables > 0 ? "\n" : "", stdout);
 }
 
-/* Makes the list of the choice at hand: the lines that it does not pick say 0 <= 0. */
-static const struct list *list_of_choice(const struct list *list)
+/* Prints a yes on the list of the choice at hand: the lines that it does not pick say
+ * 0 <= 0. */
+static int give_yes(struct list *list)
 {
-    static struct list chosen;
     static int32_t numbers[UTVPI_LINE_NUMBERS * UTVPI_MOST_LINES];
-    static bool lines[UTVPI_MOST_LINES];
-    pick_lines(&list->tree, lines);
+    static bool picked[UTVPI_MOST_LINES];
+    int32_t *whole = list->numbers;
+    pick_lines(&list->tree, picked);
     for (size_t at = 0; at < length_of(list); at++) {
-        numbers[at] = lines[at / UTVPI_LINE_NUMBERS] ? list->numbers[at] : 0;
+        numbers[at] = picked[at / UTVPI_LINE_NUMBERS] ? whole[at] : 0;
     }
-    chosen = *list;
-    chosen.numbers = numbers;
-    return &chosen;
+    list->numbers = numbers;
+    int status = give_answer(list, list->variables, 0, IN_WORDS);
+    list->numbers = whole;
+    return status;
 }
 
 /* Prints a yes with the choice at hand, the first that does not fail. */
-static int answer_yes(const struct list *list, uint64_t choice, int64_t *work)
+static int answer_yes(struct list *list, uint64_t choice, int64_t *work)
 {
     utvpi_choice found = decide_choice(list, choice, work);
     if (!UTVPI_IS_YES(found.result) || found.choice != choice) {
         return disagree("the library found alternatives that can hold, and then that they can't");
     }
-    if (!is_last_model(list, model)) {
-        return disagree("the library found two sets of values for the same alternatives");
-    }
-    return give_answer(list_of_choice(list), list->variables, found.result, IN_WORDS);
+    return is_last_model(list, model)
+               ? give_yes(list)
+               : disagree("the library found two sets of values for the same alternatives");
 }
 
-/* Prints a no, where so many choices fail and the library knows no more. */
-static int answer_no(struct list *list, size_t count, int64_t *work)
+/* Prints a no, where these choices fail and the library knows no more. */
+static int answer_no(struct list *list, struct clashes *clashes, int64_t *work)
 {
-    utvpi_choice beyond = decide_choice(list, count, work);
+    utvpi_choice beyond = decide_choice(list, clashes->count, work);
     if (!UTVPI_IS_REFUSAL(beyond.result) || beyond.refusal != UTVPI_NO_SUCH_CHOICE) {
         return disagree("the library has more choices of alternatives than this program finds");
     }
-    print_clashes(list, count);
+    print_clashes(list, clashes);
     return STATUS_NO;
 }
 
-/* Has the library's answer on the first choice that can be met checked, and prints it. */
+/* Has the choices decided up to the first that can be met, or all, and prints the answer. */
 static int give_first(struct list *list, utvpi_choice first, int64_t *work)
 {
-    size_t count = list->tree.nodes[0].choices;
     bool yes = UTVPI_IS_YES(first.result);
+    struct clashes clashes = {NULL, yes ? (size_t)first.choice : list->tree.nodes[0].choices};
+    clashes.each = calloc(clashes.count + 1, sizeof *clashes.each);
+    if (clashes.each == NULL) {
+        wrong(list, (struct origin){list->tree.either_line, nothing}, nothing,
+              "there is not enough memory for so many alternatives",
+              "free memory, or decide a file for each alternative of one either");
+        return STATUS_BAD;
+    }
+    int status = take_clashes(list, work, &clashes);
+    if (status == STATUS_NO) {
+        status = yes ? answer_yes(list, first.choice, work) : answer_no(list, &clashes, work);
+    }
+    free(clashes.each);
+    return status;
+}
+
+/* Prints the library's answer on the first choice that can be met, if it is one: of no more
+ * choices than there can be, or than there are. */
+static int answer_first(struct list *list, utvpi_choice first, int64_t *work)
+{
+    size_t count = list->tree.nodes[0].choices;
     if (UTVPI_IS_REFUSAL(first.result)) {
         print_refusal(list, list->file, (int)first.refusal, (size_t)first.place);
         return STATUS_BAD;
@@ -287,14 +309,10 @@ static int give_first(struct list *list, utvpi_choice first, int64_t *work)
     if (!within_limits(list) || count > UTVPI_MOST_CHOICES) {
         return disagree("the library answered what is beyond its limits");
     }
-    if ((!yes && !UTVPI_IS_NO(first.result)) || first.choice >= count) {
-        return disagree("the library gave a number that is no answer");
-    }
-    count = yes ? (size_t)first.choice : count;
-    if (!take_clashes(list, count, work)) {
-        return STATUS_DISAGREE;
-    }
-    return yes ? answer_yes(list, count, work) : answer_no(list, count, work);
+    bool answered = UTVPI_IS_YES(first.result) || UTVPI_IS_NO(first.result);
+    return answered && first.choice < count
+               ? give_first(list, first, work)
+               : disagree("the library gave a number that is no answer");
 }
 
 /* Answers a file with alternatives, unless the library refuses it. Gives back the exit
@@ -309,7 +327,7 @@ int answer_alternatives(struct list *list)
         list->variables, numbers_of(list), length_of(list), list->tree.numbers,
         2 * list->tree.count, model, UTVPI_MODEL_ROOM(UTVPI_MOST_VARIABLES), work,
         work_room(list->variables));
-    int status = give_first(list, first, work);
+    int status = answer_first(list, first, work);
     free(work);
     return status;
 }
