@@ -128,11 +128,6 @@ static void print_alternative(const struct tree *tree, size_t at)
 static void print_clash(struct list *list, const struct clash *clash)
 {
     size_t left = name_alternatives(&list->tree, clash);
-    if (left == 0) {
-        print_no(list, clash->refutation, clash->identifiers,
-                 "No. No whole numbers meet all the rules, whichever alternatives are taken.");
-        return;
-    }
     putchar('\n');
     for (size_t at = 0; at < list->tree.count; at++) {
         if (list->tree.nodes[at].named) {
@@ -154,15 +149,14 @@ static bool goes_before(const struct clash *one, const struct clash *other)
                                       : one->alternatives < other->alternatives;
 }
 
-/* The next refutation to be printed: the shortest of those that are not told; where
- * only_general, of those that need no alternative. NULL where there is none. */
-static const struct clash *next_clash(const struct clashes *clashes, bool only_general)
+/* The next refutation to be printed: the shortest of those that are not told. NULL where
+ * there is none. */
+static const struct clash *next_clash(const struct clashes *clashes)
 {
     const struct clash *next = NULL;
     for (size_t choice = 0; choice < clashes->count; choice++) {
         const struct clash *clash = &clashes->each[choice];
-        if (!clash->told && !(only_general && clash->alternatives > 0) &&
-            (next == NULL || goes_before(clash, next))) {
+        if (!clash->told && (next == NULL || goes_before(clash, next))) {
             next = clash;
         }
     }
@@ -173,18 +167,14 @@ static const struct clash *next_clash(const struct clashes *clashes, bool only_g
  * choices that have its rules. */
 static void print_clashes(struct list *list, struct clashes *clashes)
 {
-    const struct clash *clash = next_clash(clashes, true);
-    if (clash == NULL) {
-        puts("No. No whole numbers meet all the rules, whichever alternatives are taken:");
-        clash = next_clash(clashes, false);
-    }
-    while (clash != NULL) {
+    const struct clash *clash;
+    puts("No. No whole numbers meet all the rules, whichever alternatives are taken:");
+    while ((clash = next_clash(clashes)) != NULL) {
         print_clash(list, clash);
         for (size_t choice = 0; choice < clashes->count; choice++) {
             struct clash *other = &clashes->each[choice];
             other->told = other->told || has_rules_of(other->picked, clash);
         }
-        clash = next_clash(clashes, false);
     }
 }
 
@@ -237,18 +227,25 @@ void print_alternatives(const struct list *list)
     fputs(list->variables > 0 ? "\n" : "", stdout);
 }
 
-/* Prints a yes on the list of the choice at hand: the lines that it does not pick say
- * 0 <= 0. */
-static int give_yes(struct list *list)
+/* Puts 0 <= 0 in the place of the lines that are not picked. Gives back the list's own
+ * numbers, to be put back. */
+static int32_t *mask_lines(struct list *list, const bool *picked)
 {
     static int32_t numbers[UTVPI_LINE_NUMBERS * UTVPI_MOST_LINES];
-    static bool picked[UTVPI_MOST_LINES];
     int32_t *whole = list->numbers;
-    pick_lines(&list->tree, picked);
     for (size_t at = 0; at < length_of(list); at++) {
         numbers[at] = picked[at / UTVPI_LINE_NUMBERS] ? whole[at] : 0;
     }
     list->numbers = numbers;
+    return whole;
+}
+
+/* Prints a yes on the list of the choice at hand. */
+static int give_yes(struct list *list)
+{
+    bool picked[UTVPI_MOST_LINES];
+    pick_lines(&list->tree, picked);
+    int32_t *whole = mask_lines(list, picked);
     int status = give_answer(list, list->variables, 0, IN_WORDS);
     list->numbers = whole;
     return status;
@@ -266,15 +263,40 @@ static int answer_yes(struct list *list, uint64_t choice, int64_t *work)
                : disagree("the library found two sets of values for the same alternatives");
 }
 
-/* Prints a no, where these choices fail and the library knows no more. */
+/* Decides the rules that stand in no alternative, and prints nothing. */
+static int decide_outside(struct list *list)
+{
+    const struct tree *tree = &list->tree;
+    bool outside[UTVPI_MOST_LINES];
+    for (size_t at = 1; at < tree->count; at++) {
+        if (tree->numbers[2 * at] == UTVPI_LEAF) {
+            outside[tree->numbers[2 * at + 1]] = tree->nodes[at].parent == 0;
+        }
+    }
+    int32_t *whole = mask_lines(list, outside);
+    int status = answer(list, UNPRINTED);
+    list->numbers = whole;
+    return status;
+}
+
+/* Prints a no, where these choices fail and the library knows no more: one reason for all,
+ * where the rules clash that stand in no alternative, or one for each. */
 static int answer_no(struct list *list, struct clashes *clashes, int64_t *work)
 {
+    struct clash outside;
     utvpi_choice beyond = decide_choice(list, clashes->count, work);
     if (!UTVPI_IS_REFUSAL(beyond.result) || beyond.refusal != UTVPI_NO_SUCH_CHOICE) {
         return disagree("the library has more choices of alternatives than this program finds");
     }
-    print_clashes(list, clashes);
-    return STATUS_NO;
+    int status = decide_outside(list);
+    if (status == STATUS_NO) {
+        copy_last_no(outside.refutation, outside.identifiers);
+        print_no(list, outside.refutation, outside.identifiers,
+                 "No. No whole numbers meet all the rules, whichever alternatives are taken.");
+    } else if (status == STATUS_YES) {
+        print_clashes(list, clashes);
+    }
+    return status == STATUS_YES ? STATUS_NO : status;
 }
 
 /* Has the choices decided up to the first that can be met, or all, and prints the answer. */
