@@ -50,3 +50,9 @@ void pick_lines(const struct tree *tree, bool *picked)
         }
     }
 }
+
+/* Whether a node is an alternative: an all-of that is not the root. */
+bool is_alternative(const struct tree *tree, size_t node)
+{
+    return node > 0 && tree->numbers[2 * node] == UTVPI_ALL_OF;
+}

@@ -106,6 +106,24 @@ struct tree {
     size_t too_many_line;
 };
 
+/* Why a choice fails: the lines that it picks; a refutation, with the identifiers of its
+ * steps and how many they are; and in how many alternatives its rules stand. Whether that
+ * was told, with this refutation or with another whose rules the choice has, too. */
+struct clash {
+    bool picked[UTVPI_MOST_LINES];
+    uint32_t refutation[UTVPI_REFUTATION_ROOM(UTVPI_MOST_VARIABLES)];
+    uint32_t identifiers[UTVPI_IDENTIFIERS_ROOM(UTVPI_MOST_VARIABLES)];
+    uint32_t steps;
+    size_t alternatives;
+    bool told;
+};
+
+/* The choices that fail, in their order. */
+struct clashes {
+    struct clash *each;
+    size_t count;
+};
+
 /* The columns of numbers that a table of events has. */
 enum column { VALUE, LEAST, GREATEST, COLUMNS };
 
@@ -239,10 +257,11 @@ bool end_blocks(const struct list *list);
 void free_tree(struct tree *tree);
 
 /* choices.c: the choices of a tree, one after the other, and the lines that the one at hand
- * picks. */
+ * picks; whether a node is an alternative. */
 void first_choice(struct tree *tree);
 bool next_choice(struct tree *tree);
 void pick_lines(const struct tree *tree, bool *picked);
+bool is_alternative(const struct tree *tree, size_t node);
 
 /* numbers.c and words.c: one rule, in the one form and the other; what is wrong with
  * an identifier that is too large for 32 bits, and what to do about every one that is
@@ -318,10 +337,15 @@ uint32_t copy_last_no(uint32_t *to, uint32_t *identifiers_to);
 /* session.c: rules from standard input, one at a time. */
 int run_session(const char *file);
 
+/* reasons.c: the choices that fail, and why. */
+int take_clashes(struct list *list, int64_t *work, struct clashes *clashes);
+void print_clashes(struct list *list, struct clashes *clashes);
+
 /* trees.c: a file with alternatives, answered or, beside an option, refused; and the
  * alternatives that a yes takes. */
 int answer_alternatives(struct list *list);
 int refuse_alternatives(const struct list *list, const char *option);
+void print_alternative(const struct tree *tree, size_t at);
 void print_alternatives(const struct list *list);
 
 /* questions.c: what the questions share that are about all the ways to meet the rules;
