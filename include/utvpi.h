@@ -403,7 +403,8 @@ int64_t utvpi_implied_line(uint64_t n, const int32_t *list, size_t list_len, utv
  * is no answer: then refusal is one of the numbers below, and place what the table says,
  * for 40 to 42 an index into the tree, which may be large. Else these two are 0. choice is
  * the number of the choice that was found or asked for; it is 0 on a refusal, and where
- * none was found. */
+ * none was found. UTVPI_IS_YES, UTVPI_IS_NO and UTVPI_IS_REFUSAL take the result; a
+ * refusal's number and place are not part of it. */
 typedef struct utvpi_choice {
     int64_t result;
     uint64_t refusal, place, choice;

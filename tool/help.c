@@ -87,17 +87,17 @@ const char help_of_alternatives[] =
     "        lamp = 0\n"
     "    end\n"
     "\n"
-    "The words either, or and end stand on lines of their own; there may be more than one or.\n"
-    "An alternative may have an either in it, up to " AS_TEXT(MOST_EITHERS)
-    " inside each other. Rules that belong\n"
-    "together may stand between the lines all and end, which changes nothing.\n"
+    "The words either, or and end stand on lines of their own, and or may come more than\n"
+    "once. An alternative may have an either in it, up to " AS_TEXT(MOST_EITHERS)
+    " inside each other. Rules that\n"
+    "belong together may stand between the lines all and end, which changes nothing.\n"
     "\n"
     "There may be " AS_TEXT(UTVPI_MOST_CHOICES)
     " ways in all to choose alternatives. A yes takes the first that can\n"
-    "hold: the first alternatives come first, then those with another one of the last either.\n"
-    "It names the alternatives with their rules; values, least, greatest and groups are with\n"
-    "these. A no says why each alternative fails, the shortest reason first. No option takes\n"
-    "a file with alternatives, and a session takes none.\n"
+    "hold: all first alternatives, then with another one of the last either, and so on. It\n"
+    "names the alternatives with their rules; values, least, greatest and groups are with\n"
+    "these. A no says why each alternative fails, the shortest reason first. No option\n"
+    "takes a file with alternatives, and a session takes none.\n"
     "\n";
 
 const char help_of_clocks[] =
