@@ -2,14 +2,15 @@
  * model of a list, and a proposed refutation of a list; a check of a refutation that
  * arrives in pieces, one that finds the shorter of two refutations, three functions for
  * sessions, in which lines come one at a time, two that say what a list implies, about
- * two variables or of one line more, two that write a model in seconds, two for lists
- * in files, and one that puts a refusal in words. A program links one file, libutvpi.a,
- * which ./build-library makes in target/lib/; make install puts it in place, with
- * libutvpi.so, the manual pages and what pkg-config asks for.
+ * two variables or of one line more, two for conditions with alternatives, two that write
+ * a model in seconds, two for lists in files, and one that puts a refusal in words. A
+ * program links one file, libutvpi.a, which ./build-library makes in target/lib/; make
+ * install puts it in place, with libutvpi.so, the manual pages and what pkg-config asks
+ * for.
  *
- * Deciding, sessions, what a list implies, the shorter of two refutations and seconds
- * take and write numbers, as the machine holds them. The two checks take bytes, the lowest
- * byte of each number first.
+ * Deciding, sessions, what a list implies, alternatives, the shorter of two refutations
+ * and seconds take and write numbers, as the machine holds them. The two checks take
+ * bytes, the lowest byte of each number first.
  *
  * A LIST has n variables, numbered 0 to n-1, each standing for a whole number,
  * and lines of the form  a*x + b*y <= d.  A line is UTVPI_LINE_NUMBERS signed
@@ -77,8 +78,8 @@ extern "C" {
  * again or changed; it is the number behind libutvpi.so, too. */
 #define UTVPI_VERSION "1.0.0"
 
-/* Deciding, checking, sessions and what a list implies return one number; of two
- * variables it is the result of a struct:
+/* Trees, seconds and files return structs of their own. Deciding, checking, sessions and
+ * what a list implies return one number; of two variables it is the result of a struct:
  *
  *     0                              yes; of starting a session, of withdrawing a line
  *                                    and of two variables, that it was done
@@ -416,6 +417,87 @@ utvpi_pair utvpi_implied_pair(uint64_t n, const int32_t *list, size_t list_len,
 int64_t utvpi_implied_line(uint64_t n, const int32_t *list, size_t list_len, utvpi_line line,
                            int64_t *model, size_t model_len, int64_t *work, size_t work_len);
 
+/* ALTERNATIVES. A tree says which lines of a list are to be met: all of some, and any of
+ * others. It is a row of unsigned 32-bit numbers, two for each node, in reading order: a
+ * node, then its children from the first, each with all that is below it.
+ *
+ *     UTVPI_ALL_OF, a count       so many children, of which all are to hold: lines and
+ *                                 any-of nodes
+ *     UTVPI_ANY_OF, a count       so many children, of which one is to hold: lines and
+ *                                 all-of nodes
+ *     UTVPI_LEAF, a line number   this line of the list
+ *
+ * The first node is the root, an all-of at depth 1; each child is one deeper, lines too,
+ * and no node is deeper than UTVPI_MOST_DEPTH. A count may be 0: an all-of without
+ * children holds, and an any-of without any does not. For "line 0, and line 1 or both
+ * line 2 and line 3" the numbers are
+ *
+ *     1 2   3 0   2 2   3 1   1 2   3 2   3 3
+ *
+ * A CHOICE takes one child of each any-of that it comes to, and picks the lines that it
+ * comes to so. A line has one choice, an any-of has as many as its children together, and
+ * an all-of the product of its children's. No node has more than UTVPI_MOST_CHOICES. The
+ * choices of the root are numbered from 0: in an any-of those of earlier children come
+ * first, and in an all-of the last child changes fastest. In the example choice 0 picks
+ * the lines 0 and 1, and choice 1 the lines 0, 2 and 3.
+ *
+ * A line that is picked twice counts once. The lines that a choice picks keep their order
+ * and their numbers: its refutation takes steps of these lines alone, and
+ * utvpi_check_refutation accepts it against the whole list. */
+#define UTVPI_ALL_OF 1
+#define UTVPI_ANY_OF 2
+#define UTVPI_LEAF 3
+
+/* The greatest depth of a node, and the most choices of one. */
+#define UTVPI_MOST_DEPTH 8
+#define UTVPI_MOST_CHOICES 256
+
+/* What both calls return. The result is 0 for a yes, UTVPI_NO for a no, and -1 where there
+ * is no answer: then refusal is one of the numbers below, and place what the table says,
+ * for 40 to 42 an index into the tree, which may be large. Else these two are 0. choice is
+ * the number of the choice that was found or asked for; it is 0 on a refusal, and where
+ * none was found. UTVPI_IS_YES, UTVPI_IS_NO and UTVPI_IS_REFUSAL take the result; a
+ * refusal's number and place are not part of it. */
+typedef struct utvpi_choice {
+    int64_t result;
+    uint64_t refusal, place, choice;
+} utvpi_choice;
+
+/* Is there a choice of this tree whose lines can be met? On a yes, choice is the number of
+ * the first such choice, and the model is written, as utvpi_decide would write it for the
+ * lines that the choice picks. On a no none can be met, and the model is left as it was.
+ *
+ * Lengths are in numbers. The list and the tree are only read; the pointers are as for
+ * utvpi_decide, and so are the rooms of the model and of the work area, which is all zeros
+ * after a yes and after a no. Each choice is decided until one can be met, so that a call
+ * may take UTVPI_MOST_CHOICES times as long as deciding.
+ *
+ * It is refused, in this order: as utvpi_decide refuses the list; as UTVPI_BROKEN_TREE or
+ * UTVPI_TREE_TOO_DEEP, at the lowest index at fault, of both at the same one as
+ * UTVPI_TREE_TOO_DEEP; as UTVPI_TOO_MANY_CHOICES; as UTVPI_SHORT_OUTPUT, place
+ * UTVPI_OUTPUT_MODEL; as UTVPI_SHORT_WORK_AREA. A refusal leaves both buffers as they
+ * were. */
+utvpi_choice utvpi_tree_first(uint64_t n, const int32_t *list, size_t list_len,
+                              const uint32_t *tree, size_t tree_len,
+                              int64_t *model, size_t model_len, int64_t *work, size_t work_len);
+
+/* Can the lines of this choice be met? The answer, and what is left in the six buffers, is
+ * as utvpi_decide has it for the lines that the choice picks, with the numbers that they
+ * have in the whole list.
+ *
+ * It is refused, in this order: as by utvpi_tree_first up to UTVPI_TOO_MANY_CHOICES; as
+ * UTVPI_NO_SUCH_CHOICE; as UTVPI_SHORT_OUTPUT and as UTVPI_SHORT_WORK_AREA, as by
+ * utvpi_decide. So a caller who asks for 0, 1 and on until UTVPI_NO_SUCH_CHOICE has seen
+ * all choices. */
+utvpi_choice utvpi_tree_decide(uint64_t n, const int32_t *list, size_t list_len,
+                               const uint32_t *tree, size_t tree_len, uint64_t choice,
+                               int64_t *model, size_t model_len,
+                               int64_t *bounds, size_t bounds_len,
+                               uint32_t *groups, size_t groups_len,
+                               uint32_t *refutation, size_t refutation_len,
+                               uint32_t *identifiers, size_t identifiers_len,
+                               int64_t *work, size_t work_len);
+
 /* A MODEL IN SECONDS. A model counts ticks, of one clock or of several. Each count is
  * written as seconds, a double: the count made a double, which is exact, as no count is
  * beyond UTVPI_MOST_COUNT, and then one multiplication or one division by the rule of
@@ -550,8 +632,10 @@ utvpi_file_written utvpi_write_list(uint64_t n, const int32_t *list, size_t list
  * implied. Starting a session gives 1, then 7; adding a line 7 for the state, 30, 3, then
  * for the new line 4, 5, 12, 6, 13, then 7 for the other buffers and 8; withdrawing one
  * 7, then 31. The place of a line that is handed over alone is the number of lines in the
- * list, or in the session. Seconds of one clock give 50, 51, 52; of a table of recorders
- * 54, 50, 53, 51, 52.
+ * list, or in the session. A tree gives those of the list, then 41 or 42 at the lowest
+ * index, at the same one 42, then 40, then 43 where a choice is asked for by its number,
+ * then 7 and 8. Seconds of one clock give 50, 51, 52; of a table of recorders 54, 50, 53,
+ * 51, 52.
  */
 enum utvpi_refusal {
     /* n is above UTVPI_MOST_VARIABLES: use fewer variables. */
@@ -588,11 +672,11 @@ enum utvpi_refusal {
     /* A buffer for output is too short: lend a longer one. The place is the
      * first that is short, one of enum utvpi_output. Or the numbers lent as the state of
      * a session are none: hand over a state that one of the calls left. Only deciding,
-     * sessions and a line that may be implied give this. */
+     * sessions, a line that may be implied and trees give this. */
     UTVPI_SHORT_OUTPUT = 7,
 
     /* The work area is too short: lend one of UTVPI_WORK_ROOM(n) numbers. Only
-     * deciding gives this, adding a line to a session, and what a list implies. */
+     * deciding gives this, adding a line to a session, what a list implies, and trees. */
     UTVPI_SHORT_WORK_AREA = 8,
 
     /* The model is not exactly 8*n bytes: give one value for each variable. */
@@ -652,6 +736,26 @@ enum utvpi_refusal {
     /* The session has no line to withdraw: there is nothing to do. The place is 0. Only
      * withdrawing gives this. */
     UTVPI_NO_LINES = 31,
+
+    /* The node at this place, the lowest such index into the tree, has more than
+     * UTVPI_MOST_CHOICES choices: leave out alternatives, or decide parts of the tree one
+     * by one. Only trees give this and those up to 43. */
+    UTVPI_TOO_MANY_CHOICES = 40,
+
+    /* The numbers are no tree. At this place, an index, which may be the length, they end
+     * before the tree does; or a node is of no kind, of one that can't stand there (the
+     * first is no all-of, an all-of in an all-of, an any-of in an any-of), or a line that
+     * is not in the list, where the place is that of the line's number; or numbers follow
+     * the tree: correct what stands there, or a count before it. */
+    UTVPI_BROKEN_TREE = 41,
+
+    /* The node at this place, an index, is deeper than UTVPI_MOST_DEPTH: write the tree
+     * with fewer levels. */
+    UTVPI_TREE_TOO_DEEP = 42,
+
+    /* The tree has no choice with this number: ask for one from 0 to one below the number
+     * of its choices, of which there may be none. The place is 0. */
+    UTVPI_NO_SUCH_CHOICE = 43,
 
     /* The clock's form is not UTVPI_SECONDS_PER_TICK or UTVPI_TICKS_PER_SECOND, or its
      * rate is not a finite number above 0: correct it. The place is the recorder, or 0

@@ -7,13 +7,18 @@ mod header;
 
 /// The limits, lengths, kinds and parts of results that the header defines, by their
 /// names without UTVPI_.
-const LIMITS: [&str; 23] = [
+const LIMITS: [&str; 28] = [
     "MOST_VARIABLES",
     "MOST_LINES",
     "MOST_REFUTATION",
     "MOST_BOUND",
     "MOST_IDENTIFIER",
     "MOST_STACK",
+    "MOST_DEPTH",
+    "MOST_CHOICES",
+    "ALL_OF",
+    "ANY_OF",
+    "LEAF",
     "MOST_COUNT",
     "MOST_RECORDERS",
     "SECONDS_PER_TICK",

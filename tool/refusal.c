@@ -5,8 +5,12 @@
 /* What of the file a refusal is about: nothing that stands there, the line that
  * says how many variables there are, the first rule too many, the rule at the
  * refusal's place, which is the one at hand behind the last, the line of a session
- * that is read now, or the last clock. */
-enum about { NOTHING, VARIABLES, RULE_TOO_MANY, RULE_AT_PLACE, LINE_AT_HAND, LAST_CLOCK };
+ * that is read now, the last clock, the either with which there are too many choices, or
+ * the node of the tree at the refusal's place. */
+enum about {
+    NOTHING, VARIABLES, RULE_TOO_MANY, RULE_AT_PLACE, LINE_AT_HAND, LAST_CLOCK,
+    EITHER_TOO_MANY, NODE_AT_PLACE
+};
 
 struct words {
     const char *what;
@@ -105,6 +109,21 @@ static struct words words_of(enum utvpi_refusal number)
                               LINE_AT_HAND};
     case UTVPI_NO_LINES:
         return (struct words){"there is no rule to withdraw", "add one first", LINE_AT_HAND};
+    case UTVPI_TOO_MANY_CHOICES:
+        return (struct words){"with this either there are more than "
+                              AS_TEXT(UTVPI_MOST_CHOICES) " choices of alternatives",
+                              "leave out alternatives, or decide a file for each alternative of"
+                              " one either",
+                              EITHER_TOO_MANY};
+    case UTVPI_BROKEN_TREE:
+        return (struct words){"the alternatives are no tree", fault, NODE_AT_PLACE};
+    case UTVPI_TREE_TOO_DEEP:
+        return (struct words){"this alternative is too deep: at most " AS_TEXT(MOST_EITHERS)
+                              " eithers stand inside each other",
+                              "write the alternatives of an inner either as some of the outer",
+                              NODE_AT_PLACE};
+    case UTVPI_NO_SUCH_CHOICE:
+        return (struct words){"there is no such choice of alternatives", fault, NOTHING};
     case UTVPI_BAD_CLOCK:
         return (struct words){"the clock's number is not above 0, or a float can't hold it",
                               "say how many seconds a tick lasts, or how many ticks a second has",
@@ -133,10 +152,19 @@ void print_fault(const struct list *list, int number, size_t at)
     fprintf(stderr, "  What to do: %s.\n", words.advice);
 }
 
+/* The line of the tree that a refusal is about. */
+static size_t line_in_tree(const struct tree *tree, enum about about, size_t place)
+{
+    if (about == EITHER_TOO_MANY) {
+        return tree->too_many_line;
+    }
+    return about == NODE_AT_PLACE && place / 2 < tree->count ? tree->nodes[place / 2].line : 0;
+}
+
 /* The rule that a refusal is about; line 0 where it is about none. */
 static struct origin offender(const struct list *list, enum about about, size_t place)
 {
-    static const struct origin none = {0, {"", 0}};
+    struct origin none = {line_in_tree(&list->tree, about, place), {"", 0}};
     if (about == VARIABLES) {
         return list->variables_from;
     }

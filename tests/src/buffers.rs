@@ -2,7 +2,7 @@
 //! longer than it need be, and is full of rubbish before the call.
 
 use crate::chance::Chance;
-use crate::library::{self, ImpliedPair, Lent};
+use crate::library::{self, ChoiceFound, ImpliedPair, Lent};
 use crate::limits::rooms;
 use crate::lines::Line;
 
@@ -154,6 +154,17 @@ impl Buffers {
     pub fn implied_line(&mut self, n: u64, list: &[i32], line: Line) -> i64 {
         let (model, work) = (&mut self.model, &mut self.work);
         library::implied_line(n, list, line, model.lent_mut(), work.lent_mut())
+    }
+
+    /// The first choice of a tree that can be met, with this model and this work area.
+    pub fn tree_first(&mut self, n: u64, list: &[i32], tree: &[u32]) -> ChoiceFound {
+        let (model, work) = (&mut self.model, &mut self.work);
+        library::tree_first(n, list, tree, model.lent_mut(), work.lent_mut())
+    }
+
+    /// A choice of a tree, decided in these buffers.
+    pub fn tree_decide(&mut self, n: u64, list: &[i32], tree: &[u32], choice: u64) -> ChoiceFound {
+        library::tree_decide(n, list, tree, choice, self.lent())
     }
 
     /// The result of adding a line to the session with this state, in these buffers.

@@ -48,6 +48,16 @@ pub struct ImpliedPair {
     pub minus: [i64; 2],
 }
 
+/// What asking for a choice of a tree returns, or for the first that can be met.
+#[repr(C)]
+#[derive(Clone, Copy, PartialEq, Debug)]
+pub struct ChoiceFound {
+    pub result: i64,
+    pub refusal: u64,
+    pub place: u64,
+    pub choice: u64,
+}
+
 /// What writing seconds returns.
 #[repr(C)]
 #[derive(Clone, Copy, PartialEq, Debug)]
@@ -153,6 +163,39 @@ extern "C" {
         work: *mut i64,
         work_len: usize,
     ) -> i64;
+
+    fn utvpi_tree_first(
+        n: u64,
+        list: *const i32,
+        list_len: usize,
+        tree: *const u32,
+        tree_len: usize,
+        model: *mut i64,
+        model_len: usize,
+        work: *mut i64,
+        work_len: usize,
+    ) -> ChoiceFound;
+
+    fn utvpi_tree_decide(
+        n: u64,
+        list: *const i32,
+        list_len: usize,
+        tree: *const u32,
+        tree_len: usize,
+        choice: u64,
+        model: *mut i64,
+        model_len: usize,
+        bounds: *mut i64,
+        bounds_len: usize,
+        groups: *mut u32,
+        groups_len: usize,
+        refutation: *mut u32,
+        refutation_len: usize,
+        identifiers: *mut u32,
+        identifiers_len: usize,
+        work: *mut i64,
+        work_len: usize,
+    ) -> ChoiceFound;
 
     fn utvpi_model_seconds(
         form: u32,
@@ -348,6 +391,57 @@ pub fn implied_line(n: u64, list: &[i32], line: Line, model: &mut [i64], work: &
             model.len(),
             work.as_mut_ptr(),
             work.len(),
+        )
+    }
+}
+
+/// What `utvpi_tree_first` returns.
+pub fn tree_first(
+    n: u64,
+    list: &[i32],
+    tree: &[u32],
+    model: &mut [i64],
+    work: &mut [i64],
+) -> ChoiceFound {
+    // The function stays within the lengths and keeps no pointer.
+    unsafe {
+        utvpi_tree_first(
+            n,
+            list.as_ptr(),
+            list.len(),
+            tree.as_ptr(),
+            tree.len(),
+            model.as_mut_ptr(),
+            model.len(),
+            work.as_mut_ptr(),
+            work.len(),
+        )
+    }
+}
+
+/// What `utvpi_tree_decide` returns.
+pub fn tree_decide(n: u64, list: &[i32], tree: &[u32], choice: u64, lent: Lent) -> ChoiceFound {
+    // The function stays within the lengths and keeps no pointer.
+    unsafe {
+        utvpi_tree_decide(
+            n,
+            list.as_ptr(),
+            list.len(),
+            tree.as_ptr(),
+            tree.len(),
+            choice,
+            lent.model.as_mut_ptr(),
+            lent.model.len(),
+            lent.bounds.as_mut_ptr(),
+            lent.bounds.len(),
+            lent.groups.as_mut_ptr(),
+            lent.groups.len(),
+            lent.refutation.as_mut_ptr(),
+            lent.refutation.len(),
+            lent.identifiers.as_mut_ptr(),
+            lent.identifiers.len(),
+            lent.work.as_mut_ptr(),
+            lent.work.len(),
         )
     }
 }
