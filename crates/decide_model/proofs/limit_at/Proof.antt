@@ -6,10 +6,9 @@ use borrow.Author.Needs.{needs}
 use denote.Ref.{now}
 use lib.IntN.{ℤ}
 use lib.ListN.{length}
-use mir.Syntax.{w64}
-use mir.Val.{toZ, ofZ}
-use mir.Facts.{toZ-ofZ}
-use Rattle.integers.specs.Bits.{kept}
+use mir.Syntax.{w32, w64}
+use mir.Val.{SFits, toZ, ofZ}
+use Rattle.integers.specs.Bits.{kept, widens, widened}
 use Rattle.integers.specs.Integer.{Within}
 use Rattle.lines.specs.Line.{number}
 use Rattle.decide_rows.specs.Stored.{stored}
@@ -47,8 +46,11 @@ module _ (l : tie.At-loop Inv-loop μ-loop) where
     small : Within maxModel value
     small = s .pre .small x h
 
-    value-is : toZ w64 (ofZ w64 value) ≡ value
-    value-is = toZ-ofZ (value-fits value small)
+    fits : SFits w32 value
+    fits = value-fits value small
+
+    value-is : toZ w64 (ofZ w64 (toZ w32 (ofZ w32 value))) ≡ value
+    value-is = widened {w = w32} {z = value} tt fits
 
 limit-step-requires : tie.Need-limit-step-requires Inv-loop μ-loop
 limit-step-requires c κs =
