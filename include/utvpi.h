@@ -356,9 +356,9 @@ utvpi_pair utvpi_implied_pair(uint64_t n, const int32_t *list, size_t list_len,
 /* Does every way to meet the list meet this line, too? 0 for a yes. For a no the model is
  * written, as utvpi_decide would write it for the list with the opposite line behind it,
  * -a*x - b*y <= -d - 1, which may have one line more than UTVPI_MOST_LINES, and a bound
- * one beyond: it meets the list and breaks the line. No value is further
- * than n * (UTVPI_MOST_BOUND + 1) from 0. The room of the model is UTVPI_MODEL_ROOM(n). UTVPI_UNSOLVABLE where the list can't be met. Only a no writes the
- * model.
+ * one beyond: it meets the list and breaks the line, and no value is further than
+ * n * (UTVPI_MOST_BOUND + 1) from 0. The room of the model is UTVPI_MODEL_ROOM(n).
+ * UTVPI_UNSOLVABLE where the list can't be met. Only a no writes the model.
  *
  * It is refused, in this order: as utvpi_decide refuses the list; by the rules of a line,
  * with the number of lines in the list as the place; as UTVPI_SHORT_OUTPUT, place
