@@ -52,6 +52,9 @@ module _ (l : tie.At-loop Inv-loop μ-loop) where
     value-is : toZ w64 (ofZ w64 (toZ w32 (ofZ w32 value))) ≡ value
     value-is = widened {w = w32} {z = value} tt fits
 
+cast-limit-step : tie.Need-cast-limit-step Inv-loop μ-loop
+cast-limit-step c = widens {w = w32} tt (fits (c .before .before) (c .before .loop-test .taken))
+
 limit-step-requires : tie.Need-limit-step-requires Inv-loop μ-loop
 limit-step-requires c κs =
     let l = c .before .before in
@@ -87,6 +90,7 @@ limit-at-spec =
     loop-holds
     (search needs)
     (search needs)
+    cast-limit-step
     limit-step-requires
     (search needs)
     (search needs)
