@@ -84,8 +84,8 @@ pub fn write_model(table: &[i64], n: usize, model: &mut [i32])
 {
     let mut k = 0;
     while k < n {
-        let value = next_value(table, n, &model[0..k]);
-        model[k] = value as i32;
+        let value = next_value(table, n, &model[0..k]) as i32;
+        model[k] = value;
         k += 1;
     }
 }

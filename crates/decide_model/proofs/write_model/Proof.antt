@@ -78,14 +78,14 @@ module _ (c : tie.After-next-value Inv-loop μ-loop) where
   fits : SFits w32 given
   fits = next-fits (r .args .n) (now (r .args .table)) (now (r .args .model)) (r .pre) (k turn) more (turn .loop .model) (turn .loop .inv .2) given is-next
 
-cast-model : tie.Need-cast-model Inv-loop μ-loop
-cast-model c = fits c
+cast-value : tie.Need-cast-value Inv-loop μ-loop
+cast-value c = fits c
 
-mul-t8 : tie.Need-mul-t8 Inv-loop μ-loop
-mul-t8 c = let h = inside (turn c) (more c) in search needs
+mul-value : tie.Need-mul-value Inv-loop μ-loop
+mul-value c = let h = inside (turn c) (more c) in search needs
 
-slice-set-from-model : tie.Need-slice-set-from-model Inv-loop μ-loop
-slice-set-from-model c = inside (turn c) (more c)
+slice-set-from-value : tie.Need-slice-set-from-value Inv-loop μ-loop
+slice-set-from-value c = inside (turn c) (more c)
 
 loop-again : tie.Need-loop-again Inv-loop μ-loop
 loop-again c =
@@ -113,9 +113,9 @@ write-model-spec =
     (search needs)
     part-next-value-end
     next-value-requires
-    cast-model
-    mul-t8
-    slice-set-from-model
+    cast-value
+    mul-value
+    slice-set-from-value
     (search needs)
     (search needs)
     loop-again
