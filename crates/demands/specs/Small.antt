@@ -157,17 +157,14 @@ chain-solvable : (n : ℕ) → Solvable (linesOf (chainList n))
 chain-solvable n = record { assignment = climbing maxConstant; solves = rw (chain-lines n) (chain-solved maxConstant n) }
 
 -- The last variable, number k, has n·M, as a value and as its least.
-pub record Reached-by-chain (n k : ℕ) (c : Call n (chainList n)) : Type 0 where
+pub record ChainReaches (n k : ℕ) (c : Call n (chainList n)) : Type 0 where
   pub answer : c .answer ≡ decide.Yes
   pub value : getD (modelIn n (c .after)) k (pos 0) ≡ pos (n * maxConstant)
   pub least : getD (boundsIn n (c .after)) (2 * k) (pos 0) ≡ pos (n * maxConstant)
 
-pub chain-reaches : (n k : ℕ) → suc k ≡ n → (c : Call n (chainList n)) → Reached-by-chain n k c
+pub chain-reaches : (n k : ℕ) → suc k ≡ n → (c : Call n (chainList n)) → ChainReaches n k c
 chain-reaches n k last c = record { answer = answer; value = value; least = least }
   where
-    ls : List Line
-    ls = linesOf (chainList n)
-
     answer : c .answer ≡ decide.Yes
     answer = right-answer n (chainList n) c .yes-exactly .1 (chain-solvable n)
 
