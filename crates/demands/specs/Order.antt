@@ -84,7 +84,7 @@ pub record LeftAlike (x : Answer) (a e : Lent) : Type 0 where
   pub no : x ≡ decide.No → (a .model ≡ e .model) × (a .bounds ≡ e .bounds) × (a .groups ≡ e .groups) × (a .work ≡ e .work)
 
 pub nothing-else-differs : (n : ℕ) (L M : List ℤ) → Rearranged (linesOf L) (linesOf M) → (c : Call n L) (d : Call n M) → c .before ≡ d .before → LeftAlike (c .answer) (c .after) (d .after)
-nothing-else-differs n L M p c d same = record { yes = on-both; no = on-neither }
+nothing-else-differs n L M p c d same = record { yes = after-yes; no = after-no }
   where
     answers : c .answer ≡ d .answer
     answers = order-does-not-matter n L M p c d .answer
@@ -92,8 +92,8 @@ nothing-else-differs n L M p c d same = record { yes = on-both; no = on-neither 
     both : {A : Type 0} (f : Lent → List A) (room : ℕ) {u v : List A} → u ≡ v → u ++ drop room (f (c .before)) ≡ v ++ drop room (f (d .before))
     both {A} f room {u} {v} e = ap (λ (w : List A). w ++ drop room (f (c .before))) e ∙ ap (λ (b : Lent). v ++ drop room (f b)) same
 
-    on-both : c .answer ≡ decide.Yes → c .after ≡ d .after
-    on-both e =
+    after-yes : c .answer ≡ decide.Yes → c .after ≡ d .after
+    after-yes e =
         let v = on-yes c e in
         let w = on-yes d (sym answers ∙ e) in
         let s = same-written n L M (workable n L (call-valid c)) (workable n M (call-valid d)) (same-solutions (linesOf L) (linesOf M) p) (call-yes c e) in
@@ -105,8 +105,8 @@ nothing-else-differs n L M p c d same = record { yes = on-both; no = on-neither 
         let work : c .after .work ≡ d .after .work = v .work ∙ ap (λ (b : Lent). cleared n (b .work)) same ∙ sym (w .work) in
         λ j. record { model = model j; bounds = bounds j; groups = groups j; refutation = refutation j; identifiers = identifiers j; work = work j }
 
-    on-neither : c .answer ≡ decide.No → (c .after .model ≡ d .after .model) × (c .after .bounds ≡ d .after .bounds) × (c .after .groups ≡ d .after .groups) × (c .after .work ≡ d .after .work)
-    on-neither e =
+    after-no : c .answer ≡ decide.No → (c .after .model ≡ d .after .model) × (c .after .bounds ≡ d .after .bounds) × (c .after .groups ≡ d .after .groups) × (c .after .work ≡ d .after .work)
+    after-no e =
         let v = on-no c e in
         let w = on-no d (sym answers ∙ e) in (
           v .model ∙ ap (λ (b : Lent). b .model) same ∙ sym (w .model),
