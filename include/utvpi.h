@@ -187,10 +187,12 @@ extern "C" {
  *
  *     model    The variables in the order of their numbers. Each has the value
  *              nearest 0 among those that it can have beside the values chosen
- *              before it.
+ *              before it. No value is further than n * UTVPI_MOST_BOUND from 0, so
+ *              that 32 bits hold it.
  *     bounds   For variable v, bounds[2*v] is the least and bounds[2*v + 1] the
  *              greatest value that it has among all the ways to meet the list.
- *              Where there is none, UTVPI_NO_LEAST and UTVPI_NO_GREATEST.
+ *              Where there is none, UTVPI_NO_LEAST and UTVPI_NO_GREATEST; one
+ *              that is there is no further than n * UTVPI_MOST_BOUND from 0.
  *     groups   For variable v, groups[2*v] is the lowest variable r with v = r
  *              in every way to meet the list, or v = -r in every one; v itself
  *              where there is no lower one. groups[2*v + 1] is the sign: 0 for
@@ -212,7 +214,7 @@ extern "C" {
  * On a yes and on a no, the first UTVPI_WORK_ROOM(n) numbers of the work area
  * are 0 after the call. On a refusal, every buffer is left as it was. */
 int64_t utvpi_decide(uint64_t n, const int32_t *list, size_t list_len,
-                     int64_t *model, size_t model_len, int64_t *bounds, size_t bounds_len,
+                     int32_t *model, size_t model_len, int64_t *bounds, size_t bounds_len,
                      uint32_t *groups, size_t groups_len,
                      uint32_t *refutation, size_t refutation_len,
                      uint32_t *identifiers, size_t identifiers_len,
@@ -224,7 +226,8 @@ int64_t utvpi_decide(uint64_t n, const int32_t *list, size_t list_len,
  * be called from several threads at once on the same bytes too. */
 
 /* Does this model meet every line of this list of n variables? Of a no, k is the
- * first line that it does not meet. */
+ * first line that it does not meet. A value has eight bytes here: those of a model that
+ * was written, which have four, are made int64_t first. */
 int64_t utvpi_check_model(uint64_t n, const uint8_t *list, size_t list_len,
                           const uint8_t *model, size_t model_len);
 
@@ -366,7 +369,7 @@ int64_t utvpi_session_start(uint64_t n, int64_t *state, size_t state_len);
  * many lines there were before; as UTVPI_SHORT_OUTPUT and as UTVPI_SHORT_WORK_AREA, as
  * by utvpi_decide. */
 int64_t utvpi_session_add(int64_t *state, size_t state_len, utvpi_line line,
-                          int64_t *model, size_t model_len, int64_t *bounds, size_t bounds_len,
+                          int32_t *model, size_t model_len, int64_t *bounds, size_t bounds_len,
                           uint32_t *groups, size_t groups_len,
                           uint32_t *refutation, size_t refutation_len,
                           uint32_t *identifiers, size_t identifiers_len,
@@ -407,15 +410,15 @@ utvpi_pair utvpi_implied_pair(uint64_t n, const int32_t *list, size_t list_len,
 /* Does every way to meet the list meet this line, too? 0 for a yes. For a no the model is
  * written, as utvpi_decide would write it for the list with the opposite line behind it,
  * -a*x - b*y <= -d - 1, which may have one line more than UTVPI_MOST_LINES, and a bound
- * one beyond: it meets the list and breaks the line. The room of the model is
- * UTVPI_MODEL_ROOM(n). UTVPI_UNSOLVABLE where the list can't be met. Only a no writes the
- * model.
+ * one beyond: it meets the list and breaks the line, and no value is further than
+ * n * (UTVPI_MOST_BOUND + 1) from 0. The room of the model is UTVPI_MODEL_ROOM(n).
+ * UTVPI_UNSOLVABLE where the list can't be met. Only a no writes the model.
  *
  * It is refused, in this order: as utvpi_decide refuses the list; by the rules of a line,
  * with the number of lines in the list as the place; as UTVPI_SHORT_OUTPUT, place
  * UTVPI_OUTPUT_MODEL; as UTVPI_SHORT_WORK_AREA. */
 int64_t utvpi_implied_line(uint64_t n, const int32_t *list, size_t list_len, utvpi_line line,
-                           int64_t *model, size_t model_len, int64_t *work, size_t work_len);
+                           int32_t *model, size_t model_len, int64_t *work, size_t work_len);
 
 /* ALTERNATIVES. A tree says which lines of a list are to be met: all of some, and any of
  * others. It is a row of unsigned 32-bit numbers, two for each node, in reading order: a
@@ -498,7 +501,8 @@ utvpi_choice utvpi_tree_decide(uint64_t n, const int32_t *list, size_t list_len,
                                uint32_t *identifiers, size_t identifiers_len,
                                int64_t *work, size_t work_len);
 
-/* A MODEL IN SECONDS. A model counts ticks, of one clock or of several. Each count is
+/* A MODEL IN SECONDS. A model counts ticks, of one clock or of several. A count is an
+ * int64_t, and may be larger than a value of a model, which is an int32_t. Each count is
  * written as seconds, a double: the count made a double, which is exact, as no count is
  * beyond UTVPI_MOST_COUNT, and then one multiplication or one division by the rule of
  * IEEE 754, as the clock's form says:

@@ -6,7 +6,7 @@
 #include <stdlib.h>
 #include <string.h>
 
-static int64_t model[UTVPI_MODEL_ROOM(UTVPI_MOST_VARIABLES)];
+static int32_t model[UTVPI_MODEL_ROOM(UTVPI_MOST_VARIABLES)];
 static int64_t bounds[UTVPI_BOUNDS_ROOM(UTVPI_MOST_VARIABLES)];
 static uint32_t groups[UTVPI_GROUPS_ROOM(UTVPI_MOST_VARIABLES)];
 static uint32_t refutation[UTVPI_REFUTATION_ROOM(UTVPI_MOST_VARIABLES)];
@@ -97,9 +97,9 @@ static bool groups_agree(size_t n)
     return true;
 }
 
-/* Whether the library's check takes these values of n variables for a model of the
- * list. */
-bool values_hold(const struct list *list, size_t n, const int64_t *values)
+/* Whether the library's check, which takes values of 64 bits, takes these of n variables
+ * for a model of the list. */
+bool values_hold(const struct list *list, size_t n, const int32_t *values)
 {
     size_t length = pack_list(list);
     for (size_t at = 0; at < n; at++) {
@@ -111,7 +111,7 @@ bool values_hold(const struct list *list, size_t n, const int64_t *values)
 /* Takes the seconds of all that a yes prints. False where they can't be trusted. */
 static bool take_all_seconds(const struct list *list)
 {
-    return take_seconds(list, VALUE, model, 1) && take_seconds(list, LEAST, bounds, 2) &&
+    return take_value_seconds(list, model) && take_seconds(list, LEAST, bounds, 2) &&
            take_seconds(list, GREATEST, bounds + 1, 2);
 }
 

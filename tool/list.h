@@ -286,6 +286,7 @@ size_t clock_of(const struct list *list, uint64_t variable);
 bool take_clocks(const struct list *list);
 bool take_seconds(const struct list *list, enum column column, const int64_t *numbers,
                   size_t stride);
+bool take_value_seconds(const struct list *list, const int32_t *values);
 void print_seconds_head(const struct list *list, enum column column);
 void print_seconds(const struct list *list, enum column column, uint64_t variable);
 
@@ -323,7 +324,7 @@ int disagree(const char *what);
 int disagree_on_seconds(void);
 bool within_limits(const struct list *list);
 int64_t turned(int64_t number);
-bool values_hold(const struct list *list, size_t n, const int64_t *values);
+bool values_hold(const struct list *list, size_t n, const int32_t *values);
 size_t work_room(uint64_t n);
 int64_t *take_work_area(const char *file, uint64_t n);
 int answer(const struct list *list, enum manner manner);
@@ -364,8 +365,8 @@ int answer_implies(struct list *list, const char *rule);
 void print_event(FILE *to, const struct list *list, uint64_t variable);
 void print_point(const struct list *list, struct point point);
 int event_width(const struct list *list, uint64_t variable);
-void print_values(const struct list *list, const int64_t *values);
-void print_yes(const struct list *list, const int64_t *model, const int64_t *bounds,
+void print_values(const struct list *list, const int32_t *values);
+void print_yes(const struct list *list, const int32_t *model, const int64_t *bounds,
                const uint32_t *groups);
 void print_terms(const struct list *list, const int32_t *line, int count);
 void print_rule(const struct list *list, uint32_t step);

@@ -68,7 +68,7 @@ static void print_value(const struct list *list, uint64_t v, int width, int64_t 
 }
 
 /* Prints values, one for each event. */
-void print_values(const struct list *list, const int64_t *values)
+void print_values(const struct list *list, const int32_t *values)
 {
     int width = events_width(list);
     printf("  %-*s  %10s", width, "event", "value");
@@ -173,7 +173,7 @@ static void print_groups(const struct list *list, const uint32_t *groups, bool s
 }
 
 /* Prints the table of a yes, and what its columns are. */
-static void print_table(const struct list *list, const int64_t *model, const int64_t *bounds,
+static void print_table(const struct list *list, const int32_t *model, const int64_t *bounds,
                         const uint32_t *groups)
 {
     bool some_low = false, some_high = false, some_shared = false, some_opposite = false;

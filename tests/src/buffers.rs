@@ -77,7 +77,7 @@ impl<T: Copy> Guarded<T> {
 /// All of them.
 #[derive(Clone, Debug, PartialEq, Eq)]
 pub struct Buffers {
-    pub model: Guarded<i64>,
+    pub model: Guarded<i32>,
     pub bounds: Guarded<i64>,
     pub groups: Guarded<u32>,
     pub refutation: Guarded<u32>,
@@ -102,7 +102,7 @@ impl Buffers {
             _ => chance.next() as i64,
         };
         Buffers {
-            model: Guarded::new(lengths[0], &mut rubbish),
+            model: Guarded::new(lengths[0], || rubbish() as i32),
             bounds: Guarded::new(lengths[1], &mut rubbish),
             groups: Guarded::new(lengths[2], || rubbish() as u32),
             refutation: Guarded::new(lengths[3], || rubbish() as u32),

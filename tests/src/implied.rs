@@ -136,8 +136,9 @@ pub fn implied_in(
         }
         (None, 0) => Implied::Yes,
         (None, _) if result == NO as i64 => {
-            let model = buffers.model.lent()[..room].to_vec();
-            allowed.model.lent_mut()[..room].copy_from_slice(&model);
+            let values = &buffers.model.lent()[..room];
+            allowed.model.lent_mut()[..room].copy_from_slice(values);
+            let model: Vec<i64> = values.iter().copied().map(i64::from).collect();
             breaks(n, list, line, &model);
             Implied::No(model)
         }

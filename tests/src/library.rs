@@ -107,7 +107,7 @@ extern "C" {
         n: u64,
         list: *const i32,
         list_len: usize,
-        model: *mut i64,
+        model: *mut i32,
         model_len: usize,
         bounds: *mut i64,
         bounds_len: usize,
@@ -127,7 +127,7 @@ extern "C" {
         state: *mut i64,
         state_len: usize,
         line: LineByValue,
-        model: *mut i64,
+        model: *mut i32,
         model_len: usize,
         bounds: *mut i64,
         bounds_len: usize,
@@ -158,7 +158,7 @@ extern "C" {
         list: *const i32,
         list_len: usize,
         line: LineByValue,
-        model: *mut i64,
+        model: *mut i32,
         model_len: usize,
         work: *mut i64,
         work_len: usize,
@@ -294,7 +294,7 @@ pub fn check_refutation(n: u64, list: &[u8], refutation: &[u8]) -> i64 {
 
 /// The buffers that deciding is lent.
 pub struct Lent<'a> {
-    pub model: &'a mut [i64],
+    pub model: &'a mut [i32],
     pub bounds: &'a mut [i64],
     pub groups: &'a mut [u32],
     pub refutation: &'a mut [u32],
@@ -379,7 +379,7 @@ pub fn implied_pair(n: u64, list: &[i32], x: u64, y: u64, work: &mut [i64]) -> I
 }
 
 /// The result of `utvpi_implied_line`.
-pub fn implied_line(n: u64, list: &[i32], line: Line, model: &mut [i64], work: &mut [i64]) -> i64 {
+pub fn implied_line(n: u64, list: &[i32], line: Line, model: &mut [i32], work: &mut [i64]) -> i64 {
     // The function stays within the lengths and keeps no pointer.
     unsafe {
         utvpi_implied_line(

@@ -48,7 +48,7 @@ extern __typeof__(altered_tree_decide) utvpi_tree_decide;
 extern __typeof__(altered_events_seconds) utvpi_events_seconds;
 
 int64_t altered_decide(uint64_t n, const int32_t *list, size_t list_len,
-                       int64_t *model, size_t model_len, int64_t *bounds, size_t bounds_len,
+                       int32_t *model, size_t model_len, int64_t *bounds, size_t bounds_len,
                        uint32_t *groups, size_t groups_len,
                        uint32_t *refutation, size_t refutation_len,
                        uint32_t *identifiers, size_t identifiers_len,
@@ -62,7 +62,7 @@ int64_t altered_decide(uint64_t n, const int32_t *list, size_t list_len,
 }
 
 int64_t altered_session_add(int64_t *state, size_t state_len, utvpi_line line,
-                            int64_t *model, size_t model_len,
+                            int32_t *model, size_t model_len,
                             int64_t *bounds, size_t bounds_len,
                             uint32_t *groups, size_t groups_len,
                             uint32_t *refutation, size_t refutation_len,
@@ -88,7 +88,7 @@ utvpi_pair altered_implied_pair(uint64_t n, const int32_t *list, size_t list_len
 }
 
 int64_t altered_implied_line(uint64_t n, const int32_t *list, size_t list_len, utvpi_line line,
-                             int64_t *model, size_t model_len, int64_t *work, size_t work_len)
+                             int32_t *model, size_t model_len, int64_t *work, size_t work_len)
 {
     int64_t result = utvpi_implied_line(n, list, list_len, line, model, model_len, work,
                                         work_len);

@@ -54,7 +54,7 @@ fn report_list(n: usize, list: &[i32], text: &mut [u8]) -> usize
     requires { ⌜ ListReady n (now list) (now text) ⌝ }
     ensures { λ r. ⌜ Decided n (now (list .entry)) (take r (now (text .exit))) × Behind (now (text .entry)) (now (text .exit)) r ⌝ }
 {
-    let mut model = [0i64; FEW_MODEL];
+    let mut model = [0i32; FEW_MODEL];
     let mut bounds = [0i64; FEW_BOUNDS];
     let mut groups = [0u32; FEW_GROUPS];
     let mut refutation = [0u32; FEW_REFUTATION];

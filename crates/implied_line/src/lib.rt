@@ -68,7 +68,7 @@ fn judged_line(
     n: usize,
     list: &[i32],
     line: Line,
-    model: &mut [i64],
+    model: &mut [i32],
     work: &mut [i64],
 ) -> LineAnswer
     requires { ⌜ LineAsked n (now list) line (now model) (now work) ⌝ }
@@ -92,7 +92,7 @@ pub fn implied_line(
     n: usize,
     list: &[i32],
     line: Line,
-    model: &mut [i64],
+    model: &mut [i32],
     work: &mut [i64],
 ) -> LineAnswer
     ensures { λ r. ⌜ AnswersLine n (now (list .entry)) line r
