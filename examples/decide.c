@@ -15,10 +15,10 @@ int main(int argc, char **argv)
         -1, CAUSE, 0, 0, -40, 0,               /* -cause <= -40: the cause is at 40 or later */
         1, BRAKE, 0, 0, argc > 1 ? 40 : 45, 0, /* brake <= 45, or brake <= 40 */
     };
-    int64_t model[UTVPI_MODEL_ROOM(N)], bounds[UTVPI_BOUNDS_ROOM(N)];
+    int32_t model[UTVPI_MODEL_ROOM(N)];
+    int64_t bounds[UTVPI_BOUNDS_ROOM(N)], *work = malloc(UTVPI_WORK_BYTES(N)); /* in bytes */
     uint32_t groups[UTVPI_GROUPS_ROOM(N)], refutation[UTVPI_REFUTATION_ROOM(N)];
     uint32_t identifiers[UTVPI_IDENTIFIERS_ROOM(N)];
-    int64_t *work = malloc(UTVPI_WORK_BYTES(N)); /* in bytes; the call takes numbers */
     int64_t result = utvpi_decide(N, list, sizeof list / sizeof list[0],
                                   model, UTVPI_MODEL_ROOM(N), bounds, UTVPI_BOUNDS_ROOM(N),
                                   groups, UTVPI_GROUPS_ROOM(N),
@@ -28,7 +28,7 @@ int main(int argc, char **argv)
     if (UTVPI_IS_REFUSAL(result)) {
         printf("%s: refused: %s\n", argv[0], utvpi_refusal_text(UTVPI_REFUSAL_NUMBER(result)));
     } else if (UTVPI_IS_YES(result)) {
-        printf("Yes: the cause at %" PRId64 " and the brake at %" PRId64 ", which can be from %"
+        printf("Yes: the cause at %" PRId32 " and the brake at %" PRId32 ", which can be from %"
                PRId64 " to %" PRId64 ".\n",
                model[CAUSE], model[BRAKE], bounds[2 * BRAKE], bounds[2 * BRAKE + 1]);
     }

@@ -141,7 +141,7 @@ extern "C" {
 /* The same in bytes, for malloc: the rooms above and the lengths that the calls ask for
  * are in numbers. For n = 0 the first three are 0: there malloc may give NULL, which is
  * no lack of memory. */
-#define UTVPI_MODEL_BYTES(n) (sizeof(int64_t) * UTVPI_MODEL_ROOM(n))
+#define UTVPI_MODEL_BYTES(n) (sizeof(int32_t) * UTVPI_MODEL_ROOM(n))
 #define UTVPI_BOUNDS_BYTES(n) (sizeof(int64_t) * UTVPI_BOUNDS_ROOM(n))
 #define UTVPI_GROUPS_BYTES(n) (sizeof(uint32_t) * UTVPI_GROUPS_ROOM(n))
 #define UTVPI_REFUTATION_BYTES(n) (sizeof(uint32_t) * UTVPI_REFUTATION_ROOM(n))
@@ -482,7 +482,7 @@ typedef struct utvpi_choice {
  * were. */
 utvpi_choice utvpi_tree_first(uint64_t n, const int32_t *list, size_t list_len,
                               const uint32_t *tree, size_t tree_len,
-                              int64_t *model, size_t model_len, int64_t *work, size_t work_len);
+                              int32_t *model, size_t model_len, int64_t *work, size_t work_len);
 
 /* Can the lines of this choice be met? The answer, and what is left in the six buffers, is
  * as utvpi_decide has it for the lines that the choice picks, with the numbers that they
@@ -494,7 +494,7 @@ utvpi_choice utvpi_tree_first(uint64_t n, const int32_t *list, size_t list_len,
  * all choices. */
 utvpi_choice utvpi_tree_decide(uint64_t n, const int32_t *list, size_t list_len,
                                const uint32_t *tree, size_t tree_len, uint64_t choice,
-                               int64_t *model, size_t model_len,
+                               int32_t *model, size_t model_len,
                                int64_t *bounds, size_t bounds_len,
                                uint32_t *groups, size_t groups_len,
                                uint32_t *refutation, size_t refutation_len,

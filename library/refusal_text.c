@@ -70,6 +70,16 @@ const char *utvpi_refusal_text(int number)
         return "the last line that was added made a no: withdraw it, and add this one then";
     case UTVPI_NO_LINES:
         return "the session has no line to withdraw: there is nothing to do";
+    case UTVPI_TOO_MANY_CHOICES:
+        return "this node of the tree has more than " AS_TEXT(UTVPI_MOST_CHOICES)
+               " choices: leave out alternatives, or decide parts of the tree one by one";
+    case UTVPI_BROKEN_TREE:
+        return "the numbers are no tree, from this one on: correct it, or a count before it";
+    case UTVPI_TREE_TOO_DEEP:
+        return "this node of the tree is deeper than " AS_TEXT(UTVPI_MOST_DEPTH)
+               ": write the tree with fewer levels";
+    case UTVPI_NO_SUCH_CHOICE:
+        return "the tree has no choice with this number: ask for a lower one, from 0 on";
     case UTVPI_BAD_CLOCK:
         return "the clock's form is none, or its rate is not a finite number above 0: correct"
                " it";

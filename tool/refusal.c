@@ -123,7 +123,7 @@ static struct words words_of(enum utvpi_refusal number)
                               "write the alternatives of an inner either as some of the outer",
                               NODE_AT_PLACE};
     case UTVPI_NO_SUCH_CHOICE:
-        return (struct words){"there is no such choice of alternatives", fault, NOTHING};
+        return (struct words){utvpi_refusal_text(number), fault, NOTHING};
     case UTVPI_BAD_CLOCK:
         return (struct words){"the clock's number is not above 0, or a float can't hold it",
                               "say how many seconds a tick lasts, or how many ticks a second has",

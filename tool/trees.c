@@ -9,7 +9,7 @@
 static const struct text nothing = {"", 0};
 
 /* The values that the library finds with the first choice. */
-static int64_t model[UTVPI_MODEL_ROOM(UTVPI_MOST_VARIABLES)];
+static int32_t model[UTVPI_MODEL_ROOM(UTVPI_MOST_VARIABLES)];
 
 /* Prints which alternative of its either a node is. */
 void print_alternative(const struct tree *tree, size_t at)

@@ -18,7 +18,7 @@ static size_t length_of(const struct merge *merge)
 }
 
 /* A model as the library writes it. */
-typedef int64_t model_number;
+typedef int32_t model_number;
 static model_number model[UTVPI_MODEL_ROOM(UTVPI_MOST_VARIABLES)];
 
 /* The values that the library wrote last. */

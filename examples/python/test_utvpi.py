@@ -122,6 +122,33 @@ class Answers(unittest.TestCase):
                     break
                 self.assertEqual(answer, whole)
 
+    def test_trees(self):
+        number = LIBRARY.header.number
+        for n, lines, _ in lists(40):
+            leaves = [(number("LEAF"), at) for at in range(len(lines))]
+            nodes = [(number("ALL_OF"), 1), (number("ANY_OF"), len(lines)), *leaves]
+            tree = [part for node in nodes for part in node]
+            answers = [LIBRARY.decide(n, [line]) for line in lines]
+            met = [at for at, answer in enumerate(answers) if isinstance(answer, Yes)]
+            self.assertEqual(LIBRARY.tree_first(n, lines, tree),
+                             (met[0], answers[met[0]].model) if met else None)
+            for at, answer in enumerate(answers):
+                found = LIBRARY.tree_decide(n, lines, tree, at)
+                if isinstance(answer, Yes):
+                    self.assertEqual(found, answer)
+                else:
+                    self.assertEqual(set(found.lines()), {at})
+
+    def test_shorter(self):
+        none = 0
+        for n, lines, ways in lists(60):
+            answer = LIBRARY.decide(n, lines)
+            refutation = answer.refutation if isinstance(answer, No) else [3, 1, 0, 0]
+            handed = LIBRARY.shorter(n, lines, [4, 0, 0], refutation + [7])
+            self.assertEqual(handed, [] if ways else refutation)
+            none += not handed
+        self.assertTrue(0 < none < 60)
+
     def test_absent_bounds(self):
         self.assertEqual(LIBRARY.decide(1, []), Yes([0], [(None, None)], [(0, False)]))
         self.assertEqual(LIBRARY.implied_pair(2, [], 0, 1).plus, (None, None))
@@ -159,6 +186,8 @@ class Answers(unittest.TestCase):
             (lambda: LIBRARY.check_model(1, [], []), "BAD_MODEL_LENGTH", 0),
             (lambda: LIBRARY.read_list(b""), "RECORD_CUT", 0),
             (lambda: LIBRARY.session_withdraw(LIBRARY.session_start(1)), "NO_LINES", 0),
+            (lambda: LIBRARY.tree_first(1, [], [1, 0, 7]), "BROKEN_TREE", 2),
+            (lambda: LIBRARY.tree_decide(1, [], [1, 0], 1), "NO_SUCH_CHOICE", 0),
             (lambda: LIBRARY.model_seconds(0, 0.0, []), "BAD_CLOCK", 0),
             (lambda: LIBRARY.events_seconds([0], [1.0], [0, 1], [0, 0]), "BAD_RECORDER", 1),
         ]

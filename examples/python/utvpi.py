@@ -54,6 +54,15 @@ class _Pair(ctypes.Structure):
     _fields_ = [("result", c_int64), ("plus", c_int64 * 2), ("minus", c_int64 * 2)]
 
 
+class _Choice(ctypes.Structure):
+    _fields_ = [("result", c_int64)] + [
+        (name, c_uint64) for name in ("refusal", "place", "choice")]
+
+
+class _Part(ctypes.Structure):
+    _fields_ = [(name, c_uint64) for name in ("which", "length")]
+
+
 class _Seconds(ctypes.Structure):
     _fields_ = [("refusal", c_uint64), ("place", c_uint64)]
 
@@ -67,7 +76,7 @@ class _FileWritten(ctypes.Structure):
 
 
 # The numbers of a model; and those that stand for an absent bound, in bounds and sums.
-MODEL = c_int64
+MODEL = c_int32
 _NO_LEAST, _NO_GREATEST = -(2**63), 2**63 - 1
 
 
@@ -77,6 +86,7 @@ def _slice(number: Any) -> list[Any]:
 
 
 _LIST = [c_uint64, *_slice(c_int32)]
+_TREE = [*_LIST, *_slice(c_uint32)]
 _BYTES = [c_uint64, *_slice(c_uint8), *_slice(c_uint8)]
 _OUTPUTS = [*_slice(MODEL), *_slice(c_int64), *_slice(c_uint32), *_slice(c_uint32),
             *_slice(c_uint32), *_slice(c_int64)]
@@ -94,6 +104,9 @@ CALLS: dict[str, tuple[Any, list[Any]]] = {
     "utvpi_session_withdraw": (c_int64, _slice(c_int64)),
     "utvpi_implied_pair": (_Pair, [*_LIST, c_uint64, c_uint64, *_slice(c_int64)]),
     "utvpi_implied_line": (c_int64, [*_LIST, Line, *_slice(MODEL), *_slice(c_int64)]),
+    "utvpi_tree_first": (_Choice, [*_TREE, *_slice(MODEL), *_slice(c_int64)]),
+    "utvpi_tree_decide": (_Choice, [*_TREE, c_uint64, *_OUTPUTS]),
+    "utvpi_shorter": (_Part, [*_LIST, *_slice(c_uint32), *_slice(c_uint32)]),
     "utvpi_model_seconds": (_Seconds, [c_uint32, c_double, *_slice(c_int64), *_slice(c_double)]),
     "utvpi_events_seconds": (_Seconds, [*_slice(c_uint32), *_slice(c_double), *_slice(c_uint32),
                                         *_slice(c_int64), *_slice(c_double)]),
@@ -292,6 +305,35 @@ class Library:
         broken = self._checked(self._call["utvpi_implied_line"](
             n, *self._list(lines), line, model, room, *self._room("WORK", c_int64, n)))
         return None if broken is None else list(model[:n])
+
+    def tree_first(self, n: int, lines: Sequence[Line],
+                   tree: Sequence[int]) -> Optional[tuple[int, list[int]]]:
+        """The number of the first choice of a tree whose lines can be met, and values that meet
+        them; None where no choice can be met."""
+        model, room = self._room("MODEL", MODEL, n)
+        found = self._call["utvpi_tree_first"](n, *self._list(lines), *_read(c_uint32, tree),
+                                               model, room, *self._room("WORK", c_int64, n))
+        self._written(found)
+        return (found.choice, list(model[:n])) if found.result == 0 else None
+
+    def tree_decide(self, n: int, lines: Sequence[Line], tree: Sequence[int],
+                    choice: int) -> Answer:
+        """Decides the lines that a choice of a tree picks."""
+        outputs = self._outputs(n)
+        found = self._call["utvpi_tree_decide"](n, *self._list(lines), *_read(c_uint32, tree),
+                                                choice, *_flat(outputs))
+        self._written(found)
+        return self._answer(n, found.result, outputs)
+
+    def shorter(self, n: int, lines: Sequence[Line], first: Sequence[int],
+                second: Sequence[int]) -> list[int]:
+        """The shorter of two refutations, of those that the checker accepts; empty where it
+        accepts neither."""
+        part = self._call["utvpi_shorter"](n, *self._list(lines), *_read(c_uint32, first),
+                                           *_read(c_uint32, second))
+        lent = {self.header.number("SHORTER_FIRST"): first,
+                self.header.number("SHORTER_SECOND"): second}
+        return list(lent.get(part.which, [])[: part.length])
 
     def model_seconds(self, form: int, rate: float, counts: Sequence[int]) -> list[float]:
         """Counts of one clock in seconds: form 0 is seconds per tick, 1 ticks per second."""

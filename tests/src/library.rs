@@ -170,7 +170,7 @@ extern "C" {
         list_len: usize,
         tree: *const u32,
         tree_len: usize,
-        model: *mut i64,
+        model: *mut i32,
         model_len: usize,
         work: *mut i64,
         work_len: usize,
@@ -183,7 +183,7 @@ extern "C" {
         tree: *const u32,
         tree_len: usize,
         choice: u64,
-        model: *mut i64,
+        model: *mut i32,
         model_len: usize,
         bounds: *mut i64,
         bounds_len: usize,
@@ -400,7 +400,7 @@ pub fn tree_first(
     n: u64,
     list: &[i32],
     tree: &[u32],
-    model: &mut [i64],
+    model: &mut [i32],
     work: &mut [i64],
 ) -> ChoiceFound {
     // The function stays within the lengths and keeps no pointer.

@@ -17,7 +17,7 @@ const REFUSED: i64 = -1;
 /// The first choice of a tree that can be met, and its model.
 #[derive(Clone, Debug, PartialEq, Eq)]
 pub enum First {
-    Yes(usize, Vec<i64>),
+    Yes(usize, Vec<i32>),
     No,
     Refused(u8, usize),
 }

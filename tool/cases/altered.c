@@ -98,7 +98,7 @@ int64_t altered_implied_line(uint64_t n, const int32_t *list, size_t list_len, u
 
 utvpi_choice altered_tree_first(uint64_t n, const int32_t *list, size_t list_len,
                                 const uint32_t *tree, size_t tree_len,
-                                int64_t *model, size_t model_len,
+                                int32_t *model, size_t model_len,
                                 int64_t *work, size_t work_len)
 {
     utvpi_choice first = utvpi_tree_first(n, list, list_len, tree, tree_len, model, model_len,
@@ -109,7 +109,7 @@ utvpi_choice altered_tree_first(uint64_t n, const int32_t *list, size_t list_len
 
 utvpi_choice altered_tree_decide(uint64_t n, const int32_t *list, size_t list_len,
                                  const uint32_t *tree, size_t tree_len, uint64_t choice,
-                                 int64_t *model, size_t model_len,
+                                 int32_t *model, size_t model_len,
                                  int64_t *bounds, size_t bounds_len,
                                  uint32_t *groups, size_t groups_len,
                                  uint32_t *refutation, size_t refutation_len,

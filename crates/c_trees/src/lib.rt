@@ -55,7 +55,7 @@ pub extern "C" fn utvpi_tree_first(
     n: u64,
     list: &[i32],
     tree: &[u32],
-    model: &mut [i64],
+    model: &mut [i32],
     work: &mut [i64],
 ) -> CChoice
     ensures { λ r. ⌜ FirstReturns n (now (list .entry)) (now (tree .entry)) r
@@ -72,7 +72,7 @@ pub extern "C" fn utvpi_tree_decide(
     list: &[i32],
     tree: &[u32],
     choice: u64,
-    model: &mut [i64],
+    model: &mut [i32],
     bounds: &mut [i64],
     groups: &mut [u32],
     refutation: &mut [u32],

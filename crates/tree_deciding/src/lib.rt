@@ -70,7 +70,7 @@ fn decide_listed(
     tree: &[u32],
     total: usize,
     choice: usize,
-    model: &mut [i64],
+    model: &mut [i32],
     bounds: &mut [i64],
     groups: &mut [u32],
     refutation: &mut [u32],
@@ -103,7 +103,7 @@ pub fn decide_choice(
     list: &[i32],
     tree: &[u32],
     choice: usize,
-    model: &mut [i64],
+    model: &mut [i32],
     bounds: &mut [i64],
     groups: &mut [u32],
     refutation: &mut [u32],
@@ -143,7 +143,7 @@ fn try_choice(
     tree: &[u32],
     total: usize,
     choice: usize,
-    model: &mut [i64],
+    model: &mut [i32],
     work: &mut [i64],
 ) -> bool
     requires { ⌜ TryAsked n (now list) (now tree) total (now model) (now work) × (choice < total) ⌝ }
@@ -161,7 +161,7 @@ fn first_solvable(
     list: &[i32],
     tree: &[u32],
     total: usize,
-    model: &mut [i64],
+    model: &mut [i32],
     work: &mut [i64],
 ) -> usize
     requires { ⌜ TryAsked n (now list) (now tree) total (now model) (now work) ⌝ }
@@ -182,7 +182,7 @@ pub fn first_choice(
     n: usize,
     list: &[i32],
     tree: &[u32],
-    model: &mut [i64],
+    model: &mut [i32],
     work: &mut [i64],
 ) -> TreeAnswer
     ensures { λ r. ⌜ AnswersFirst n (now (list .entry)) (now (tree .entry)) r

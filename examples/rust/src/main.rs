@@ -14,7 +14,7 @@ extern "C" {
         n: u64,
         list: *const i32,
         list_len: usize,
-        model: *mut i64,
+        model: *mut i32,
         model_len: usize,
         bounds: *mut i64,
         bounds_len: usize,
@@ -36,7 +36,7 @@ type Line = [i32; limits::LINE_NUMBERS];
 /// What the library says of a list.
 enum Answer {
     /// A value for each variable, and its least and greatest.
-    Yes { model: Vec<i64>, bounds: Vec<i64> },
+    Yes { model: Vec<i32>, bounds: Vec<i64> },
     /// The clash: for each step its line, and the line's identifier.
     No { steps: Vec<(u32, u32)> },
     /// Why there is no answer, and the place.
