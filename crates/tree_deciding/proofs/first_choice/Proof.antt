@@ -51,7 +51,7 @@ module _ (rooted : tie.After-node) where
   abbrev begin : tie.Start
   begin = start (seen listed)
 
-  read-is : validTree (begin .args .tree .now) (lineCount (begin .args .list .now)) ≡ Read _
+  read-is : validTree (begin .args .tree .now) (lineCount (begin .args .list .now)) ≡ Read (rooted .node .given .0 .0)
   read-is = sym (rooted .before .before .valid-tree .ensures) ∙ rooted .node .given .1
 
 returns-2 : tie.Need-returns-2
