@@ -15,14 +15,12 @@ use Rattle.lines.specs.Line.{lineNumbers, numbersOf, lineAt, lineCount, linesOf
 use Rattle.lines.specs.Refusal.{lineTests, linesValidity, validityOf}
 use Rattle.steps.specs.Table.{entry, digit}
 use Rattle.steps.specs.Step.{stepOf, stepsOf}
-use Rattle.check_soundness.specs.Head.{stepsIn}
 use Rattle.theory_walks.specs.Negative.{noNegative}
 use Rattle.theory_bounds.specs.Verdict.{hasFalse, firstFalse, consistentHalves, verdictOf, dueKind}
 use Rattle.decide_buffers.specs.Room.{Lent, lengthsOf, ModelLent, modelLengthsOf, workRoom, modelRooms, firstShort, roomsValidity, decideValidity}
-use Rattle.decide_identifiers.specs.Identifiers.{identifiersOf}
 use Rattle.decide.specs.declared.Answer.{Answer}
 use Rattle.decide.specs.declared.Answer.the-variants as decide
-use Rattle.decide.specs.Decided.{decideAnswer, answerFor, ok-decide, OnNo, Leaves}
+use Rattle.decide.specs.Decided.{decideAnswer, answerFor, OnNo, Leaves}
 use Rattle.tree_reading.specs.Tree.{Kind, all, any, Row as Tree, none, line, node, treeNumbers, maxDepth, levels, Fits}
 use Rattle.tree_reading.specs.Choices.{maxChoices, noChildren, joined, unitOf, count, oversOf}
 use Rattle.tree_reading.specs.declared.TreeRefusal.the-variants.{TooManyChoices, Malformed}
@@ -31,15 +29,17 @@ use Rattle.tree_reading.specs.declared.Reading.the-variants as reading
 use Rattle.tree_reading.specs.Reading.{lineHead, childrenHead, headOf, childrenOf, nodeOf, wholeTree, rootIsLine, treeOf, fewChoices, validTree}
 use Rattle.tree_reading.specs.Taken.{tree-in}
 use Rattle.tree_choices.specs.Choosing.{marked, choiceOf}
+use Rattle.tree_choices.specs.Chosen.{choice-read}
 use Rattle.tree_lists.specs.Masked.{maskedNumber, masked}
-use Rattle.tree_lists.specs.Condition.{flagsOf, choiceFlags, choiceList, choice-valid}
+use Rattle.tree_lists.specs.Condition.{flagsOf, choiceList}
+use Rattle.tree_lists.specs.Numbered.{numbered-list}
 use Rattle.tree_answers.specs.First.{choiceVerdict, firstChoice}
 use Rattle.tree_answers.specs.Picked.{choiceAt}
 use Rattle.tree_deciding.specs.declared.ConditionRefusal.the-variants as refusal
 use Rattle.tree_deciding.specs.declared.TreeAnswer.{TreeAnswer}
 use Rattle.tree_deciding.specs.declared.TreeAnswer.the-variants.{Yes, No, Refused}
 use Rattle.tree_deciding.specs.Answer.{TreeValidity, valid, refused, _orNext_, ofDeciding, ofTree, choiceValidity, firstValidity, unlessRefused, treeOver, choiceFound, firstFound, choiceAnswer, firstAnswer, ChoiceNo, ChoiceLeaves, modelLeft, workLeft, DecidesChoice, AnswersFirst}
-use Rattle.tree_deciding.specs.Identifiers.{identifiers-picked}
+use Rattle.tree_deciding.specs.Choice.{asTreeAnswer, listed-decides, decides}
 use Rattle.tree_deciding.specs.Meaning.{choice-taken}
 use Rattle.demands.specs.DecideVersions.{right, right-keeps, roomWith}
 use Rattle.demands.specs.TreeCalls.{choice-answers}
@@ -113,32 +113,32 @@ pub right-first-keeps : KeepsFirst rightFirst
 unfolding rightFirst firstAnswer firstValidity
 right-first-keeps n L s b = record { is = refl; model = refl; work = refl }
 
--- what deciding a choice's list leaves, where nothing is refused
-left : (n : ℕ) (L : List ℤ) (s : List ℕ) (k : ℕ) (b : Lent) → choiceValidity n L s k (lengthsOf b) ≡ valid → (d : Bool) → choiceVerdict n L (treeOver L s) k ≡ d
-    → Leaves n (choiceList L (treeOver L s) k) (cond d decide.Yes decide.No) b (right n (choiceList L (treeOver L s) k) b .after)
-unfolding choiceAnswer decideAnswer
-left n L s k b p d e =
-    let K : List ℤ = choiceList L (treeOver L s) k in
-    let taken = choice-taken n L s k b (λ r q. choice-answers k (choiceVerdict n L (treeOver L s) k) r (sym (ap (λ (v : TreeValidity). unlessRefused v (choiceFound k (choiceVerdict n L (treeOver L s) k))) p) ∙ q)) in
-    let room = ok-decide n K b (record { list = choice-valid n L (treeOver L s) k (taken .list); rooms = taken .rooms }) in
-    let answer : answerFor n K b ≡ cond d decide.Yes decide.No = rw (room, e) in
-    subst (λ (x : Answer). Leaves n K x b (right n K b .after)) (right-keeps n K b .is ∙ answer) (right-keeps n K b .leaves)
-
-identified : (L : List ℤ) (t : Tree) (k : ℕ) {n : ℕ} {b a : Lent} (w : OnNo n (choiceList L t k) b a)
-    → a .identifiers ≡ identifiersOf L (w .numbers) ++ drop (stepsIn (w .numbers)) (b .identifiers)
-unfolding choiceList
-identified L t k {b = b} w =
-    w .identifiers ∙ ap (λ (I : List ℕ). I ++ drop (stepsIn (w .numbers)) (b .identifiers)) (identifiers-picked (choiceFlags L t k) L (w .numbers) (w .due .refutes))
+-- deciding a choice's list as deciding is promised keeps the promise of the choice
+choice-kept : (n : ℕ) (L : List ℤ) (s : List ℕ) (k : ℕ) (b : Lent) → choiceValidity n L s k (lengthsOf b) ≡ valid
+    → DecidesChoice n L s k (asTreeAnswer k (right n (choiceList L (treeOver L s) k) b .answer)) b (right n (choiceList L (treeOver L s) k) b .after)
+unfolding choiceAnswer
+choice-kept n L s k b p =
+    let found : TreeAnswer = choiceFound k (choiceVerdict n L (treeOver L s) k) in
+    let t = choice-taken n L s k b (λ r e. choice-answers k (choiceVerdict n L (treeOver L s) k) r (sym (ap (λ (v : TreeValidity). unlessRefused v found) p) ∙ e)) in
+    let read = choice-read s (lineCount L) k (t .root) (t .read) in
+    let listed = listed-decides (sym (numbered-list s L (t .root) (read .0) k (read .1))) (right-keeps n (choiceList L (treeOver L s) k) b) refl in
+    decides n L s k b (t .list) (t .root) (t .read) listed
 
 pub right-choice-keeps : Keeps rightChoice
 unfolding rightChoice choiceAnswer
 right-choice-keeps n L s k b = record { is = refl; leaves = go (choiceValidity n L s k (lengthsOf b)) refl (choiceVerdict n L (treeOver L s) k) refl }
   where
+    left : choiceValidity n L s k (lengthsOf b) ≡ valid → (d : Bool) → choiceVerdict n L (treeOver L s) k ≡ d → ChoiceLeaves n L (treeOver L s) k (choiceFound k d) b (right n (choiceList L (treeOver L s) k) b .after)
+    left p d e =
+        let kept = choice-kept n L s k b p in
+        let found : choiceAnswer n L s k (lengthsOf b) ≡ choiceFound k d = rw (p, e) in
+        subst (λ (x : TreeAnswer). ChoiceLeaves n L (treeOver L s) k x b (right n (choiceList L (treeOver L s) k) b .after)) (kept .is ∙ found) (kept .leaves)
+
     go : (v : TreeValidity) → choiceValidity n L s k (lengthsOf b) ≡ v → (d : Bool) → choiceVerdict n L (treeOver L s) k ≡ d
         → ChoiceLeaves n L (treeOver L s) k (unlessRefused v (choiceFound k d)) b (leftBy (unlessRefused v (choiceFound k d)) b (right n (choiceList L (treeOver L s) k) b .after))
     go (refused r) p d e = refl
-    go valid p true e = left n L s k b p true e
-    go valid p false e = let w = left n L s k b p false e in record { leaves = w; identifiers = identified L (treeOver L s) k w }
+    go valid p true e = left p true e
+    go valid p false e = left p false e
 
 -- ---- the inputs: no variables, buffers of exactly the room needed, and lines that say 0 ≤ 0 or 0 ≤ -1
 abbrev holds : Line
@@ -197,6 +197,12 @@ first-said : (f : Reader) (x : ℕ → List ℤ → Tree → TreeAnswer) → Kee
 unfolding firstAnswer firstValidity
 first-said f x keeps n L t b same = subst (λ (u : Tree). saying f x n L u (treeNumbers t) b ≡ saying rightly firstOf n L u (treeNumbers t) b) same (keeps n L (treeNumbers t) b .is)
 
+-- the choices of a node, a child's joined so with those of the children after it
+abbrev choicesBy : (Kind → List (List ℕ) → List (List ℕ) → List (List ℕ)) → Kind → Tree → List (List ℕ)
+choicesBy join k none = noChildren k
+choicesBy join k (line i r) = join k ((i ∷ []) ∷ []) (choicesBy join k r)
+choicesBy join k (node l c r) = join k (choicesBy join l c) (choicesBy join k r)
+
 -- ---- the last child changes slowest
 abbrev slowPairs : List (List ℕ) → List (List ℕ) → List (List ℕ)
 slowPairs xs [] = []
@@ -204,15 +210,10 @@ slowPairs xs (y ∷ ys) = map (λ (x : List ℕ). x ++ y) xs ++ slowPairs xs ys
 
 abbrev slowJoined : Kind → List (List ℕ) → List (List ℕ) → List (List ℕ)
 slowJoined all xs ys = slowPairs xs ys
-slowJoined any xs ys = xs ++ ys
-
-abbrev slowChoices : Kind → Tree → List (List ℕ)
-slowChoices k none = noChildren k
-slowChoices k (line i r) = slowJoined k ((i ∷ []) ∷ []) (slowChoices k r)
-slowChoices k (node l c r) = slowJoined k (slowChoices l c) (slowChoices k r)
+slowJoined any xs ys = joined any xs ys
 
 abbrev slowly : Listing
-slowly L t k = maskedBy L (getD (slowChoices all t) k [])
+slowly L t k = maskedBy L (getD (choicesBy slowJoined all t) k [])
 
 pub lastChildSlowest : Version
 lastChildSlowest = deciding slowly slowly
@@ -286,16 +287,11 @@ abbrev firstBranch : Kind → List (List ℕ) → List (List ℕ) → List (List
 firstBranch all xs ys = joined all xs ys
 firstBranch any xs ys = xs
 
-abbrev fewerChoices : Kind → Tree → List (List ℕ)
-fewerChoices k none = noChildren k
-fewerChoices k (line i r) = firstBranch k ((i ∷ []) ∷ []) (fewerChoices k r)
-fewerChoices k (node l c r) = firstBranch k (fewerChoices l c) (fewerChoices k r)
-
 abbrev firstAmong : (Tree → List (List ℕ)) → ℕ → List ℤ → Tree → TreeAnswer
 firstAmong f n L t = firstFound (length (f t)) (lowest (λ k. verdictOf n (linesOf (maskedBy L (getD (f t) k [])))) 0 (length (f t)))
 
 pub skipsBranch : FirstVersion
-skipsBranch = looking rightly (firstAmong (fewerChoices all))
+skipsBranch = looking rightly (firstAmong (choicesBy firstBranch all))
 
 -- ---- the first choice always
 abbrev always : ℕ → List ℤ → Tree → TreeAnswer
@@ -318,7 +314,7 @@ one-pair-read = reads firstFails onePair ((refl, (omega arith, (omega arith, tt)
 pub skips-branch-breaks : KeepsFirst skipsBranch → ⊥
 unfolding skipsBranch numbersOf lineNumbers lineAt validityOf linesValidity lineTests validTree treeOf rootIsLine nodeOf headOf lineHead childrenHead childrenOf
     choiceList maskedNumber marked isFalse verdictOf hasFalse noNegative consistentHalves entry digit stepOf stepsOf
-skips-branch-breaks keeps = let e : No ≡ Yes 1 = first-said rightly (firstAmong (fewerChoices all)) keeps 0 firstFails onePair firstRoom one-pair-read in never (cc)
+skips-branch-breaks keeps = let e : No ≡ Yes 1 = first-said rightly (firstAmong (choicesBy firstBranch all)) keeps 0 firstFails onePair firstRoom one-pair-read in never (cc)
 
 pub always-first-breaks : KeepsFirst alwaysFirst → ⊥
 unfolding alwaysFirst numbersOf lineNumbers lineAt validityOf linesValidity lineTests validTree treeOf rootIsLine nodeOf headOf lineHead childrenHead childrenOf

@@ -10,7 +10,7 @@
 use mathlib.Core.Path.{_≡_, refl, sym, ap, ap₂, subst, _∙_}
 use mathlib.Core.Logic.{_↔_, _⊎_, inl, inr, ⊎-elim}
 use mathlib.Core.Bool.{Bool, true, false}
-use mathlib.Core.List.{List, [], _∷_, _++_}
+use mathlib.Core.List.{List, [], _∷_, _++_, append-nil}
 use Prim.Native.Nat.{ℕ, _+_, _*_, _<_, _≤_}
 use native.Mathlib.Omega.{arith}
 use lib.IntN.{ℤ, pos}
@@ -318,15 +318,15 @@ right-choice n L t k c =
 
 -- ---- demand 3 of choices
 
--- One claim over any two calls that were not refused, on a choice of a list and on a choice, of the same list (M is empty) or of one lengthened at its end, that
--- picks these lines and perhaps others. (That the others have higher numbers than all of these is not needed.)
-pub record ChoiceUnlearned (n : ℕ) (L M : List ℤ) (t u : Tree) (k j : ℕ) (c : ChoiceCall n L t k) (d : ChoiceCall n (L ++ M) u j) : Type 0 where
+-- One claim over any two calls that were not refused, on a choice of a list L and on a choice of K, which is L or L lengthened at its end, that picks these lines and
+-- perhaps others. (That the others have higher numbers than all of these is not needed.)
+pub record ChoiceUnlearned (n : ℕ) (L K : List ℤ) (t u : Tree) (k j : ℕ) (c : ChoiceCall n L t k) (d : ChoiceCall n K u j) : Type 0 where
   -- A no hands over a refutation of the due kind, and the checker accepts it against the whole list.
   pub shown : c .answer ≡ No → ShowsChoice n L (choiceAt t k) (refutationIn (c .after))
   -- The answer is no exactly if some refutation counts against it, whoever proposed it.
   pub no-exactly-if-refuted : (c .answer ≡ No) ↔ ((R : List ℕ) × CountsAgainst n L (choiceAt t k) R)
   -- What counts against it counts against the other, unchanged.
-  pub counts-stays : (R : List ℕ) → CountsAgainst n L (choiceAt t k) R → CountsAgainst n (L ++ M) (choiceAt u j) R
+  pub counts-stays : (R : List ℕ) → CountsAgainst n L (choiceAt t k) R → CountsAgainst n K (choiceAt u j) R
   -- A no stays a no; and if the longer is a yes, so is the shorter.
   pub no-stays-no : c .answer ≡ No → d .answer ≡ No
   pub yes-was-yes : d .answer ≡ Yes j → c .answer ≡ Yes k
@@ -337,14 +337,14 @@ pub record ChoiceUnlearned (n : ℕ) (L M : List ℤ) (t u : Tree) (k j : ℕ) (
       → getD (boundsIn n (d .after)) (2 * x + 1) (pos 0) ⩽ getD (boundsIn n (c .after)) (2 * x + 1) (pos 0)
   -- Two events in one group stay in one group, equal ones equal and mirrored ones mirrored.
   pub groups : c .answer ≡ Yes k → d .answer ≡ Yes j → (x y : ℕ) → x < n → y < n
-      → SameVariable (groupsIn n (c .after)) x y → GoOnSharing (pickedList (L ++ M) (choiceAt u j)) (groupsIn n (c .after)) (groupsIn n (d .after)) x y
+      → SameVariable (groupsIn n (c .after)) x y → GoOnSharing (pickedList K (choiceAt u j)) (groupsIn n (c .after)) (groupsIn n (d .after)) x y
   -- The model is the same exactly if the shorter list's model meets every added line.
   pub model : c .answer ≡ Yes k → d .answer ≡ Yes j
-      → (modelIn n (d .after) ≡ modelIn n (c .after)) ↔ ((i : ℕ) → Added L M (choiceAt t k) (choiceAt u j) i → Meets (assignmentOf (modelIn n (c .after))) (lineAt (L ++ M) i))
+      → (modelIn n (d .after) ≡ modelIn n (c .after)) ↔ ((i : ℕ) → Added L K (choiceAt t k) (choiceAt u j) i → Meets (assignmentOf (modelIn n (c .after))) (lineAt K i))
 
-pub choice-unlearned : (n : ℕ) (L M : List ℤ) (t u : Tree) (k j : ℕ) (c : ChoiceCall n L t k) (d : ChoiceCall n (L ++ M) u j)
-    → PicksThese L M (choiceAt t k) (choiceAt u j) → ChoiceUnlearned n L M t u k j c d
-choice-unlearned n L M t u k j c d these =
+lengthened : (n : ℕ) (L M : List ℤ) (t u : Tree) (k j : ℕ) (c : ChoiceCall n L t k) (d : ChoiceCall n (L ++ M) u j)
+    → PicksThese L (L ++ M) (choiceAt t k) (choiceAt u j) → ChoiceUnlearned n L (L ++ M) t u k j c d
+lengthened n L M t u k j c d these =
     let K = choiceList L t k in
     let N = choiceList (L ++ M) u j in
     let v = choice-list c in
@@ -384,6 +384,16 @@ choice-unlearned n L M t u k j c d these =
         → A ⊎ (AlwaysZero (linesOf (pickedList (L ++ M) (choiceAt u j))) x × AlwaysZero (linesOf (pickedList (L ++ M) (choiceAt u j))) y)
     zero-too (inl a) = inl a
     zero-too (inr z) = inr ((λ s h. z .0 s (solutions s .1 h)), (λ s h. z .1 s (solutions s .1 h)))
+
+pub choice-unlearned : (n : ℕ) (L M K : List ℤ) → K ≡ L ++ M → (t u : Tree) (k j : ℕ) (c : ChoiceCall n L t k) (d : ChoiceCall n K u j)
+    → PicksThese L K (choiceAt t k) (choiceAt u j) → ChoiceUnlearned n L K t u k j c d
+choice-unlearned n L M K e t u k j c =
+    subst (λ (N : List ℤ). (d : ChoiceCall n N u j) → PicksThese L N (choiceAt t k) (choiceAt u j) → ChoiceUnlearned n L N t u k j c d) (sym e) (lengthened n L M t u k j c)
+
+-- So of two choices of one list, of the same tree or of two.
+pub choice-unlearned-in-one-list : (n : ℕ) (L : List ℤ) (t u : Tree) (k j : ℕ) (c : ChoiceCall n L t k) (d : ChoiceCall n L u j)
+    → PicksThese L L (choiceAt t k) (choiceAt u j) → ChoiceUnlearned n L L t u k j c d
+choice-unlearned-in-one-list n L = choice-unlearned n L [] L (sym (append-nil L))
 
 -- ---- the first choice with a solution
 

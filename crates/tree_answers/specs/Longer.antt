@@ -26,16 +26,16 @@ use Rattle.tree_lists.specs.More.{more-entails, more-accepts}
 use Rattle.tree_lists.specs.Condition.{choiceFlags, choiceList, picked-exactly, choice-valid}
 use Rattle.tree_answers.specs.Picked.{choiceAt, Picks, isIn, in-exactly, solves-picked, StepOf, choice-solutions, choice-accepted}
 
--- Of the lines of L the second picks all that the first picks; M is what L is lengthened by.
-abbrev pub PicksThese : (L M : List ℤ) (few many : List ℕ) → Type 0
-PicksThese L M few many = (i : ℕ) → Picks L few i → Picks (L ++ M) many i
+-- of K, which is L or begins with all its lines, the second picks all that the first picks of L
+abbrev pub PicksThese : (L K : List ℤ) (few many : List ℕ) → Type 0
+PicksThese L K few many = (i : ℕ) → Picks L few i → Picks K many i
 
 -- line i is added: the second picks it, and the first does not
-pub record Added (L M : List ℤ) (few many : List ℕ) (i : ℕ) : Type 0 where
-  pub is-picked : Picks (L ++ M) many i
+pub record Added (L K : List ℤ) (few many : List ℕ) (i : ℕ) : Type 0 where
+  pub is-picked : Picks K many i
   pub is-new : Picks L few i → ⊥
 
-module _ (L M : List ℤ) (whole : length L % lineSize ≡ 0) (t u : Row) (k j : ℕ) (these : PicksThese L M (choiceAt t k) (choiceAt u j)) where
+module _ (L M : List ℤ) (whole : length L % lineSize ≡ 0) (t u : Row) (k j : ℕ) (these : PicksThese L (L ++ M) (choiceAt t k) (choiceAt u j)) where
   flags-more : (i : ℕ) → i < lineCount L → isPicked (choiceFlags L t k) i ≡ true → isPicked (choiceFlags (L ++ M) u j) i ≡ true
   flags-more i l e = let p = these i (l, picked-exactly L t k i l .0 e) in picked-exactly (L ++ M) u j i (p .0) .1 (p .1)
 
@@ -54,7 +54,7 @@ module _ (L M : List ℤ) (whole : length L % lineSize ≡ 0) (t u : Row) (k j :
 
   -- what solves the first's list solves the second's exactly if it meets each line that is added
   pub meets-added : (s : Assignment) → Solves (linesOf (choiceList L t k)) s
-      → Solves (linesOf (choiceList (L ++ M) u j)) s ↔ ((i : ℕ) → Added L M (choiceAt t k) (choiceAt u j) i → Meets s (lineAt (L ++ M) i))
+      → Solves (linesOf (choiceList (L ++ M) u j)) s ↔ ((i : ℕ) → Added L (L ++ M) (choiceAt t k) (choiceAt u j) i → Meets s (lineAt (L ++ M) i))
   meets-added s h =
       let same = choice-solutions (L ++ M) u j s in
       let all = solves-picked (L ++ M) (choiceAt u j) s in (
@@ -66,7 +66,7 @@ module _ (L M : List ℤ) (whole : length L % lineSize ≡ 0) (t u : Row) (k j :
       met = solves-picked L (choiceAt t k) s .0 (choice-solutions L t k s .0 h)
 
       go : (i : ℕ) → Picks (L ++ M) (choiceAt u j) i → Dec (i < lineCount L) → (b : Bool) → isIn i (choiceAt t k) ≡ b
-          → (Added L M (choiceAt t k) (choiceAt u j) i → Meets s (lineAt (L ++ M) i)) → Meets s (lineAt (L ++ M) i)
+          → (Added L (L ++ M) (choiceAt t k) (choiceAt u j) i → Meets s (lineAt (L ++ M) i)) → Meets s (lineAt (L ++ M) i)
       go i p (yes l) true e f = subst (Meets s) (sym (line-left L M whole i l)) (met i (l, in-exactly i (choiceAt t k) .0 e))
       go i p (yes l) false e f = f (record { is-picked = p; is-new = λ q. never (cc (sym (in-exactly i (choiceAt t k) .1 (q .1)), e)) })
       go i p (no l) b e f = f (record { is-picked = p; is-new = λ q. absurd (l (q .0)) })
