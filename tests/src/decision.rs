@@ -135,12 +135,17 @@ impl Call<'_> {
     }
 }
 
+/// A model's values, as the checks and other calls take them.
+pub fn widened(values: &[i32]) -> Vec<i64> {
+    values.iter().copied().map(i64::from).collect()
+}
+
 /// Reads a yes, and lets `allowed` have what may be written with it.
 fn yes(n: u64, list: &[i32], buffers: &Buffers, allowed: &mut Buffers) -> Decision {
     let [model, bounds, groups, .., work] = needed(n);
     let values = &buffers.model.lent()[..model];
     let solved = Solved {
-        model: values.iter().copied().map(i64::from).collect(),
+        model: widened(values),
         bounds: buffers.bounds.lent()[..bounds].to_vec(),
         groups: groups_of(&buffers.groups.lent()[..groups]),
     };

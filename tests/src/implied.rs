@@ -4,7 +4,7 @@
 use crate::buffers::{needed, Buffers};
 use crate::bytes;
 use crate::chance::Chance;
-use crate::decision::Verdict;
+use crate::decision::{widened, Verdict};
 use crate::limits::{LINE_NUMBERS, NO, UNSOLVABLE};
 use crate::lines::{line, Line, BOUND, X, Y};
 use crate::make::left_side;
@@ -138,7 +138,7 @@ pub fn implied_in(
         (None, _) if result == NO as i64 => {
             let values = &buffers.model.lent()[..room];
             allowed.model.lent_mut()[..room].copy_from_slice(values);
-            let model: Vec<i64> = values.iter().copied().map(i64::from).collect();
+            let model = widened(values);
             breaks(n, list, line, &model);
             Implied::No(model)
         }

@@ -3,7 +3,7 @@
 
 use crate::buffers::{Buffers, Lengths};
 use crate::chance::Chance;
-use crate::decision::{Call, Decision, Verdict};
+use crate::decision::{widened, Call, Decision, Verdict};
 use crate::implied::rooms;
 use crate::library::ChoiceFound;
 use crate::limits::{LINE_NUMBERS, NO};
@@ -17,7 +17,7 @@ const REFUSED: i64 = -1;
 /// The first choice of a tree that can be met, and its model.
 #[derive(Clone, Debug, PartialEq, Eq)]
 pub enum First {
-    Yes(usize, Vec<i32>),
+    Yes(usize, Vec<i64>),
     No,
     Refused(u8, usize),
 }
@@ -90,9 +90,9 @@ impl Asked<'_> {
             None => {
                 allowed.work.lent_mut()[..work_room].fill(0);
                 assert_eq!((found.refusal, found.place), (0, 0), "{self:?}");
-                let model = buffers.model.lent()[..room].to_vec();
+                let model = &buffers.model.lent()[..room];
                 match found.result {
-                    0 => First::Yes(found.choice as usize, model),
+                    0 => First::Yes(found.choice as usize, widened(model)),
                     result => {
                         assert_eq!((result, found.choice), (NO as i64, 0), "{self:?}");
                         First::No
@@ -100,7 +100,8 @@ impl Asked<'_> {
                 }
             }
         };
-        if let First::Yes(_, model) = &first {
+        if let First::Yes(..) = &first {
+            let model = &buffers.model.lent()[..room];
             allowed.model.lent_mut()[..room].copy_from_slice(model);
         }
         assert!(buffers == allowed, "the buffers or around\n{self:?}");
