@@ -296,7 +296,7 @@ utvpi_choice decide_choice(const struct list *list, uint64_t choice, int64_t *wo
 }
 
 /* Whether these values are those of the last yes. */
-bool is_last_model(const struct list *list, const int64_t *values)
+bool is_last_model(const struct list *list, const int32_t *values)
 {
     return memcmp(values, model, (size_t)list->variables * sizeof *model) == 0;
 }

@@ -332,7 +332,7 @@ int64_t add_to_session(uint64_t n, int64_t *state, const int32_t line[UTVPI_LINE
                        int64_t *work);
 int give_answer(const struct list *list, uint64_t n, int64_t result, enum manner manner);
 utvpi_choice decide_choice(const struct list *list, uint64_t choice, int64_t *work);
-bool is_last_model(const struct list *list, const int64_t *values);
+bool is_last_model(const struct list *list, const int32_t *values);
 uint32_t copy_last_no(uint32_t *to, uint32_t *identifiers_to);
 
 /* session.c: rules from standard input, one at a time. */

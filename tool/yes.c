@@ -192,7 +192,7 @@ static void print_table(const struct list *list, const int32_t *model, const int
     print_groups(list, groups, some_shared, some_opposite);
 }
 
-void print_yes(const struct list *list, const int64_t *model, const int64_t *bounds,
+void print_yes(const struct list *list, const int32_t *model, const int64_t *bounds,
                const uint32_t *groups)
 {
     if (list->tree.either_line > 0) {
