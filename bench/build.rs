@@ -2,7 +2,7 @@
 //! the numbers of a line, a no and the rooms of the buffers and of a session's state, from
 //! the header, by the same code as the tests.
 
-#[path = "../tests/header.rs"]
+#[path = "../examples/rust/header.rs"]
 mod header;
 
 /// What the header defines, by its names without UTVPI_.

@@ -89,38 +89,6 @@ static const uint32_t refutation[NUMBERS] = {2, 2, 2, 0, 5, 2, 7};
 #define AS_TEXT(number) AS_WRITTEN(number)
 #define AS_WRITTEN(number) #number
 
-/* What a refusal means and what to do about it. */
-static const char *advice(int number)
-{
-    switch (number) {
-    case UTVPI_TOO_MANY_VARIABLES:
-        return "There are more than " AS_TEXT(UTVPI_MOST_VARIABLES) " variables: use fewer.";
-    case UTVPI_BROKEN_LIST_LENGTH:
-        return "The list's bytes are not whole lines: look for a cut.";
-    case UTVPI_TOO_MANY_LINES:
-        return "There are more than " AS_TEXT(UTVPI_MOST_LINES) " lines: leave some out.";
-    case UTVPI_BAD_COEFFICIENT:
-        return "This line has a coefficient other than -1, 0 and 1: correct it.";
-    case UTVPI_BAD_VARIABLE:
-        return "This line names a variable that is not there: correct its number.";
-    case UTVPI_MISPLACED_COEFFICIENT:
-        return "This line's only variable stands in the second place: write it in the first.";
-    case UTVPI_BAD_BOUND:
-        return "This line's bound is beyond 1,000,000: choose a coarser unit.";
-    case UTVPI_BAD_IDENTIFIER:
-        return "This line's identifier is not from 0 to " AS_TEXT(UTVPI_MOST_IDENTIFIER)
-               ": give the message's own.";
-    case UTVPI_BAD_MODEL_LENGTH:
-        return "The model has not one value for each variable: complete it.";
-    case UTVPI_BAD_MODEL_VALUE:
-        return "This value of the model is too large: choose a nearer one.";
-    case UTVPI_LONG_REFUTATION:
-        return "The refutation is too long: look for a shorter one.";
-    default:
-        return "This number is not known.";
-    }
-}
-
 /* What is wrong where a refutation breaks. */
 static const char *place_in_words(int place)
 {
@@ -157,7 +125,7 @@ static void tell(enum proposal proposal, const char *asked, int64_t result, int6
     } else {
         int number = UTVPI_REFUSAL_NUMBER(result);
         printf("  Refused, with number %d at place %d.\n", number, UTVPI_REFUSAL_PLACE(result));
-        printf("  %s\n", advice(number));
+        printf("  In words: %s.\n", utvpi_refusal_text(number));
     }
     if (result == expected) {
         printf("%s", why);

@@ -1,12 +1,16 @@
 /* The C interface: a function that decides a list, and two that check a proposed
  * model of a list, and a proposed refutation of a list; a check of a refutation that
- * arrives in pieces, three functions for sessions, in which lines come one at a time,
- * two that say what a list implies, about two variables or of one line more, two that
- * write a model in seconds, and two for lists in files. A program links one file,
- * libutvpi.a, which ./build-library makes in target/lib/.
+ * arrives in pieces, one that finds the shorter of two refutations, three functions for
+ * sessions, in which lines come one at a time, two that say what a list implies, about
+ * two variables or of one line more, two for conditions with alternatives, two that write
+ * a model in seconds, two for lists in files, and one that puts a refusal in words. A
+ * program links one file, libutvpi.a, which ./build-library makes in target/lib/; make
+ * install puts it in place, with libutvpi.so, the manual pages and what pkg-config asks
+ * for.
  *
- * Deciding, sessions, what a list implies and seconds take and write numbers, as the
- * machine holds them. The two checks take bytes, the lowest byte of each number first.
+ * Deciding, sessions, what a list implies, alternatives, the shorter of two refutations
+ * and seconds take and write numbers, as the machine holds them. The two checks take
+ * bytes, the lowest byte of each number first.
  *
  * A LIST has n variables, numbered 0 to n-1, each standing for a whole number,
  * and lines of the form  a*x + b*y <= d.  A line is UTVPI_LINE_NUMBERS signed
@@ -69,8 +73,13 @@
 extern "C" {
 #endif
 
-/* Deciding, checking, sessions and what a list implies return one number; of two
- * variables it is the result of a struct:
+/* The version of this header and of the library that belongs to it. The first number is
+ * raised where a program that was compiled with the header before has to be compiled
+ * again or changed; it is the number behind libutvpi.so, too. */
+#define UTVPI_VERSION "1.0.0"
+
+/* Trees, seconds and files return structs of their own. Deciding, checking, sessions and
+ * what a list implies return one number; of two variables it is the result of a struct:
  *
  *     0                              yes; of starting a session, of withdrawing a line
  *                                    and of two variables, that it was done
@@ -104,6 +113,9 @@ extern "C" {
 /* The greatest bound of a line; the least is its opposite. */
 #define UTVPI_MOST_BOUND 1000000
 
+/* The greatest value of a model that is checked; the least is its opposite. */
+#define UTVPI_MOST_VALUE 1000000000000
+
 /* The greatest identifier of a message: 29 bits. */
 #define UTVPI_MOST_IDENTIFIER 536870911
 
@@ -125,6 +137,16 @@ extern "C" {
 #define UTVPI_IDENTIFIERS_ROOM(n) ((size_t)4 + (size_t)4 * (size_t)(n))
 #define UTVPI_WORK_ROOM(n) \
     ((size_t)16 * (size_t)(n) * (size_t)(n) + (size_t)64 * (size_t)(n) + (size_t)64)
+
+/* The same in bytes, for malloc: the rooms above and the lengths that the calls ask for
+ * are in numbers. For n = 0 the first three are 0: there malloc may give NULL, which is
+ * no lack of memory. */
+#define UTVPI_MODEL_BYTES(n) (sizeof(int32_t) * UTVPI_MODEL_ROOM(n))
+#define UTVPI_BOUNDS_BYTES(n) (sizeof(int64_t) * UTVPI_BOUNDS_ROOM(n))
+#define UTVPI_GROUPS_BYTES(n) (sizeof(uint32_t) * UTVPI_GROUPS_ROOM(n))
+#define UTVPI_REFUTATION_BYTES(n) (sizeof(uint32_t) * UTVPI_REFUTATION_ROOM(n))
+#define UTVPI_IDENTIFIERS_BYTES(n) (sizeof(uint32_t) * UTVPI_IDENTIFIERS_ROOM(n))
+#define UTVPI_WORK_BYTES(n) (sizeof(int64_t) * UTVPI_WORK_ROOM(n))
 
 /* The most stack that a call takes, in bytes. utvpi_check_model,
  * utvpi_check_refutation and utvpi_read_list hold the longest list there, however
@@ -165,10 +187,12 @@ extern "C" {
  *
  *     model    The variables in the order of their numbers. Each has the value
  *              nearest 0 among those that it can have beside the values chosen
- *              before it.
+ *              before it. No value is further than n * UTVPI_MOST_BOUND from 0, so
+ *              that 32 bits hold it.
  *     bounds   For variable v, bounds[2*v] is the least and bounds[2*v + 1] the
  *              greatest value that it has among all the ways to meet the list.
- *              Where there is none, UTVPI_NO_LEAST and UTVPI_NO_GREATEST.
+ *              Where there is none, UTVPI_NO_LEAST and UTVPI_NO_GREATEST; one
+ *              that is there is no further than n * UTVPI_MOST_BOUND from 0.
  *     groups   For variable v, groups[2*v] is the lowest variable r with v = r
  *              in every way to meet the list, or v = -r in every one; v itself
  *              where there is no lower one. groups[2*v + 1] is the sign: 0 for
@@ -190,7 +214,7 @@ extern "C" {
  * On a yes and on a no, the first UTVPI_WORK_ROOM(n) numbers of the work area
  * are 0 after the call. On a refusal, every buffer is left as it was. */
 int64_t utvpi_decide(uint64_t n, const int32_t *list, size_t list_len,
-                     int64_t *model, size_t model_len, int64_t *bounds, size_t bounds_len,
+                     int32_t *model, size_t model_len, int64_t *bounds, size_t bounds_len,
                      uint32_t *groups, size_t groups_len,
                      uint32_t *refutation, size_t refutation_len,
                      uint32_t *identifiers, size_t identifiers_len,
@@ -202,7 +226,8 @@ int64_t utvpi_decide(uint64_t n, const int32_t *list, size_t list_len,
  * be called from several threads at once on the same bytes too. */
 
 /* Does this model meet every line of this list of n variables? Of a no, k is the
- * first line that it does not meet. */
+ * first line that it does not meet. A value has eight bytes here: those of a model that
+ * was written, which have four, are made int64_t first. */
 int64_t utvpi_check_model(uint64_t n, const uint8_t *list, size_t list_len,
                           const uint8_t *model, size_t model_len);
 
@@ -271,6 +296,34 @@ utvpi_progress utvpi_refutation_take(utvpi_progress kept, const int32_t *list, s
 int64_t utvpi_refutation_end(utvpi_progress kept, uint64_t n,
                              const int32_t *list, size_t list_len);
 
+/* THE SHORTER OF TWO REFUTATIONS. Which of two refutations of this list of n variables is
+ * accepted, as utvpi_check_refutation accepts it, and which of two that are is the shorter?
+ * Anybody may have proposed them. Each is lent with whatever lies behind it, such as the
+ * buffer that deciding wrote it to, whole: the first 3 + p + q numbers are the refutation,
+ * where p is its number at index 1 and q that at index 2, and only these are looked at. One
+ * that has fewer numbers is not accepted, and neither is one with 3 + p + q above
+ * UTVPI_MOST_REFUTATION, though what is lent may be longer than that.
+ *
+ * The shorter accepted one is handed back as a part of what was lent: which says of which
+ * of the two, and length how many numbers from its front, which is 3 + p + q. When they
+ * tie it is the first. Where neither is accepted, or the list is refused, which is
+ * UTVPI_SHORTER_NEITHER and length is 0; the checks say why. There is no refusal.
+ *
+ * List and refutations are numbers as the machine holds them, at the alignment of their
+ * types; lengths are in numbers. Nothing is written: the two may overlap, or be the same,
+ * and several threads may be lent the same numbers. */
+#define UTVPI_SHORTER_NEITHER 0
+#define UTVPI_SHORTER_FIRST 1
+#define UTVPI_SHORTER_SECOND 2
+
+typedef struct utvpi_part {
+    uint64_t which, length;
+} utvpi_part;
+
+utvpi_part utvpi_shorter(uint64_t n, const int32_t *list, size_t list_len,
+                         const uint32_t *first, size_t first_len,
+                         const uint32_t *second, size_t second_len);
+
 /* A SESSION takes the lines of a list one at a time, and decides all that it has each
  * time. It starts with n variables and no lines. What is kept between two calls is its
  * state, and nothing else: a lent buffer of signed 64-bit numbers, in which every line
@@ -288,7 +341,11 @@ int64_t utvpi_refutation_end(utvpi_progress kept, uint64_t n,
  *
  * The pointers are as for utvpi_decide: no two buffers may overlap. On a refusal the
  * state and every buffer are left as they were. */
-#define UTVPI_SESSION_ROOM(n) ((size_t)3 + (size_t)UTVPI_LINE_NUMBERS * UTVPI_MOST_LINES)
+#define UTVPI_SESSION_ROOM(n) \
+    ((size_t)0 * (size_t)(n) + (size_t)3 + (size_t)UTVPI_LINE_NUMBERS * UTVPI_MOST_LINES)
+
+/* The same in bytes, for malloc. */
+#define UTVPI_SESSION_BYTES(n) (sizeof(int64_t) * UTVPI_SESSION_ROOM(n))
 
 /* A line, by value. The head of this file says what its numbers are. */
 typedef struct utvpi_line {
@@ -312,7 +369,7 @@ int64_t utvpi_session_start(uint64_t n, int64_t *state, size_t state_len);
  * many lines there were before; as UTVPI_SHORT_OUTPUT and as UTVPI_SHORT_WORK_AREA, as
  * by utvpi_decide. */
 int64_t utvpi_session_add(int64_t *state, size_t state_len, utvpi_line line,
-                          int64_t *model, size_t model_len, int64_t *bounds, size_t bounds_len,
+                          int32_t *model, size_t model_len, int64_t *bounds, size_t bounds_len,
                           uint32_t *groups, size_t groups_len,
                           uint32_t *refutation, size_t refutation_len,
                           uint32_t *identifiers, size_t identifiers_len,
@@ -353,17 +410,99 @@ utvpi_pair utvpi_implied_pair(uint64_t n, const int32_t *list, size_t list_len,
 /* Does every way to meet the list meet this line, too? 0 for a yes. For a no the model is
  * written, as utvpi_decide would write it for the list with the opposite line behind it,
  * -a*x - b*y <= -d - 1, which may have one line more than UTVPI_MOST_LINES, and a bound
- * one beyond: it meets the list and breaks the line. The room of the model is
- * UTVPI_MODEL_ROOM(n). UTVPI_UNSOLVABLE where the list can't be met. Only a no writes the
- * model.
+ * one beyond: it meets the list and breaks the line, and no value is further than
+ * n * (UTVPI_MOST_BOUND + 1) from 0. The room of the model is UTVPI_MODEL_ROOM(n).
+ * UTVPI_UNSOLVABLE where the list can't be met. Only a no writes the model.
  *
  * It is refused, in this order: as utvpi_decide refuses the list; by the rules of a line,
  * with the number of lines in the list as the place; as UTVPI_SHORT_OUTPUT, place
  * UTVPI_OUTPUT_MODEL; as UTVPI_SHORT_WORK_AREA. */
 int64_t utvpi_implied_line(uint64_t n, const int32_t *list, size_t list_len, utvpi_line line,
-                           int64_t *model, size_t model_len, int64_t *work, size_t work_len);
+                           int32_t *model, size_t model_len, int64_t *work, size_t work_len);
 
-/* A MODEL IN SECONDS. A model counts ticks, of one clock or of several. Each count is
+/* ALTERNATIVES. A tree says which lines of a list are to be met: all of some, and any of
+ * others. It is a row of unsigned 32-bit numbers, two for each node, in reading order: a
+ * node, then its children from the first, each with all that is below it.
+ *
+ *     UTVPI_ALL_OF, a count       so many children, of which all are to hold: lines and
+ *                                 any-of nodes
+ *     UTVPI_ANY_OF, a count       so many children, of which one is to hold: lines and
+ *                                 all-of nodes
+ *     UTVPI_LEAF, a line number   this line of the list
+ *
+ * The first node is the root, an all-of at depth 1; each child is one deeper, lines too,
+ * and no node is deeper than UTVPI_MOST_DEPTH. A count may be 0: an all-of without
+ * children holds, and an any-of without any does not. For "line 0, and line 1 or both
+ * line 2 and line 3" the numbers are
+ *
+ *     1 2   3 0   2 2   3 1   1 2   3 2   3 3
+ *
+ * A CHOICE takes one child of each any-of that it comes to, and picks the lines that it
+ * comes to so. A line has one choice, an any-of has as many as its children together, and
+ * an all-of the product of its children's. No node has more than UTVPI_MOST_CHOICES. The
+ * choices of the root are numbered from 0: in an any-of those of earlier children come
+ * first, and in an all-of the last child changes fastest. In the example choice 0 picks
+ * the lines 0 and 1, and choice 1 the lines 0, 2 and 3.
+ *
+ * A line that is picked twice counts once. The lines that a choice picks keep their order
+ * and their numbers: its refutation takes steps of these lines alone, and
+ * utvpi_check_refutation accepts it against the whole list. */
+#define UTVPI_ALL_OF 1
+#define UTVPI_ANY_OF 2
+#define UTVPI_LEAF 3
+
+/* The greatest depth of a node, and the most choices of one. */
+#define UTVPI_MOST_DEPTH 8
+#define UTVPI_MOST_CHOICES 256
+
+/* What both calls return. The result is 0 for a yes, UTVPI_NO for a no, and -1 where there
+ * is no answer: then refusal is one of the numbers below, and place what the table says,
+ * for 40 to 42 an index into the tree, which may be large. Else these two are 0. choice is
+ * the number of the choice that was found or asked for; it is 0 on a refusal, and where
+ * none was found. UTVPI_IS_YES, UTVPI_IS_NO and UTVPI_IS_REFUSAL take the result; a
+ * refusal's number and place are not part of it. */
+typedef struct utvpi_choice {
+    int64_t result;
+    uint64_t refusal, place, choice;
+} utvpi_choice;
+
+/* Is there a choice of this tree whose lines can be met? On a yes, choice is the number of
+ * the first such choice, and the model is written, as utvpi_decide would write it for the
+ * lines that the choice picks. On a no none can be met, and the model is left as it was.
+ *
+ * Lengths are in numbers. The list and the tree are only read; the pointers are as for
+ * utvpi_decide, and so are the rooms of the model and of the work area, which is all zeros
+ * after a yes and after a no. Each choice is decided until one can be met, so that a call
+ * may take UTVPI_MOST_CHOICES times as long as deciding.
+ *
+ * It is refused, in this order: as utvpi_decide refuses the list; as UTVPI_BROKEN_TREE or
+ * UTVPI_TREE_TOO_DEEP, at the lowest index at fault, of both at the same one as
+ * UTVPI_TREE_TOO_DEEP; as UTVPI_TOO_MANY_CHOICES; as UTVPI_SHORT_OUTPUT, place
+ * UTVPI_OUTPUT_MODEL; as UTVPI_SHORT_WORK_AREA. A refusal leaves both buffers as they
+ * were. */
+utvpi_choice utvpi_tree_first(uint64_t n, const int32_t *list, size_t list_len,
+                              const uint32_t *tree, size_t tree_len,
+                              int32_t *model, size_t model_len, int64_t *work, size_t work_len);
+
+/* Can the lines of this choice be met? The answer, and what is left in the six buffers, is
+ * as utvpi_decide has it for the lines that the choice picks, with the numbers that they
+ * have in the whole list.
+ *
+ * It is refused, in this order: as by utvpi_tree_first up to UTVPI_TOO_MANY_CHOICES; as
+ * UTVPI_NO_SUCH_CHOICE; as UTVPI_SHORT_OUTPUT and as UTVPI_SHORT_WORK_AREA, as by
+ * utvpi_decide. So a caller who asks for 0, 1 and on until UTVPI_NO_SUCH_CHOICE has seen
+ * all choices. */
+utvpi_choice utvpi_tree_decide(uint64_t n, const int32_t *list, size_t list_len,
+                               const uint32_t *tree, size_t tree_len, uint64_t choice,
+                               int32_t *model, size_t model_len,
+                               int64_t *bounds, size_t bounds_len,
+                               uint32_t *groups, size_t groups_len,
+                               uint32_t *refutation, size_t refutation_len,
+                               uint32_t *identifiers, size_t identifiers_len,
+                               int64_t *work, size_t work_len);
+
+/* A MODEL IN SECONDS. A model counts ticks, of one clock or of several. A count is an
+ * int64_t, and may be larger than a value of a model, which is an int32_t. Each count is
  * written as seconds, a double: the count made a double, which is exact, as no count is
  * beyond UTVPI_MOST_COUNT, and then one multiplication or one division by the rule of
  * IEEE 754, as the clock's form says:
@@ -497,17 +636,22 @@ utvpi_file_written utvpi_write_list(uint64_t n, const int32_t *list, size_t list
  * implied. Starting a session gives 1, then 7; adding a line 7 for the state, 30, 3, then
  * for the new line 4, 5, 12, 6, 13, then 7 for the other buffers and 8; withdrawing one
  * 7, then 31. The place of a line that is handed over alone is the number of lines in the
- * list, or in the session. Seconds of one clock give 50, 51, 52; of a table of recorders
- * 54, 50, 53, 51, 52.
+ * list, or in the session. A tree gives those of the list, then 41 or 42 at the lowest
+ * index, at the same one 42, then 40, then 43 where a choice is asked for by its number,
+ * then 7 and 8. Seconds of one clock give 50, 51, 52; of a table of recorders 54, 50, 53,
+ * 51, 52.
  */
 enum utvpi_refusal {
     /* n is above UTVPI_MOST_VARIABLES: use fewer variables. */
     UTVPI_TOO_MANY_VARIABLES = 1,
 
     /* The list's numbers are no multiple of UTVPI_LINE_NUMBERS, or its bytes no
-     * multiple of UTVPI_LINE_BYTES: look for a cut or added part, for numbers that
-     * are not four bytes each, or for a length in bytes where one in numbers is
-     * asked for. */
+     * multiple of UTVPI_LINE_BYTES: look for a cut or added part, or for numbers that
+     * are not four bytes each. It catches a length in lines where one in numbers is asked
+     * for, unless the lines are a multiple of UTVPI_LINE_NUMBERS. It can't catch a length
+     * in bytes where one in numbers is asked for: that is a multiple, too, and the call
+     * reads beyond the list. In bytes hand over UTVPI_LINE_BYTES times the lines, in
+     * numbers UTVPI_LINE_NUMBERS times. */
     UTVPI_BROKEN_LIST_LENGTH = 2,
 
     /* The list has more than UTVPI_MOST_LINES lines: leave out lines that add
@@ -532,18 +676,18 @@ enum utvpi_refusal {
     /* A buffer for output is too short: lend a longer one. The place is the
      * first that is short, one of enum utvpi_output. Or the numbers lent as the state of
      * a session are none: hand over a state that one of the calls left. Only deciding,
-     * sessions and a line that may be implied give this. */
+     * sessions, a line that may be implied and trees give this. */
     UTVPI_SHORT_OUTPUT = 7,
 
     /* The work area is too short: lend one of UTVPI_WORK_ROOM(n) numbers. Only
-     * deciding gives this, adding a line to a session, and what a list implies. */
+     * deciding gives this, adding a line to a session, what a list implies, and trees. */
     UTVPI_SHORT_WORK_AREA = 8,
 
     /* The model is not exactly 8*n bytes: give one value for each variable. */
     UTVPI_BAD_MODEL_LENGTH = 9,
 
-    /* The model's value at this place, the first such, is below
-     * -1,000,000,000,000 or above 1,000,000,000,000: choose a nearer one. */
+    /* The model's value at this place, the first such, is below -UTVPI_MOST_VALUE or
+     * above UTVPI_MOST_VALUE, 1,000,000,000,000: choose a nearer one. */
     UTVPI_BAD_MODEL_VALUE = 10,
 
     /* The refutation has more than UTVPI_MOST_REFUTATION numbers, of four bytes
@@ -597,6 +741,26 @@ enum utvpi_refusal {
      * withdrawing gives this. */
     UTVPI_NO_LINES = 31,
 
+    /* The node at this place, the lowest such index into the tree, has more than
+     * UTVPI_MOST_CHOICES choices: leave out alternatives, or decide parts of the tree one
+     * by one. Only trees give this and those up to 43. */
+    UTVPI_TOO_MANY_CHOICES = 40,
+
+    /* The numbers are no tree. At this place, an index, which may be the length, they end
+     * before the tree does; or a node is of no kind, of one that can't stand there (the
+     * first is no all-of, an all-of in an all-of, an any-of in an any-of), or a line that
+     * is not in the list, where the place is that of the line's number; or numbers follow
+     * the tree: correct what stands there, or a count before it. */
+    UTVPI_BROKEN_TREE = 41,
+
+    /* The node at this place, an index, is deeper than UTVPI_MOST_DEPTH: write the tree
+     * with fewer levels. */
+    UTVPI_TREE_TOO_DEEP = 42,
+
+    /* The tree has no choice with this number: ask for one from 0 to one below the number
+     * of its choices, of which there may be none. The place is 0. */
+    UTVPI_NO_SUCH_CHOICE = 43,
+
     /* The clock's form is not UTVPI_SECONDS_PER_TICK or UTVPI_TICKS_PER_SECOND, or its
      * rate is not a finite number above 0: correct it. The place is the recorder, or 0
      * where there is one clock. Only seconds give this and those up to 54. */
@@ -630,6 +794,12 @@ enum utvpi_output {
     UTVPI_OUTPUT_IDENTIFIERS = 5,
     UTVPI_OUTPUT_STATE = 6
 };
+
+/* A refusal in words, with the number of enum utvpi_refusal, in English: what is wrong, a
+ * colon, and what to do about it, without a capital and without a full stop. Of a number
+ * that is none, 0 too, it says so. The text is a constant: it lasts, and is not to be
+ * freed. It is not part of what is proved. */
+const char *utvpi_refusal_text(int number);
 
 #ifdef __cplusplus
 }

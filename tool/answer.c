@@ -4,8 +4,9 @@
 
 #include <inttypes.h>
 #include <stdlib.h>
+#include <string.h>
 
-static int64_t model[UTVPI_MODEL_ROOM(UTVPI_MOST_VARIABLES)];
+static int32_t model[UTVPI_MODEL_ROOM(UTVPI_MOST_VARIABLES)];
 static int64_t bounds[UTVPI_BOUNDS_ROOM(UTVPI_MOST_VARIABLES)];
 static uint32_t groups[UTVPI_GROUPS_ROOM(UTVPI_MOST_VARIABLES)];
 static uint32_t refutation[UTVPI_REFUTATION_ROOM(UTVPI_MOST_VARIABLES)];
@@ -96,9 +97,9 @@ static bool groups_agree(size_t n)
     return true;
 }
 
-/* Whether the library's check takes these values of n variables for a model of the
- * list. */
-bool values_hold(const struct list *list, size_t n, const int64_t *values)
+/* Whether the library's check, which takes values of 64 bits, takes these of n variables
+ * for a model of the list. */
+bool values_hold(const struct list *list, size_t n, const int32_t *values)
 {
     size_t length = pack_list(list);
     for (size_t at = 0; at < n; at++) {
@@ -110,7 +111,7 @@ bool values_hold(const struct list *list, size_t n, const int64_t *values)
 /* Takes the seconds of all that a yes prints. False where they can't be trusted. */
 static bool take_all_seconds(const struct list *list)
 {
-    return take_seconds(list, VALUE, model, 1) && take_seconds(list, LEAST, bounds, 2) &&
+    return take_value_seconds(list, model) && take_seconds(list, LEAST, bounds, 2) &&
            take_seconds(list, GREATEST, bounds + 1, 2);
 }
 
@@ -225,7 +226,7 @@ int give_answer(const struct list *list, uint64_t n, int64_t result, enum manner
 
 /* How many numbers the work area needs. A list with too many variables is refused
  * before its room is looked at. */
-static size_t work_room(uint64_t n)
+size_t work_room(uint64_t n)
 {
     return UTVPI_WORK_ROOM(n <= UTVPI_MOST_VARIABLES ? n : 0);
 }
@@ -277,4 +278,35 @@ int64_t add_to_session(uint64_t n, int64_t *state, const int32_t line[UTVPI_LINE
         groups, UTVPI_GROUPS_ROOM(UTVPI_MOST_VARIABLES),
         refutation, UTVPI_REFUTATION_ROOM(UTVPI_MOST_VARIABLES),
         identifiers, UTVPI_IDENTIFIERS_ROOM(UTVPI_MOST_VARIABLES), work, work_room(n));
+}
+
+/* Decides a choice of the list's tree, by its number, with a work area for the list's
+ * variables. The library's answer is for give_answer, unless it is a refusal. */
+utvpi_choice decide_choice(const struct list *list, uint64_t choice, int64_t *work)
+{
+    return utvpi_tree_decide(
+        list->variables, numbers_of(list), length_of(list), list->tree.numbers,
+        2 * list->tree.count, choice,
+        model, UTVPI_MODEL_ROOM(UTVPI_MOST_VARIABLES),
+        bounds, UTVPI_BOUNDS_ROOM(UTVPI_MOST_VARIABLES),
+        groups, UTVPI_GROUPS_ROOM(UTVPI_MOST_VARIABLES),
+        refutation, UTVPI_REFUTATION_ROOM(UTVPI_MOST_VARIABLES),
+        identifiers, UTVPI_IDENTIFIERS_ROOM(UTVPI_MOST_VARIABLES), work,
+        work_room(list->variables));
+}
+
+/* Whether these values are those of the last yes. */
+bool is_last_model(const struct list *list, const int32_t *values)
+{
+    return memcmp(values, model, (size_t)list->variables * sizeof *model) == 0;
+}
+
+/* Copies the refutation and the identifiers of the last no, which was checked. Gives back
+ * how many steps it has. */
+uint32_t copy_last_no(uint32_t *to, uint32_t *identifiers_to)
+{
+    uint32_t steps = refutation[1] + refutation[2];
+    memcpy(to, refutation, (3 + (size_t)steps) * sizeof *to);
+    memcpy(identifiers_to, identifiers, steps * sizeof *to);
+    return steps;
 }

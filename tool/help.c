@@ -77,6 +77,29 @@ const char help[] =
     "\n";
 
 /* A compiler need not take it all as one string. */
+const char help_of_alternatives[] =
+    "Rules may have alternatives, of which one is to hold, each with any number of rules:\n"
+    "\n"
+    "    either\n"
+    "        lamp - brake >= 2\n"
+    "        lamp <= 60\n"
+    "    or\n"
+    "        lamp = 0\n"
+    "    end\n"
+    "\n"
+    "The words either, or and end stand on lines of their own, and or may come more than\n"
+    "once. An alternative may have an either in it, up to " AS_TEXT(MOST_EITHERS)
+    " inside each other. Rules that\n"
+    "belong together may stand between the lines all and end, which changes nothing.\n"
+    "\n"
+    "There may be " AS_TEXT(UTVPI_MOST_CHOICES)
+    " ways in all to choose alternatives. A yes takes the first that can\n"
+    "hold: all first alternatives, then with another one of the last either, and so on. It\n"
+    "names the alternatives with their rules; values, least, greatest and groups are with\n"
+    "these. A no says why each alternative fails, the shortest reason first. No option\n"
+    "takes a file with alternatives, and a session takes none.\n"
+    "\n";
+
 const char help_of_clocks[] =
     "A file in words may also say how recorders' clocks run, at most "
     AS_TEXT(UTVPI_MOST_RECORDERS) " of them, each by\n"

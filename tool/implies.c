@@ -13,14 +13,14 @@ struct asked {
     size_t count;
 };
 
-static int64_t model[UTVPI_MODEL_ROOM(UTVPI_MOST_VARIABLES)];
+static int32_t model[UTVPI_MODEL_ROOM(UTVPI_MOST_VARIABLES)];
 
-/* The left side of a line, for these values, which are small enough to be added. */
-static int64_t left_side(const int32_t *line, const int64_t *values)
+/* The left side of a line, for these values. */
+static int64_t left_side(const int32_t *line, const int32_t *values)
 {
     int64_t sum = 0;
     for (int at = 0; at < BOUND; at += 2) {
-        sum += line[at] == 0 ? 0 : line[at] * values[line[at + 1]];
+        sum += line[at] == 0 ? 0 : (int64_t)line[at] * values[line[at + 1]];
     }
     return sum;
 }
@@ -62,7 +62,7 @@ static int answer_broken(const struct list *list, const int32_t *line)
     if (left_side(line, model) <= line[BOUND]) {
         return disagree("the library answered no, but its values meet the rule");
     }
-    if (!take_seconds(list, VALUE, model, 1)) {
+    if (!take_value_seconds(list, model)) {
         return disagree_on_seconds();
     }
     print_broken_line(list, line);

@@ -17,6 +17,11 @@
 #define MOST_NAME 64
 #define MOST_MIB 16
 
+/* How many eithers can stand inside each other: one takes two levels of the tree, itself
+ * and its alternatives, between the root and the deepest rules. */
+#define MOST_EITHERS 3
+_Static_assert(MOST_EITHERS == (UTVPI_MOST_DEPTH - 2) / 2, "as many as the depth allows");
+
 /* A limit in a text: AS_TEXT(MOST_NAME) is "64". */
 #define AS_TEXT(limit) AS_WRITTEN(limit)
 #define AS_WRITTEN(limit) #limit
@@ -58,6 +63,67 @@ struct clock {
     struct origin origin;
 };
 
+/* A node of the tree that a file with alternatives is: its parent, which of its parent's
+ * children it is, counted from 0, the line of the file that began it, and its choices, up
+ * to one too many. Of an any-of the child that is taken, and of every node whether it is in
+ * the choice at hand; whether a refutation has rules in it, and whether it has some further
+ * down. */
+struct node {
+    size_t parent;
+    uint32_t ordinal;
+    size_t line;
+    uint32_t choices;
+    uint32_t branch;
+    bool taken;
+    bool named;
+    bool named_below;
+};
+
+/* A block of rules in the file, all or either: the line that opened it, or that began its
+ * last alternative, the block around it, the all-of that its rules belong to, and how many
+ * children that had before them. */
+struct block {
+    bool either;
+    struct origin origin;
+    size_t around;
+    size_t node;
+    uint32_t before;
+};
+
+/* The tree, as the library takes it, two numbers for each node; the blocks that it was read
+ * from, and the one that is open, counted from 1, or 0; the line of the first either, and
+ * that of the one with which there are too many choices, 0 where there is none. */
+struct tree {
+    uint32_t *numbers;
+    struct node *nodes;
+    size_t count;
+    size_t room;
+    struct block *blocks;
+    size_t block_count;
+    size_t block_room;
+    size_t open;
+    size_t either_line;
+    size_t too_many_line;
+};
+
+/* Why a choice fails: the lines that it picks; a refutation, with the identifiers of its
+ * steps and how many they are; and in how many alternatives its rules stand. Whether that
+ * was told, with this refutation or with another whose rules the choice has, too. */
+struct clash {
+    bool picked[UTVPI_MOST_LINES];
+    uint32_t refutation[UTVPI_REFUTATION_ROOM(UTVPI_MOST_VARIABLES)];
+    uint32_t identifiers[UTVPI_IDENTIFIERS_ROOM(UTVPI_MOST_VARIABLES)];
+    uint32_t steps;
+    size_t alternatives;
+    bool told;
+};
+
+/* The choices that fail, in their order. */
+struct clashes {
+    struct clash *each;
+    size_t count;
+};
+
 /* The columns of numbers that a table of events has. */
 enum column { VALUE, LEAST, GREATEST, COLUMNS };
 
@@ -81,6 +147,8 @@ struct list {
     /* The clocks, up to one too many. */
     struct clock clocks[UTVPI_MOST_RECORDERS + 1];
     size_t clock_count;
+
+    struct tree tree;
 
     /* How many variables there are; the line of the file that says so, or that
      * has the greatest number or the newest name. */
@@ -148,8 +216,9 @@ struct step {
     struct point to;
 };
 
-/* help.c: what --help prints, one after the other; the fourth, a session too. */
+/* help.c: what --help prints, one after the other; the fifth, a session too. */
 extern const char help[];
+extern const char help_of_alternatives[];
 extern const char help_of_clocks[];
 extern const char help_of_questions[];
 extern const char help_of_session[];
@@ -163,6 +232,7 @@ bool is_blank(char c);
 bool is_digit(char c);
 bool is_letter(char c);
 bool begins_with_word(struct text text, const char *word);
+bool is_word(struct text text, const char *word);
 bool has_relation(struct text text);
 size_t name_length(struct text text);
 struct text trim(struct text text);
@@ -178,6 +248,20 @@ bool read_list(struct list *list);
 bool read_rule(struct list *list, struct origin origin);
 bool settle_form(struct list *list, struct origin origin, enum form form);
 bool add_line(struct list *list, struct origin origin, const int32_t line[UTVPI_LINE_NUMBERS]);
+
+/* blocks.c: a line of a file, which may open or close a block of rules; and the end of the
+ * file, where none may be open. */
+bool is_block_word(struct text line);
+bool read_in_block(struct list *list, struct origin origin);
+bool end_blocks(const struct list *list);
+void free_tree(struct tree *tree);
+
+/* choices.c: the choices of a tree, one after the other, and the lines that the one at hand
+ * picks; whether a node is an alternative. */
+void first_choice(struct tree *tree);
+bool next_choice(struct tree *tree);
+void pick_lines(const struct tree *tree, bool *picked);
+bool is_alternative(const struct tree *tree, size_t node);
 
 /* numbers.c and words.c: one rule, in the one form and the other; what is wrong with
  * an identifier that is too large for 32 bits, and what to do about every one that is
@@ -202,6 +286,7 @@ size_t clock_of(const struct list *list, uint64_t variable);
 bool take_clocks(const struct list *list);
 bool take_seconds(const struct list *list, enum column column, const int64_t *numbers,
                   size_t stride);
+bool take_value_seconds(const struct list *list, const int32_t *values);
 void print_seconds_head(const struct list *list, enum column column);
 void print_seconds(const struct list *list, enum column column, uint64_t variable);
 
@@ -239,15 +324,30 @@ int disagree(const char *what);
 int disagree_on_seconds(void);
 bool within_limits(const struct list *list);
 int64_t turned(int64_t number);
-bool values_hold(const struct list *list, size_t n, const int64_t *values);
+bool values_hold(const struct list *list, size_t n, const int32_t *values);
+size_t work_room(uint64_t n);
 int64_t *take_work_area(const char *file, uint64_t n);
 int answer(const struct list *list, enum manner manner);
 int64_t add_to_session(uint64_t n, int64_t *state, const int32_t line[UTVPI_LINE_NUMBERS],
                        int64_t *work);
 int give_answer(const struct list *list, uint64_t n, int64_t result, enum manner manner);
+utvpi_choice decide_choice(const struct list *list, uint64_t choice, int64_t *work);
+bool is_last_model(const struct list *list, const int32_t *values);
+uint32_t copy_last_no(uint32_t *to, uint32_t *identifiers_to);
 
 /* session.c: rules from standard input, one at a time. */
 int run_session(const char *file);
+
+/* reasons.c: the choices that fail, and why. */
+int take_clashes(struct list *list, int64_t *work, struct clashes *clashes);
+void print_clashes(struct list *list, struct clashes *clashes);
+
+/* trees.c: a file with alternatives, answered or, beside an option, refused; and the
+ * alternatives that a yes takes. */
+int answer_alternatives(struct list *list);
+int refuse_alternatives(const struct list *list, const char *option);
+void print_alternative(const struct tree *tree, size_t at);
+void print_alternatives(const struct list *list);
 
 /* questions.c: what the questions share that are about all the ways to meet the rules;
  * what is wrong with a name that no event has, and what to do about it. */
@@ -265,8 +365,8 @@ int answer_implies(struct list *list, const char *rule);
 void print_event(FILE *to, const struct list *list, uint64_t variable);
 void print_point(const struct list *list, struct point point);
 int event_width(const struct list *list, uint64_t variable);
-void print_values(const struct list *list, const int64_t *values);
-void print_yes(const struct list *list, const int64_t *model, const int64_t *bounds,
+void print_values(const struct list *list, const int32_t *values);
+void print_yes(const struct list *list, const int32_t *model, const int64_t *bounds,
                const uint32_t *groups);
 void print_terms(const struct list *list, const int32_t *line, int count);
 void print_rule(const struct list *list, uint32_t step);

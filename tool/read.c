@@ -87,12 +87,12 @@ bool read_list(struct list *list)
         if (!next_line(list->file, &rest, &origin)) {
             return false;
         }
-        if (origin.rule.length > 0 && !read_rule(list, origin)) {
+        if (origin.rule.length > 0 && !read_in_block(list, origin)) {
             return false;
         }
         if (list->form == FORM_NAMES && list->variables > UTVPI_MOST_VARIABLES) {
             return true;
         }
     }
-    return true;
+    return end_blocks(list);
 }

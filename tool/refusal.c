@@ -5,8 +5,12 @@
 /* What of the file a refusal is about: nothing that stands there, the line that
  * says how many variables there are, the first rule too many, the rule at the
  * refusal's place, which is the one at hand behind the last, the line of a session
- * that is read now, or the last clock. */
-enum about { NOTHING, VARIABLES, RULE_TOO_MANY, RULE_AT_PLACE, LINE_AT_HAND, LAST_CLOCK };
+ * that is read now, the last clock, the either with which there are too many choices, or
+ * the node of the tree at the refusal's place. */
+enum about {
+    NOTHING, VARIABLES, RULE_TOO_MANY, RULE_AT_PLACE, LINE_AT_HAND, LAST_CLOCK,
+    EITHER_TOO_MANY, NODE_AT_PLACE
+};
 
 struct words {
     const char *what;
@@ -14,8 +18,9 @@ struct words {
     enum about about;
 };
 
-/* The table of refusals. A number of the library's header that has no row here is
- * an error, whatever the compiler's options are. */
+/* The table of refusals. What a file can't bring about is said in the library's words. A
+ * number of the library's header that has no row here is an error, whatever the compiler's
+ * options are. */
 #pragma GCC diagnostic error "-Wswitch"
 static struct words words_of(enum utvpi_refusal number)
 {
@@ -28,7 +33,7 @@ static struct words words_of(enum utvpi_refusal number)
                               "use fewer, or decide parts that share no event one by one",
                               VARIABLES};
     case UTVPI_BROKEN_LIST_LENGTH:
-        return (struct words){"the list has a broken length", fault, NOTHING};
+        return (struct words){utvpi_refusal_text(number), fault, NOTHING};
     case UTVPI_TOO_MANY_LINES:
         return (struct words){"there are more than " AS_TEXT(UTVPI_MOST_LINES)
                               " rules; one with = counts twice",
@@ -47,16 +52,13 @@ static struct words words_of(enum utvpi_refusal number)
                               "choose a coarser unit, or an origin nearer to the values",
                               RULE_AT_PLACE};
     case UTVPI_SHORT_OUTPUT:
-        return (struct words){"a buffer for output is too short, or no state of a session is lent",
-                              fault, NOTHING};
+        return (struct words){utvpi_refusal_text(number), fault, NOTHING};
     case UTVPI_SHORT_WORK_AREA:
-        return (struct words){"the work area is too short", fault, NOTHING};
+        return (struct words){utvpi_refusal_text(number), fault, NOTHING};
     case UTVPI_BAD_MODEL_LENGTH:
-        return (struct words){"the model has not one value for each event", fault, NOTHING};
+        return (struct words){utvpi_refusal_text(number), fault, NOTHING};
     case UTVPI_BAD_MODEL_VALUE:
-        return (struct words){"a value of the model is below -1,000,000,000,000 or above"
-                              " 1,000,000,000,000",
-                              fault, NOTHING};
+        return (struct words){utvpi_refusal_text(number), fault, NOTHING};
     case UTVPI_LONG_REFUTATION:
         return (struct words){"the refutation has more than " AS_TEXT(UTVPI_MOST_REFUTATION)
                               " numbers",
@@ -94,8 +96,7 @@ static struct words words_of(enum utvpi_refusal number)
         return (struct words){"something follows the record that ends the list",
                               "cut the file off at this byte, or get it again", NOTHING};
     case UTVPI_NO_ROOM:
-        return (struct words){"a buffer has no room for the list, or for its file", fault,
-                              NOTHING};
+        return (struct words){utvpi_refusal_text(number), fault, NOTHING};
     case UTVPI_RECORD_NO_IDENTIFIER:
         return (struct words){"this record is a line of kind 4, and its identifier is 0",
                               "write the line as kind 2, which has no identifier, or look for a"
@@ -108,16 +109,31 @@ static struct words words_of(enum utvpi_refusal number)
                               LINE_AT_HAND};
     case UTVPI_NO_LINES:
         return (struct words){"there is no rule to withdraw", "add one first", LINE_AT_HAND};
+    case UTVPI_TOO_MANY_CHOICES:
+        return (struct words){"with this either there are more than "
+                              AS_TEXT(UTVPI_MOST_CHOICES) " choices of alternatives",
+                              "leave out alternatives, or decide a file for each alternative of"
+                              " one either",
+                              EITHER_TOO_MANY};
+    case UTVPI_BROKEN_TREE:
+        return (struct words){"the alternatives are no tree", fault, NODE_AT_PLACE};
+    case UTVPI_TREE_TOO_DEEP:
+        return (struct words){"this alternative is too deep: at most " AS_TEXT(MOST_EITHERS)
+                              " eithers stand inside each other",
+                              "write the alternatives of an inner either as some of the outer",
+                              NODE_AT_PLACE};
+    case UTVPI_NO_SUCH_CHOICE:
+        return (struct words){utvpi_refusal_text(number), fault, NOTHING};
     case UTVPI_BAD_CLOCK:
         return (struct words){"the clock's number is not above 0, or a float can't hold it",
                               "say how many seconds a tick lasts, or how many ticks a second has",
                               LAST_CLOCK};
     case UTVPI_BAD_COUNT:
-        return (struct words){"a value is too large to be a float exactly", fault, NOTHING};
+        return (struct words){utvpi_refusal_text(number), fault, NOTHING};
     case UTVPI_SHORT_SECONDS:
-        return (struct words){"the buffer for seconds is too short", fault, NOTHING};
+        return (struct words){utvpi_refusal_text(number), fault, NOTHING};
     case UTVPI_BAD_RECORDER:
-        return (struct words){"an event names a clock that is not there", fault, NOTHING};
+        return (struct words){utvpi_refusal_text(number), fault, NOTHING};
     case UTVPI_BAD_TABLE:
         return (struct words){"there are more than " AS_TEXT(UTVPI_MOST_RECORDERS) " clocks",
                               "leave out clocks that no event has, or decide parts that share no"
@@ -136,10 +152,19 @@ void print_fault(const struct list *list, int number, size_t at)
     fprintf(stderr, "  What to do: %s.\n", words.advice);
 }
 
+/* The line of the tree that a refusal is about. */
+static size_t line_in_tree(const struct tree *tree, enum about about, size_t place)
+{
+    if (about == EITHER_TOO_MANY) {
+        return tree->too_many_line;
+    }
+    return about == NODE_AT_PLACE && place / 2 < tree->count ? tree->nodes[place / 2].line : 0;
+}
+
 /* The rule that a refusal is about; line 0 where it is about none. */
 static struct origin offender(const struct list *list, enum about about, size_t place)
 {
-    static const struct origin none = {0, {"", 0}};
+    struct origin none = {line_in_tree(&list->tree, about, place), {"", 0}};
     if (about == VARIABLES) {
         return list->variables_from;
     }

@@ -120,6 +120,16 @@ bool take_seconds(const struct list *list, enum column column, const int64_t *nu
     return true;
 }
 
+/* The same of the column of values, which have 32 bits, and counts 64. */
+bool take_value_seconds(const struct list *list, const int32_t *values)
+{
+    static int64_t counts[UTVPI_MODEL_ROOM(UTVPI_MOST_VARIABLES)];
+    for (size_t v = 0; v < list->variables; v++) {
+        counts[v] = values[v];
+    }
+    return take_seconds(list, VALUE, counts, 1);
+}
+
 /* Prints the head of a column of seconds, and an event's seconds in it, where there are
  * clocks. */
 void print_seconds_head(const struct list *list, enum column column)

@@ -157,6 +157,10 @@ static bool may_be_rule(const struct session *session, struct origin origin)
         return true;
     }
     origin.rule = nothing;
+    if (is_block_word(line)) {
+        return wrong(list, origin, line, "is for alternatives, and a session takes none",
+                     "write all the rules to a file, and decide that: utvpi FILE");
+    }
     if (!begins_with_word(line, "variables")) {
         return wrong(list, origin, line,
                      "is no rule, and none of the words show, list, undo and help",
@@ -246,11 +250,6 @@ static void print_entries(const struct session *session)
     for (size_t at = 0; at < session->count; at++) {
         print_entry("  ", session->entries[at].origin);
     }
-}
-
-static bool is_word(struct text text, const char *word)
-{
-    return text.length == strlen(word) && begins_with_word(text, word);
 }
 
 /* Does what a line of the input says. Gives back a status. */

@@ -99,6 +99,12 @@ bool begins_with_word(struct text text, const char *word)
            (text.length == length || is_blank(text.at[length]));
 }
 
+/* Whether a text is this word, and nothing else. */
+bool is_word(struct text text, const char *word)
+{
+    return text.length == strlen(word) && begins_with_word(text, word);
+}
+
 /* Whether a text has a sign that every rule in words has. */
 bool has_relation(struct text text)
 {

@@ -107,6 +107,22 @@ struct command {
     const char *file;
 };
 
+/* The option that is given besides FILE, of which there is one at most; NULL where the list
+ * is decided in words. */
+static const char *option_of(const struct command *command)
+{
+    if (command->proposed != NULL) {
+        return "--check";
+    }
+    if (command->to_text || command->to_records != NULL) {
+        return command->to_text ? "--text" : "--write";
+    }
+    if (command->between[0] != NULL || command->implied != NULL) {
+        return command->implied == NULL ? "--between" : "--implies";
+    }
+    return command->in_numbers ? "--numbers" : NULL;
+}
+
 /* Reads the list and does what is asked for. */
 static int run(const struct command *command)
 {
@@ -117,7 +133,11 @@ static int run(const struct command *command)
         return STATUS_BAD;
     }
     if (is_records(list.input) ? read_records(&list) : read_list(&list)) {
-        if (command->proposed != NULL) {
+        if (list.tree.either_line > 0) {
+            status = option_of(command) == NULL
+                         ? answer_alternatives(&list)
+                         : refuse_alternatives(&list, option_of(command));
+        } else if (command->proposed != NULL) {
             status = run_check(&list, command->proposed);
         } else if (command->to_text || command->to_records != NULL) {
             status = convert(&list, command->to_records);
@@ -131,6 +151,7 @@ static int run(const struct command *command)
     }
     free(list.numbers);
     free(list.origins);
+    free_tree(&list.tree);
     free((void *)list.input.at);
     return status;
 }
@@ -250,6 +271,7 @@ int main(int argc, char **argv)
     const char *wrong_use = read_command(argc, argv, &command);
     if (command.help) {
         fputs(help, stdout);
+        fputs(help_of_alternatives, stdout);
         fputs(help_of_clocks, stdout);
         fputs(help_of_questions, stdout);
         fputs(help_of_session, stdout);

@@ -68,7 +68,7 @@ static void print_value(const struct list *list, uint64_t v, int width, int64_t 
 }
 
 /* Prints values, one for each event. */
-void print_values(const struct list *list, const int64_t *values)
+void print_values(const struct list *list, const int32_t *values)
 {
     int width = events_width(list);
     printf("  %-*s  %10s", width, "event", "value");
@@ -133,7 +133,12 @@ static void print_head(const struct list *list, int width)
 
 static void print_legend(const struct list *list, bool some_low, bool some_high)
 {
-    puts("\nvalue: together, these values meet every rule; each is as near to 0 as the\n"
+    putchar('\n');
+    if (list->tree.either_line > 0) {
+        puts("rules: those of the alternatives above, and those that stand in none. With other\n"
+             "alternatives the table may be another.");
+    }
+    puts("value: together, these values meet every rule; each is as near to 0 as the\n"
          "ones above it allow. least, greatest: over all the ways to meet the rules.");
     if (list->clock_count > 0) {
         puts("seconds: of the number before them, by the clock NAME of the event NAME.rest; they\n"
@@ -167,16 +172,12 @@ static void print_groups(const struct list *list, const uint32_t *groups, bool s
     }
 }
 
-void print_yes(const struct list *list, const int64_t *model, const int64_t *bounds,
-               const uint32_t *groups)
+/* Prints the table of a yes, and what its columns are. */
+static void print_table(const struct list *list, const int32_t *model, const int64_t *bounds,
+                        const uint32_t *groups)
 {
     bool some_low = false, some_high = false, some_shared = false, some_opposite = false;
     int width = events_width(list);
-    if (list->variables == 0) {
-        puts("Yes. There are no events, and no rule is false.");
-        return;
-    }
-    puts("Yes. Whole numbers meet all the rules:\n");
     for (uint64_t v = 0; v < list->variables; v++) {
         some_low = some_low || bounds[2 * v] == UTVPI_NO_LEAST;
         some_high = some_high || bounds[2 * v + 1] == UTVPI_NO_GREATEST;
@@ -189,4 +190,18 @@ void print_yes(const struct list *list, const int64_t *model, const int64_t *bou
     }
     print_legend(list, some_low, some_high);
     print_groups(list, groups, some_shared, some_opposite);
+}
+
+void print_yes(const struct list *list, const int32_t *model, const int64_t *bounds,
+               const uint32_t *groups)
+{
+    if (list->tree.either_line > 0) {
+        print_alternatives(list);
+    } else {
+        puts(list->variables > 0 ? "Yes. Whole numbers meet all the rules:\n"
+                                 : "Yes. There are no events, and no rule is false.");
+    }
+    if (list->variables > 0) {
+        print_table(list, model, bounds, groups);
+    }
 }

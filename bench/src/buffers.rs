@@ -3,7 +3,7 @@
 use crate::limits::rooms;
 
 pub struct Buffers {
-    pub model: Vec<i64>,
+    pub model: Vec<i32>,
     pub bounds: Vec<i64>,
     pub groups: Vec<u32>,
     pub refutation: Vec<u32>,
@@ -27,7 +27,8 @@ impl Buffers {
 
     /// Fills all with a number that means nothing.
     pub fn fill(&mut self) {
-        for numbers in [&mut self.model, &mut self.bounds, &mut self.work] {
+        self.model.fill(7);
+        for numbers in [&mut self.bounds, &mut self.work] {
             numbers.fill(7);
         }
         for numbers in [

@@ -47,7 +47,7 @@ fn solve(points: usize, list: &[Line], sums: Sums, out: &mut Buffers) -> Result<
         out.groups[2 * x + 1] = (lowest % 2) as u32;
         let greatest = limit(up, halves[2 * x], &out.model);
         let least = limit(down, halves[2 * x + 1], &out.model);
-        out.model[x] = greatest.min(0).max(least.saturating_neg());
+        out.model[x] = greatest.min(0).max(least.saturating_neg()) as i32;
     }
     Ok(())
 }
@@ -78,9 +78,10 @@ fn write_bounds(halves: &[i64], bounds: &mut [i64]) {
 /// The greatest value of a point beside the values chosen so far, from its own bound
 /// and its sums to the points before it. Bounds of those need no look: the values
 /// chosen lie within them.
-fn limit(sums: &[i64], half: i64, model: &[i64]) -> i64 {
+fn limit(sums: &[i64], half: i64, model: &[i32]) -> i64 {
     let mut least = half;
     for (pair, &value) in sums.chunks_exact(2).zip(model) {
+        let value = i64::from(value);
         for (&sum, value) in pair.iter().zip([value, -value]) {
             if sum != NONE {
                 least = least.min(sum + value);

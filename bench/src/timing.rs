@@ -19,7 +19,7 @@ pub const LONG: f64 = 0.06;
 #[derive(Clone, PartialEq)]
 pub struct Answer {
     result: i64,
-    model: Vec<i64>,
+    model: Vec<i32>,
     bounds: Vec<i64>,
     groups: Vec<u32>,
     kind: u32,

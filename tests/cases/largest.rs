@@ -1,7 +1,7 @@
 //! Lists of the most variables and the most lines: decided and compared with
 //! another method, written to a file and read back, their refutations taken in
 //! pieces; and every call on one of them in a thread with little stack, those of a
-//! session too, and those for seconds.
+//! session too, those on trees, and those for seconds.
 
 use std::thread;
 
@@ -14,14 +14,16 @@ use utvpi_tests::decision::{MINUS, PLUS};
 use utvpi_tests::document::largest;
 use utvpi_tests::files::{read, write};
 use utvpi_tests::library;
+use utvpi_tests::limits::SHORTER_NEITHER;
 use utvpi_tests::limits::{LARGEST_BOUND, LAST_VARIABLE, MOST_FILE, MOST_LINES};
-use utvpi_tests::limits::{MOST_N, MOST_NUMBERS, MOST_RECORDERS, MOST_STACK, MOST_VARIABLES};
+use utvpi_tests::limits::{MOST_N, MOST_NUMBERS, MOST_RECORDERS, MOST_STACK, MOST_VARIABLES, NO};
 use utvpi_tests::lines::{identify, line, lone, zero, Line};
 use utvpi_tests::make_lists::Shape;
 use utvpi_tests::records::{self, List};
 use utvpi_tests::second::Answer;
 use utvpi_tests::seconds::{Table, FORMS, LARGEST_COUNT};
 use utvpi_tests::sessions::Session;
+use utvpi_tests::trees::{deepest, Tree};
 
 /// The decision on a list of the most variables and lines, which both checkers
 /// have accepted, after making sure that another method answers the same, that
@@ -202,7 +204,8 @@ fn little_stack() {
     let lines = largest();
     let (numbers, packed) = (lines.concat(), bytes::list(&lines));
     let values = bytes::model(&[0; MOST_VARIABLES]);
-    let proposed = bytes::refutation(&[1, 1, 0, 0]);
+    let walk = [1, 1, 0, 0];
+    let proposed = bytes::refutation(&walk);
     let size = records::size(&numbers);
     let mut file = vec![0; size];
     let mut again = vec![0; MOST_NUMBERS];
@@ -220,10 +223,13 @@ fn little_stack() {
             other.implied_pair(MOST_N, &numbers, [0, 1]).result,
             other.implied_line(MOST_N, &numbers, lines[0]),
             other.implied_line(MOST_N, &numbers, zero(-1)),
+            library::shorter(MOST_N, &numbers, &walk, &walk).which as i64,
         ]
     });
     let [at_0, at_3] = [0, 3].map(|place| Answer::No(place).code());
-    let due = [0, at_3, at_0, size as i64, MOST_LINES as i64, 0, 0, 0, at_0];
+    let (bytes, lines) = (size as i64, MOST_LINES as i64);
+    let neither = SHORTER_NEITHER as i64;
+    let due = [0, at_3, at_0, bytes, lines, 0, 0, 0, at_0, neither];
     assert_eq!(results, due);
     assert_eq!(again, numbers);
 }
@@ -247,6 +253,37 @@ fn little_stack_in_a_session() {
     });
     assert_eq!(results, [0; 3]);
     assert!(started == Session::new(MOST_N).state() && state == session.state());
+}
+
+/// All lines of the largest list, one of them as deep as a line may stand.
+fn deepest_tree() -> Vec<u32> {
+    let mut children: Vec<Tree> = (1..MOST_LINES).map(Tree::Line).collect();
+    children.push(deepest(Tree::Line(0), 2));
+    Tree::AllOf(children).numbers()
+}
+
+/// Both calls on trees: with a list that can be met, one that can't, and one that only halves
+/// would meet.
+#[test]
+fn little_stack_for_trees() {
+    let mut chance = Chance::new(119);
+    let tree = deepest_tree();
+    let lists = [
+        (largest(), 0),
+        (chain(&mut chance, LAST_VARIABLE), NO as i64),
+        (level(&mut chance, 7), NO as i64),
+    ];
+    for (lines, due) in lists {
+        let numbers = lines.concat();
+        let mut buffers = Buffers::new(&mut chance, needed(MOST_N));
+        let found = with_little_stack(|| {
+            [
+                buffers.tree_first(MOST_N, &numbers, &tree),
+                buffers.tree_decide(MOST_N, &numbers, &tree, 0),
+            ]
+        });
+        assert_eq!(found.map(|choice| choice.result), [due; 2]);
+    }
 }
 
 /// Both calls that write seconds.

@@ -2,7 +2,7 @@
 //! longer than it need be, and is full of rubbish before the call.
 
 use crate::chance::Chance;
-use crate::library::{self, ImpliedPair, Lent};
+use crate::library::{self, ChoiceFound, ImpliedPair, Lent};
 use crate::limits::rooms;
 use crate::lines::Line;
 
@@ -77,7 +77,7 @@ impl<T: Copy> Guarded<T> {
 /// All of them.
 #[derive(Clone, Debug, PartialEq, Eq)]
 pub struct Buffers {
-    pub model: Guarded<i64>,
+    pub model: Guarded<i32>,
     pub bounds: Guarded<i64>,
     pub groups: Guarded<u32>,
     pub refutation: Guarded<u32>,
@@ -102,7 +102,7 @@ impl Buffers {
             _ => chance.next() as i64,
         };
         Buffers {
-            model: Guarded::new(lengths[0], &mut rubbish),
+            model: Guarded::new(lengths[0], || rubbish() as i32),
             bounds: Guarded::new(lengths[1], &mut rubbish),
             groups: Guarded::new(lengths[2], || rubbish() as u32),
             refutation: Guarded::new(lengths[3], || rubbish() as u32),
@@ -154,6 +154,17 @@ impl Buffers {
     pub fn implied_line(&mut self, n: u64, list: &[i32], line: Line) -> i64 {
         let (model, work) = (&mut self.model, &mut self.work);
         library::implied_line(n, list, line, model.lent_mut(), work.lent_mut())
+    }
+
+    /// The first choice of a tree that can be met, with this model and this work area.
+    pub fn tree_first(&mut self, n: u64, list: &[i32], tree: &[u32]) -> ChoiceFound {
+        let (model, work) = (&mut self.model, &mut self.work);
+        library::tree_first(n, list, tree, model.lent_mut(), work.lent_mut())
+    }
+
+    /// A choice of a tree, decided in these buffers.
+    pub fn tree_decide(&mut self, n: u64, list: &[i32], tree: &[u32], choice: u64) -> ChoiceFound {
+        library::tree_decide(n, list, tree, choice, self.lent())
     }
 
     /// The result of adding a line to the session with this state, in these buffers.

@@ -135,15 +135,21 @@ impl Call<'_> {
     }
 }
 
+/// A model's values, as the checks and other calls take them.
+pub fn widened(values: &[i32]) -> Vec<i64> {
+    values.iter().copied().map(i64::from).collect()
+}
+
 /// Reads a yes, and lets `allowed` have what may be written with it.
 fn yes(n: u64, list: &[i32], buffers: &Buffers, allowed: &mut Buffers) -> Decision {
     let [model, bounds, groups, .., work] = needed(n);
+    let values = &buffers.model.lent()[..model];
     let solved = Solved {
-        model: buffers.model.lent()[..model].to_vec(),
+        model: widened(values),
         bounds: buffers.bounds.lent()[..bounds].to_vec(),
         groups: groups_of(&buffers.groups.lent()[..groups]),
     };
-    allowed.model.lent_mut()[..model].copy_from_slice(&solved.model);
+    allowed.model.lent_mut()[..model].copy_from_slice(values);
     allowed.bounds.lent_mut()[..bounds].copy_from_slice(&solved.bounds);
     allowed.groups.lent_mut()[..groups].copy_from_slice(solved.groups.as_flattened());
     allowed.work.lent_mut()[..work].fill(0);

@@ -4,7 +4,7 @@
 use crate::buffers::{needed, Buffers};
 use crate::bytes;
 use crate::chance::Chance;
-use crate::decision::Verdict;
+use crate::decision::{widened, Verdict};
 use crate::limits::{LINE_NUMBERS, NO, UNSOLVABLE};
 use crate::lines::{line, Line, BOUND, X, Y};
 use crate::make::left_side;
@@ -136,8 +136,9 @@ pub fn implied_in(
         }
         (None, 0) => Implied::Yes,
         (None, _) if result == NO as i64 => {
-            let model = buffers.model.lent()[..room].to_vec();
-            allowed.model.lent_mut()[..room].copy_from_slice(&model);
+            let values = &buffers.model.lent()[..room];
+            allowed.model.lent_mut()[..room].copy_from_slice(values);
+            let model = widened(values);
             breaks(n, list, line, &model);
             Implied::No(model)
         }

@@ -18,12 +18,16 @@ pub mod lines;
 pub mod make;
 pub mod make_cases;
 pub mod make_lists;
+pub mod make_trees;
 pub mod records;
 pub mod second;
 pub mod seconds;
 pub mod seen;
 pub mod session_calls;
 pub mod sessions;
+pub mod shorter;
+pub mod tree_calls;
+pub mod trees;
 
 use limits::NUMBER_BYTES;
 use second::Answer;

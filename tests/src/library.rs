@@ -48,12 +48,31 @@ pub struct ImpliedPair {
     pub minus: [i64; 2],
 }
 
+/// What asking for a choice of a tree returns, or for the first that can be met.
+#[repr(C)]
+#[derive(Clone, Copy, PartialEq, Debug)]
+pub struct ChoiceFound {
+    pub result: i64,
+    pub refusal: u64,
+    pub place: u64,
+    pub choice: u64,
+}
+
 /// What writing seconds returns.
 #[repr(C)]
 #[derive(Clone, Copy, PartialEq, Debug)]
 pub struct SecondsWritten {
     pub refusal: u64,
     pub place: u64,
+}
+
+/// What asking for the shorter of two refutations returns: which it is, and how many
+/// numbers from the front of its slice it has.
+#[repr(C)]
+#[derive(Clone, Copy, PartialEq, Debug)]
+pub struct Part {
+    pub which: u64,
+    pub length: u64,
 }
 
 /// A line, as a session and the question of a line are handed it.
@@ -88,7 +107,7 @@ extern "C" {
         n: u64,
         list: *const i32,
         list_len: usize,
-        model: *mut i64,
+        model: *mut i32,
         model_len: usize,
         bounds: *mut i64,
         bounds_len: usize,
@@ -108,7 +127,7 @@ extern "C" {
         state: *mut i64,
         state_len: usize,
         line: LineByValue,
-        model: *mut i64,
+        model: *mut i32,
         model_len: usize,
         bounds: *mut i64,
         bounds_len: usize,
@@ -139,11 +158,44 @@ extern "C" {
         list: *const i32,
         list_len: usize,
         line: LineByValue,
-        model: *mut i64,
+        model: *mut i32,
         model_len: usize,
         work: *mut i64,
         work_len: usize,
     ) -> i64;
+
+    fn utvpi_tree_first(
+        n: u64,
+        list: *const i32,
+        list_len: usize,
+        tree: *const u32,
+        tree_len: usize,
+        model: *mut i32,
+        model_len: usize,
+        work: *mut i64,
+        work_len: usize,
+    ) -> ChoiceFound;
+
+    fn utvpi_tree_decide(
+        n: u64,
+        list: *const i32,
+        list_len: usize,
+        tree: *const u32,
+        tree_len: usize,
+        choice: u64,
+        model: *mut i32,
+        model_len: usize,
+        bounds: *mut i64,
+        bounds_len: usize,
+        groups: *mut u32,
+        groups_len: usize,
+        refutation: *mut u32,
+        refutation_len: usize,
+        identifiers: *mut u32,
+        identifiers_len: usize,
+        work: *mut i64,
+        work_len: usize,
+    ) -> ChoiceFound;
 
     fn utvpi_model_seconds(
         form: u32,
@@ -177,6 +229,16 @@ extern "C" {
     ) -> Progress;
 
     fn utvpi_refutation_end(kept: Progress, n: u64, list: *const i32, list_len: usize) -> i64;
+
+    fn utvpi_shorter(
+        n: u64,
+        list: *const i32,
+        list_len: usize,
+        first: *const u32,
+        first_len: usize,
+        second: *const u32,
+        second_len: usize,
+    ) -> Part;
 
     fn utvpi_read_list(
         bytes: *const u8,
@@ -232,7 +294,7 @@ pub fn check_refutation(n: u64, list: &[u8], refutation: &[u8]) -> i64 {
 
 /// The buffers that deciding is lent.
 pub struct Lent<'a> {
-    pub model: &'a mut [i64],
+    pub model: &'a mut [i32],
     pub bounds: &'a mut [i64],
     pub groups: &'a mut [u32],
     pub refutation: &'a mut [u32],
@@ -317,7 +379,7 @@ pub fn implied_pair(n: u64, list: &[i32], x: u64, y: u64, work: &mut [i64]) -> I
 }
 
 /// The result of `utvpi_implied_line`.
-pub fn implied_line(n: u64, list: &[i32], line: Line, model: &mut [i64], work: &mut [i64]) -> i64 {
+pub fn implied_line(n: u64, list: &[i32], line: Line, model: &mut [i32], work: &mut [i64]) -> i64 {
     // The function stays within the lengths and keeps no pointer.
     unsafe {
         utvpi_implied_line(
@@ -329,6 +391,57 @@ pub fn implied_line(n: u64, list: &[i32], line: Line, model: &mut [i64], work: &
             model.len(),
             work.as_mut_ptr(),
             work.len(),
+        )
+    }
+}
+
+/// What `utvpi_tree_first` returns.
+pub fn tree_first(
+    n: u64,
+    list: &[i32],
+    tree: &[u32],
+    model: &mut [i32],
+    work: &mut [i64],
+) -> ChoiceFound {
+    // The function stays within the lengths and keeps no pointer.
+    unsafe {
+        utvpi_tree_first(
+            n,
+            list.as_ptr(),
+            list.len(),
+            tree.as_ptr(),
+            tree.len(),
+            model.as_mut_ptr(),
+            model.len(),
+            work.as_mut_ptr(),
+            work.len(),
+        )
+    }
+}
+
+/// What `utvpi_tree_decide` returns.
+pub fn tree_decide(n: u64, list: &[i32], tree: &[u32], choice: u64, lent: Lent) -> ChoiceFound {
+    // The function stays within the lengths and keeps no pointer.
+    unsafe {
+        utvpi_tree_decide(
+            n,
+            list.as_ptr(),
+            list.len(),
+            tree.as_ptr(),
+            tree.len(),
+            choice,
+            lent.model.as_mut_ptr(),
+            lent.model.len(),
+            lent.bounds.as_mut_ptr(),
+            lent.bounds.len(),
+            lent.groups.as_mut_ptr(),
+            lent.groups.len(),
+            lent.refutation.as_mut_ptr(),
+            lent.refutation.len(),
+            lent.identifiers.as_mut_ptr(),
+            lent.identifiers.len(),
+            lent.work.as_mut_ptr(),
+            lent.work.len(),
         )
     }
 }
@@ -399,6 +512,22 @@ pub fn refutation_in_pieces(n: u64, list: &[i32], numbers: &[u32]) -> i64 {
     let take = |kept, &number: &u32| refutation_take(kept, list, number);
     let kept = numbers.iter().fold(refutation_begin(), take);
     refutation_end(kept, n, list)
+}
+
+/// What `utvpi_shorter` returns.
+pub fn shorter(n: u64, list: &[i32], first: &[u32], second: &[u32]) -> Part {
+    // The function reads the slices within their lengths and keeps no pointer.
+    unsafe {
+        utvpi_shorter(
+            n,
+            list.as_ptr(),
+            list.len(),
+            first.as_ptr(),
+            first.len(),
+            second.as_ptr(),
+            second.len(),
+        )
+    }
 }
 
 /// The result of `utvpi_read_list`.

@@ -2,8 +2,10 @@
 //! them.
 
 // MOST_VARIABLES, MOST_LINES, MOST_REFUTATION, MOST_BOUND and MOST_IDENTIFIER;
-// MOST_STACK, the most bytes of stack that a call takes; of seconds MOST_COUNT,
-// MOST_RECORDERS and the forms SECONDS_PER_TICK and TICKS_PER_SECOND; LINE_NUMBERS; of files
+// MOST_STACK, the most bytes of stack that a call takes; of trees MOST_DEPTH, MOST_CHOICES
+// and the kinds ALL_OF, ANY_OF and LEAF; of seconds MOST_COUNT, MOST_RECORDERS and the forms
+// SECONDS_PER_TICK and TICKS_PER_SECOND; of two refutations
+// SHORTER_NEITHER, SHORTER_FIRST and SHORTER_SECOND; LINE_NUMBERS; of files
 // RECORD_HEAD, VARIABLES_BYTES, KIND_VARIABLES, KIND_LINE, KIND_END and
 // KIND_IDENTIFIED_LINE; of results NO, UNSOLVABLE and REFUSAL_UNIT; rooms(n), the room
 // that each buffer of deciding needs, in their order; and session_room(n), that of a

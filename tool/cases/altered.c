@@ -1,17 +1,22 @@
 /* The library's answer with something altered, for the tests: the command, built with
  * altered_decide in place of utvpi_decide, and so on, has to find it. ALTERATION is a
  * statement for deciding and sessions, PAIR_ALTERATION and LINE_ALTERATION are for the
- * two questions, SECONDS_ALTERATION is for seconds; what is not given alters nothing. */
+ * two questions, FIRST_ALTERATION and CHOICE_ALTERATION for the two calls on alternatives,
+ * SECONDS_ALTERATION is for seconds; what is not given alters nothing. */
 #define utvpi_decide altered_decide
 #define utvpi_session_add altered_session_add
 #define utvpi_implied_pair altered_implied_pair
 #define utvpi_implied_line altered_implied_line
+#define utvpi_tree_first altered_tree_first
+#define utvpi_tree_decide altered_tree_decide
 #define utvpi_events_seconds altered_events_seconds
 #include "utvpi.h"
 #undef utvpi_decide
 #undef utvpi_session_add
 #undef utvpi_implied_pair
 #undef utvpi_implied_line
+#undef utvpi_tree_first
+#undef utvpi_tree_decide
 #undef utvpi_events_seconds
 
 #ifndef ALTERATION
@@ -23,6 +28,12 @@
 #ifndef LINE_ALTERATION
 #define LINE_ALTERATION (void)0
 #endif
+#ifndef FIRST_ALTERATION
+#define FIRST_ALTERATION (void)0
+#endif
+#ifndef CHOICE_ALTERATION
+#define CHOICE_ALTERATION (void)0
+#endif
 #ifndef SECONDS_ALTERATION
 #define SECONDS_ALTERATION (void)0
 #endif
@@ -32,10 +43,12 @@ extern __typeof__(altered_decide) utvpi_decide;
 extern __typeof__(altered_session_add) utvpi_session_add;
 extern __typeof__(altered_implied_pair) utvpi_implied_pair;
 extern __typeof__(altered_implied_line) utvpi_implied_line;
+extern __typeof__(altered_tree_first) utvpi_tree_first;
+extern __typeof__(altered_tree_decide) utvpi_tree_decide;
 extern __typeof__(altered_events_seconds) utvpi_events_seconds;
 
 int64_t altered_decide(uint64_t n, const int32_t *list, size_t list_len,
-                       int64_t *model, size_t model_len, int64_t *bounds, size_t bounds_len,
+                       int32_t *model, size_t model_len, int64_t *bounds, size_t bounds_len,
                        uint32_t *groups, size_t groups_len,
                        uint32_t *refutation, size_t refutation_len,
                        uint32_t *identifiers, size_t identifiers_len,
@@ -49,7 +62,7 @@ int64_t altered_decide(uint64_t n, const int32_t *list, size_t list_len,
 }
 
 int64_t altered_session_add(int64_t *state, size_t state_len, utvpi_line line,
-                            int64_t *model, size_t model_len,
+                            int32_t *model, size_t model_len,
                             int64_t *bounds, size_t bounds_len,
                             uint32_t *groups, size_t groups_len,
                             uint32_t *refutation, size_t refutation_len,
@@ -75,12 +88,40 @@ utvpi_pair altered_implied_pair(uint64_t n, const int32_t *list, size_t list_len
 }
 
 int64_t altered_implied_line(uint64_t n, const int32_t *list, size_t list_len, utvpi_line line,
-                             int64_t *model, size_t model_len, int64_t *work, size_t work_len)
+                             int32_t *model, size_t model_len, int64_t *work, size_t work_len)
 {
     int64_t result = utvpi_implied_line(n, list, list_len, line, model, model_len, work,
                                         work_len);
     LINE_ALTERATION;
     return result;
+}
+
+utvpi_choice altered_tree_first(uint64_t n, const int32_t *list, size_t list_len,
+                                const uint32_t *tree, size_t tree_len,
+                                int32_t *model, size_t model_len,
+                                int64_t *work, size_t work_len)
+{
+    utvpi_choice first = utvpi_tree_first(n, list, list_len, tree, tree_len, model, model_len,
+                                          work, work_len);
+    FIRST_ALTERATION;
+    return first;
+}
+
+utvpi_choice altered_tree_decide(uint64_t n, const int32_t *list, size_t list_len,
+                                 const uint32_t *tree, size_t tree_len, uint64_t choice,
+                                 int32_t *model, size_t model_len,
+                                 int64_t *bounds, size_t bounds_len,
+                                 uint32_t *groups, size_t groups_len,
+                                 uint32_t *refutation, size_t refutation_len,
+                                 uint32_t *identifiers, size_t identifiers_len,
+                                 int64_t *work, size_t work_len)
+{
+    utvpi_choice found = utvpi_tree_decide(n, list, list_len, tree, tree_len, choice, model,
+                                           model_len, bounds, bounds_len, groups, groups_len,
+                                           refutation, refutation_len, identifiers,
+                                           identifiers_len, work, work_len);
+    CHOICE_ALTERATION;
+    return found;
 }
 
 utvpi_seconds altered_events_seconds(const uint32_t *forms, size_t forms_len,

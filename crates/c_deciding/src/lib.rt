@@ -25,7 +25,7 @@ pub fn decide_code(a: Answer) -> i64
 pub extern "C" fn utvpi_decide(
     n: u64,
     list: &[i32],
-    model: &mut [i64],
+    model: &mut [i32],
     bounds: &mut [i64],
     groups: &mut [u32],
     refutation: &mut [u32],

@@ -5,18 +5,19 @@ use Prim.Native.Nat.{ℕ}
 use native.Mathlib.Omega.{arith}
 use lib.IntN.{ℤ}
 use Rattle.lines.specs.declared.Line.{Line}
+use Rattle.decide_buffers.specs.Room.{ModelLent}
 use Rattle.implied_line.specs.declared.LineAnswer.{LineAnswer}
 use Rattle.implied_line.specs.declared.LineAnswer.the-variants.{Implied, NotImplied, Unsolvable, Refused}
-use Rattle.implied_line.specs.Answer.{LineLent, answerFor, AnswersLine}
+use Rattle.implied_line.specs.Answer.{answerFor, AnswersLine}
 use Rattle.implied_line.specs.Places.{Below, answer-below}
 use Rattle.c_codes.specs.Codes.{noCode, noSolutionCode, refusalUnit}
 use Rattle.c_codes.specs.Apart.{refusals-apart, no-refusal, same-pos}
 use Rattle.c_implied_line.specs.Calls.{lineCode, LineReturns}
 
-pub line-below : (n : ℕ) (L : List ℤ) (l : Line) (b : LineLent) → Below refusalUnit (answerFor n L l b)
+pub line-below : (n : ℕ) (L : List ℤ) (l : Line) (b : ModelLent) → Below refusalUnit (answerFor n L l b)
 line-below = answer-below refusalUnit (omega arith) (omega arith)
 
-module _ {n : ℕ} {L : List ℤ} {l : Line} {answer : LineAnswer} {b a : LineLent} (d : AnswersLine n L l answer b a) where
+module _ {n : ℕ} {L : List ℤ} {l : Line} {answer : LineAnswer} {b a : ModelLent} (d : AnswersLine n L l answer b a) where
   pub promised-below : Below refusalUnit answer
   promised-below = subst (Below refusalUnit) (sym (d .is)) (line-below n L l b)
 

@@ -30,7 +30,7 @@ pub extern "C" fn utvpi_implied_line(
     n: u64,
     list: &[i32],
     line: Line,
-    model: &mut [i64],
+    model: &mut [i32],
     work: &mut [i64],
 ) -> i64
     ensures { λ r. ⌜ LineReturns n (now (list .entry)) line r

@@ -36,7 +36,7 @@ pub extern "C" fn utvpi_session_start(n: u64, state: &mut [i64]) -> i64
 pub extern "C" fn utvpi_session_add(
     state: &mut [i64],
     line: Line,
-    model: &mut [i64],
+    model: &mut [i32],
     bounds: &mut [i64],
     groups: &mut [u32],
     refutation: &mut [u32],

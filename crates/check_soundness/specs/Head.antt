@@ -3,7 +3,7 @@ use mathlib.Core.Path.{_≡_}
 use mathlib.Core.List.{List, [], _∷_}
 use Prim.Native.Nat.{ℕ, _+_, _<_, _≤_}
 use native.Mathlib.Omega.{arith}
-use lib.ListN.{length, getD}
+use lib.ListN.{length, getD, take}
 use Rattle.check_refutation.specs.Progress.{headSize}
 
 -- the kind, and the two counts p and q, that a refutation states
@@ -19,6 +19,13 @@ secondCount R = getD R 2 0
 -- the steps in all
 abbrev pub stepsIn : List ℕ → ℕ
 stepsIn R = firstCount R + secondCount R
+
+-- the refutation at the front of a buffer or a lent slice: the first 3 + p + q numbers, by the counts that stand there
+abbrev pub statedLength : List ℕ → ℕ
+statedLength R = headSize + stepsIn R
+
+abbrev pub stated : List ℕ → List ℕ
+stated R = take (statedLength R) R
 
 -- 1, 2 or 3
 abbrev pub IsKind : ℕ → Type 0

@@ -2,7 +2,7 @@
 use mathlib.Core.Path.{_≡_, refl, ap, _∙_}
 use mathlib.Core.Bool.{Bool, true, false, cond}
 use mathlib.Core.List.{List}
-use Prim.Native.Nat.{ℕ, _+_}
+use Prim.Native.Nat.{ℕ}
 use lib.IntN.{ℤ}
 use lib.ListN.{length, take, drop}
 use lib.Seq.{take-at}
@@ -12,8 +12,7 @@ use Rattle.lines.specs.declared.Validity.{Validity}
 use Rattle.lines.specs.declared.Validity.the-variants.{Valid}
 use Rattle.lines.specs.declared.Validity.the-variants as validity
 use Rattle.lines.specs.Line.{linesOf}
-use Rattle.check_refutation.specs.Progress.{headSize}
-use Rattle.check_soundness.specs.Head.{stepsIn}
+use Rattle.check_soundness.specs.Head.{stepsIn, stated}
 use Rattle.check_soundness.specs.Refutes.{stated-length}
 use Rattle.theory_bounds.specs.Verdict.{verdictOf}
 use Rattle.theory_bounds.specs.Answers.{modelOf, boundsOf, groupsOf}
@@ -31,9 +30,6 @@ boundsIn n a = take (boundsRoom n) (a .bounds)
 
 abbrev pub groupsIn : ℕ → Lent → List ℕ
 groupsIn n a = take (groupsRoom n) (a .groups)
-
-abbrev pub stated : List ℕ → List ℕ
-stated R = take (headSize + stepsIn R) R
 
 abbrev pub refutationIn : Lent → List ℕ
 refutationIn a = stated (a .refutation)
@@ -94,7 +90,7 @@ module _ {n : ℕ} {L : List ℤ} {b a : Lent} where
   pub refutation-in : (w : OnNo n L b a) → refutationIn a ≡ w .numbers
   refutation-in w =
       let size = stated-length L (w .numbers) (w .due .refutes) (drop (length (w .numbers)) (b .refutation)) in
-      ap (λ (R : List ℕ). take (headSize + stepsIn R) R) (w .refutation) ∙ take-at (w .numbers) _ _ size
+      ap stated (w .refutation) ∙ take-at (w .numbers) _ _ size
 
   -- the counts that the buffer states are those of the refutation
   pub steps-in : (w : OnNo n L b a) → stepsIn (a .refutation) ≡ stepsIn (w .numbers)

@@ -109,7 +109,7 @@ pub fn refuted(list: &[i32], n: usize, refutation: &mut [u32], work: &mut [i64])
 pub fn refuted_or_modelled(
     list: &[i32],
     n: usize,
-    model: &mut [i64],
+    model: &mut [i32],
     refutation: &mut [u32],
     work: &mut [i64],
 ) -> bool
@@ -129,7 +129,7 @@ pub fn refuted_or_modelled(
 pub fn decide(
     n: usize,
     list: &[i32],
-    model: &mut [i64],
+    model: &mut [i32],
     bounds: &mut [i64],
     groups: &mut [u32],
     refutation: &mut [u32],

@@ -8,7 +8,7 @@ use native.Mathlib.Omega.{arith}
 use borrow.Author.Tests.{ltb-false, le-ltb}
 use lib.Dec.{ltb}
 use lib.IntN.{ℤ}
-use lib.ListN.{length, set, drop, replicate, length-replicate}
+use lib.ListN.{length, set, take, drop, replicate, length-replicate}
 use Rattle.integers.specs.Sequence.{grow}
 use Rattle.lines.specs.Limits.{maxVariables}
 use Rattle.lines.specs.declared.Refusal.{Refusal}
@@ -39,6 +39,17 @@ pub record Lengths : Type 0 where
 
 abbrev pub lengthsOf : Lent → Lengths
 lengthsOf b = record { model = length (b .model); bounds = length (b .bounds); groups = length (b .groups); refutation = length (b .refutation); identifiers = length (b .identifiers); work = length (b .work) }
+
+-- where deciding is asked for no more than a model
+pub record ModelLent : Type 0 where
+  pub model : List ℤ
+  pub work : List ℤ
+
+abbrev pub modelLengths : (model work : ℕ) → Lengths
+modelLengths model work = record { model = model; bounds = 0; groups = 0; refutation = 0; identifiers = 0; work = work }
+
+abbrev pub modelLengthsOf : ModelLent → Lengths
+modelLengthsOf b = modelLengths (length (b .model)) (length (b .work))
 
 -- ---- the room that each needs for n variables
 abbrev pub modelRoom : ℕ → ℕ
@@ -84,6 +95,10 @@ workRooms = record { room = workRoom; size = λ s. s .work; refusal = ShortWorkA
 abbrev pub lentRooms : List Room
 lentRooms = outputRooms ++ workRooms
 
+-- of these the model, which is the first, and the work area
+abbrev pub modelRooms : List Room
+modelRooms = take 1 outputRooms ++ workRooms
+
 -- no place is greater
 abbrev pub mostPlace : ℕ
 mostPlace = 5
@@ -105,7 +120,7 @@ abbrev pub HaveRoom : List Room → ℕ → Lengths → Type 0
 HaveRoom [] n s = Unit {0}
 HaveRoom (r ∷ rs) n s = (r .room n ≤ r .size s) × HaveRoom rs n s
 
-none-short : (rs : List Room) (n : ℕ) (s : Lengths) → firstShort rs n s ≡ Valid → HaveRoom rs n s
+pub none-short : (rs : List Room) (n : ℕ) (s : Lengths) → firstShort rs n s ≡ Valid → HaveRoom rs n s
 none-short [] n s e = tt
 none-short (r ∷ rs) n s e =
     let p = or-valid (refuseIf (ltb (r .size s) (r .room n)) (r .refusal)) (firstShort rs n s) e in

@@ -9,7 +9,7 @@ ghost use Prim.Native.Nat.{_+_, _*_, _≤_};
 ghost use lib.IntN.{pos};
 ghost use lib.ListN.{length, drop, replicate};
 ghost use Rattle.lines.specs.Limits.{maxVariables};
-ghost use Rattle.decide_buffers.specs.Room.{modelRoom, boundsRoom, groupsRoom, refutationRoom, identifiersRoom, workRoom, roomsValidity, decideValidity};
+ghost use Rattle.decide_buffers.specs.Room.{modelRoom, boundsRoom, groupsRoom, refutationRoom, identifiersRoom, workRoom, modelLengths, modelRooms, firstShort, roomsValidity, decideValidity};
 
 // The numbers of a room for each variable, for each pair of variables, and besides.
 const MODEL_EACH: usize = 1;
@@ -126,6 +126,20 @@ fn rooms_validity(
     }
     if identifiers < identifiers_room(n) {
         return Validity::Refused(Refusal::ShortOutput(5));
+    }
+    if work < work_room(n) {
+        return Validity::Refused(Refusal::ShortWorkArea);
+    }
+    Validity::Valid
+}
+
+// The same where no more than a model is written: of the model, then of the work area.
+pub fn model_validity(n: usize, model: usize, work: usize) -> Validity
+    requires { ⌜ n ≤ maxVariables ⌝ }
+    ensures { λ r. ⌜ r ≡ firstShort modelRooms n (modelLengths model work) ⌝ }
+{
+    if model < model_room(n) {
+        return Validity::Refused(Refusal::ShortOutput(1));
     }
     if work < work_room(n) {
         return Validity::Refused(Refusal::ShortWorkArea);

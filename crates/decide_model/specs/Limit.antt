@@ -6,7 +6,7 @@ use native.Mathlib.Numerals.{add-one}
 use native.Mathlib.Omega.{arith}
 use lib.IntN.{ℤ, pos, negℤ}
 use lib.ListN.{length}
-use mir.Syntax.{w64}
+use mir.Syntax.{w32, w64}
 use mir.Val.{SFits}
 use Rattle.integers.specs.Integer.{_⩽_, Within}
 use Rattle.integers.specs.Linear.{ints, zs}
@@ -56,7 +56,8 @@ plus-point x = omega arith
 pub minus-fits : (v : ℤ) → Within maxSum v → SFits w64 (negℤ v)
 minus-fits v h = simp ints (omega zs)
 
-pub value-fits : (v : ℤ) → Within maxModel v → SFits w64 v
+-- a value fits 32 bits, in which it is kept
+pub value-fits : (v : ℤ) → Within maxModel v → SFits w32 v
 value-fits v h = simp ints (omega zs)
 
 pub minus-within : (m : ℕ) (v : ℤ) → Within m v → Within m (negℤ v)

@@ -4,6 +4,8 @@ use mathlib.Core.List.{List, [], _∷_, _++_}
 use Prim.Native.Nat.{ℕ, zero, suc, _+_, _*_, _<_, _≤_}
 use native.Mathlib.Decide.{ℕ-discrete}
 use native.Mathlib.Omega.{arith}
+use mir.Syntax.{w32}
+use mir.Val.{SFits}
 use lib.IntN.{ℤ, pos}
 use lib.ListN.{length, set, take, drop}
 use lib.Seq.{take-at}
@@ -21,7 +23,7 @@ use Rattle.theory_bounds.specs.Model.{model}
 use Rattle.theory_bounds.specs.Table.{ClosedTable, tableModel, half-sound, model-solves}
 use Rattle.decide_rows.specs.Read.{distanceOf}
 use Rattle.decide_stored_table.specs.Table.{tableOf, ShortTable}
-use Rattle.decide_model.specs.Limit.{maxModel, limitOf}
+use Rattle.decide_model.specs.Limit.{maxModel, limitOf, value-fits}
 
 -- the value of the next variable, given those of the first ones
 abbrev pub nextOf : Table → List ℤ → ℤ
@@ -102,9 +104,16 @@ module _ (n : ℕ) (t m : List ℤ) (ok : ModelReady n t m) where
     unfolding tableModel
     value-is = next-is (tight D) (halves D) n k l (assignmentOf (take k w)) part-at
 
+    next-value : nextOf D (take k w) ≡ tableModel n D k
+    next-value = ap (λ (j : ℕ). pick (tight D) (halves D) (assignmentOf (take k w)) (below j) j) part-length ∙ value-is
+
+    -- the next value is small enough for its place
+    pub next-fits : (v : ℤ) → v ≡ nextOf D (take k w) → SFits w32 v
+    next-fits v q = value-fits v (rw (q ∙ next-value) (ok .small k l))
+
     pub written-more : (v : ℤ) → v ≡ nextOf D (take k w) → set w k v ≡ values (k + 1) ++ drop (k + 1) m
     written-more v q =
-        let a : v ≡ tableModel n D k = q ∙ ap (λ (j : ℕ). pick (tight D) (halves D) (assignmentOf (take k w)) (below j) j) part-length ∙ value-is in
+        let a : v ≡ tableModel n D k = q ∙ next-value in
         ap₂ (λ (x : List ℤ) (y : ℤ). set x k y) e a
         ∙ grow (values k) k (tableModel n D k) (pos 0) m (length-tabulate k (tableModel n D)) (omega (arith, ok .room))
         ∙ ap (λ (x : List ℤ). x ++ drop (k + 1) m) (sym (tabulate-add k 1 (tableModel n D) ∙ ap (λ (j : ℕ). values k ++ tableModel n D j ∷ []) z))

@@ -40,14 +40,14 @@ fn limit_step(table: &[i64], n: usize, p: usize, x: usize, value: i64, limit: i6
 }
 
 // The greatest value of the point p, given the values of the first variables.
-fn limit_at(table: &[i64], n: usize, p: usize, values: &[i64]) -> i64
+fn limit_at(table: &[i64], n: usize, p: usize, values: &[i32]) -> i64
     requires { ⌜ LimitReady n p (now table) (now values) ⌝ }
     ensures { λ r. ⌜ r ≡ stored (limitOf (tableOf (2 * n) (now (table .entry))) (now (values .entry)) (length (now (values .entry))) p) ⌝ }
 {
     let mut limit = half_at(table, n, p);
     let mut x = 0;
     while x < values.len() {
-        limit = limit_step(table, n, p, x, values[x], limit);
+        limit = limit_step(table, n, p, x, values[x] as i64, limit);
         x += 1;
     }
     limit
@@ -67,7 +67,7 @@ fn nearest_value(up: i64, low: i64) -> i64
 }
 
 // The value of the next variable, given those of the first ones.
-fn next_value(table: &[i64], n: usize, values: &[i64]) -> i64
+fn next_value(table: &[i64], n: usize, values: &[i32]) -> i64
     requires { ⌜ ValueReady n (now table) (now values) ⌝ }
     ensures { λ r. ⌜ r ≡ nextOf (tableOf (2 * n) (now (table .entry))) (now (values .entry)) ⌝ }
 {
@@ -77,14 +77,14 @@ fn next_value(table: &[i64], n: usize, values: &[i64]) -> i64
     nearest_value(up, low)
 }
 
-// The values of the n variables at the front of `model`.
-pub fn write_model(table: &[i64], n: usize, model: &mut [i64])
+// The values of the n variables at the front of `model`: each is small enough for 32 bits.
+pub fn write_model(table: &[i64], n: usize, model: &mut [i32])
     requires { ⌜ ModelReady n (now table) (now model) ⌝ }
     ensures { λ _. ⌜ now (model .exit) ≡ tabulate n (tableModel n (tableOf (2 * n) (now (table .entry)))) ++ drop n (now (model .entry)) ⌝ }
 {
     let mut k = 0;
     while k < n {
-        let value = next_value(table, n, &model[0..k]);
+        let value = next_value(table, n, &model[0..k]) as i32;
         model[k] = value;
         k += 1;
     }

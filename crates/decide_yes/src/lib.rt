@@ -16,7 +16,7 @@ ghost use Rattle.decide_yes.specs.Ready.{AnswersReady};
 pub fn write_answers(
     table: &[i64],
     n: usize,
-    model: &mut [i64],
+    model: &mut [i32],
     bounds: &mut [i64],
     groups: &mut [u32],
 )

@@ -2,10 +2,12 @@
 use mathlib.Core.Path.{_≡_, refl, sym, ap, subst, _∙_}
 use mathlib.Core.Bool.{Bool, true, false, cond, not}
 use mathlib.Core.List.{List, [], _∷_, _++_, reverse, map}
-use Prim.Native.Nat.{ℕ, zero, suc, _+_, _*_, _-_, _/_, _%_, _<_}
+use Prim.Native.Nat.{ℕ, zero, suc, _+_, _*_, _-_, _/_, _%_, _^_, _<_}
 use native.Mathlib.Omega.{arith}
+use mir.Syntax.{w16, w64}
+use mir.Val.{bits, ofZ, toZ}
 use lib.Dec.{eqb, ltb}
-use lib.IntN.{ℤ, pos, negℤ}
+use lib.IntN.{ℤ, pos, negsuc, negℤ}
 use lib.ListN.{length, getD, take, drop, replicate}
 use Rattle.integers.specs.Laws.{never}
 use Rattle.integers.specs.Sequence.{tabulate}
@@ -628,3 +630,45 @@ writesLineNumbers = leaving rightYes (identifying lineNumbersOf)
 pub writes-line-numbers-breaks : Keeps writesLineNumbers → ⊥
 unfolding writesLineNumbers
 writes-line-numbers-breaks k = let e : _≡_ {A = ℕ} 0 2048 = first-identifier lineNumbersOf k in absurd (omega arith)
+
+-- ---- a version whose verdict depends on the first line: it looks at that alone, and else writes right
+pub firstLineOnly : Version
+firstLineOnly n L b = outcome (unlessRefused (validityFor n L b) (cond (verdictOf n (take 1 (linesOf L))) Yes No)) b (rightYes n L b) (rightNo n L b)
+
+-- case 8: its first line alone can be met
+pub first-line-only-breaks : Keeps firstLineOnly → ⊥
+unfolding firstLineOnly decideValidity roomsValidity validityOf linesValidity lineTests lineAt isFalse verdictOf hasFalse noNegative consistentHalves
+    entry digit stepOf stepsOf relaxRow startRow rounds rowAt best opposite
+first-line-only-breaks k = let e : Yes ≡ No = k 1 list-8 (roomWith 1 9) .is ∙ list-8-no in never (cc)
+
+-- a false line, and x at most 5, in both orders: it says no to the one and yes to the other
+pub first-line-no : firstLineOnly 1 (falseList ++ atMost5) (roomWith 1 0) .answer ≡ No
+unfolding firstLineOnly decideValidity roomsValidity validityOf linesValidity lineTests lineAt isFalse verdictOf hasFalse
+first-line-no = refl
+
+pub first-line-yes : firstLineOnly 1 (atMost5 ++ falseList) (roomWith 1 0) .answer ≡ Yes
+unfolding firstLineOnly decideValidity roomsValidity validityOf linesValidity lineTests lineAt isFalse verdictOf hasFalse noNegative consistentHalves
+    entry digit stepOf stepsOf relaxRow startRow rounds rowAt best opposite
+first-line-yes = refl
+
+-- ---- a version that cuts the model to 16 bits
+-- the low 16 bits of a number's 64, read as signed
+abbrev cutTo16 : ℤ → ℤ
+cutTo16 z = toZ w16 (ofZ w64 z % 2 ^ bits w16)
+
+abbrev cutYes : Left
+cutYes n L = written n (map cutTo16 (modelOf n (linesOf L))) (boundsOf n (linesOf L)) (groupsOf n (linesOf L))
+
+pub cutsModel : Version
+cutsModel = leaving cutYes rightNo
+
+-- x at least 40,000
+abbrev atLeast40000 : List ℤ
+atLeast40000 = negℤ (pos 1) ∷ pos 0 ∷ pos 0 ∷ pos 0 ∷ negℤ (pos 40_000) ∷ pos 0 ∷ []
+
+pub cuts-model-breaks : Keeps cutsModel → ⊥
+unfolding cutsModel decideAnswer decideValidity roomsValidity validityOf linesValidity lineTests lineAt isFalse verdictOf hasFalse noNegative consistentHalves
+    entry digit stepOf stepsOf relaxRow startRow rounds rowAt best opposite assign above atMost near halves tight limit pick model tableModel modelOf
+cuts-model-breaks k =
+    let s = on-yes cutYes rightNo k 1 atLeast40000 (room 1) refl in
+    let e : negsuc 25_535 ∷ [] ≡ pos 40_000 ∷ [] = s .model in never (cc)

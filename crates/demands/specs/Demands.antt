@@ -1,16 +1,17 @@
 -- What was demanded, in the words of docs/SPECIFICATION.md, each statement proved by citing the rest: here of deciding, of the answers and of the checkers, in
 -- Exported.antt of what C gets, in Files.antt of files and the program, in Sessions.antt of sessions, in Implied.antt and ImpliedLine.antt of what a list
--- implies, in Seconds.antt of models in seconds.
+-- implies, in Trees.antt of conditions with alternatives, in Seconds.antt of models in seconds, in Shorter.antt of the shorter of two refutations, in Order.antt of the order of lines, in Small.antt of how
+-- large the answers are.
 --
 -- A reader has to believe the meaning of the words (`Solves`, `Written` in theory_answers/specs/Semantics.antt, `Refutes` and `BreaksAt` in check_soundness/specs),
 -- the table of refusals (`refusalTable` in Refusals.antt, with `lentRooms` in decide_buffers/specs/Room.antt) and what a call is (`Call` in Calls.antt), and
 -- nothing of how the answers are computed.
 --
 -- The promises of the code are equations, for every input: `decide` promises `Decided` (decide/specs/Decided.antt), `check_model` answers
--- `modelAnswer`, `check_refutation` answers `refutationAnswer`, the exported functions return `DecideReturns`, `checkModel`,
--- `checkRefutation`, `refutationBegin`, `refutationTake` and `refutationEnd`, and `report_input`, which the program calls, promises
--- `InputReported` (file_report/specs/Input.antt). src/lib.rt calls both checkers on buffers that could be written, and proves that every buffer
--- is left as it was.
+-- `modelAnswer`, `check_refutation` answers `refutationAnswer`, `shorter` hands back `shorterSlice`, the exported functions return `DecideReturns`,
+-- `checkModel`, `checkRefutation`, `refutationBegin`, `refutationTake`, `refutationEnd` and `shorterReturned`, and `report_input`, which the program calls,
+-- promises `InputReported` (file_report/specs/Input.antt). src/lib.rt calls both checkers and `shorter` on buffers that could be written, and proves that
+-- every buffer is left as it was.
 use mathlib.Core.Path.{_≡_, refl, sym, ap, subst, _∙_}
 use mathlib.Core.Logic.{_⊎_, _↔_, Iff·rfl, Iff·trans, Iff·and}
 use mathlib.Core.Bool.{Bool, true, false, cond}
@@ -47,7 +48,8 @@ use Rattle.check_soundness.specs.Bare.{same-checked}
 use Rattle.theory_bounds.specs.Verdict.{verdictOf, dueKind}
 use Rattle.theory_bounds.specs.Answers.{modelOf, boundsOf, groupsOf}
 use Rattle.theory_bounds.specs.Bare.{same-verdict as same-verdict-bare, same-model, same-bounds, same-groups, same-kind}
-use Rattle.theory_answers.specs.Small.{AllAbove, model-small}
+use Rattle.theory_answers.specs.Moved.{AllAbove}
+use Rattle.theory_answers.specs.Small.{model-small}
 use Rattle.theory_answers.specs.Refuted.{Due, due-refutation}
 use Rattle.theory_answers.specs.Meaning.{computed-written, no-tie}
 use Rattle.theory_answers.specs.Decided.{DueKind, LowestFalseLine, names-the-lowest, lines-ok, yes-solvable, no-unsolvable, solvable-yes, unsolvable-no, due-accepted, accepted-no, kind-due}

@@ -20,20 +20,21 @@ use Rattle.lines.specs.declared.Line.{Line}
 use Rattle.lines.specs.declared.Refusal.{Refusal}
 use Rattle.lines.specs.declared.Validity.{Validity}
 use Rattle.lines.specs.declared.Validity.the-variants as validity
-use Rattle.lines.specs.Line.{lineCount, linesOf, Assignment, Meets, Solves, Solvable, Entails}
+use Rattle.lines.specs.Line.{lineCount, linesOf, Assignment, Meets, Solves, Solvable, Entails, SameSolutions}
 use Rattle.lines.specs.Refusal.{placeOf}
-use Rattle.lines.specs.Valid.{valid-list}
+use Rattle.lines.specs.Valid.{valid-list, workable}
 use Rattle.check_soundness.specs.Refutes.{Refutes}
 use Rattle.theory_bounds.specs.Verdict.{verdictOf}
 use Rattle.theory_bounds.specs.Answers.{modelOf}
 use Rattle.theory_answers.specs.Refuted.{Due}
 use Rattle.theory_answers.specs.Longer.{longer-entails}
-use Rattle.decide_buffers.specs.Room.{modelRoom}
+use Rattle.theory_answers.specs.Same.{model-too, same-verdict}
+use Rattle.decide_buffers.specs.Room.{modelRoom, modelRooms, ModelLent, modelLengthsOf}
 use Rattle.decide.specs.Decided.{cleared}
 use Rattle.implied_line.specs.declared.LineAnswer.{LineAnswer}
 use Rattle.implied_line.specs.declared.LineAnswer.the-variants.{Implied, NotImplied, Unsolvable, Refused}
-use Rattle.implied_line.specs.Opposite.{opposite, opposed, meets-opposite}
-use Rattle.implied_line.specs.Answer.{lineRooms, questionValidity, judgedBy, judged, unlessRefused, impliedAnswer, LineLent, lengthsOf, answerFor, modelLeft, workLeft, AnswersLine}
+use Rattle.implied_line.specs.Opposite.{opposite, opposed, opposed-works, meets-opposite, solves-opposed}
+use Rattle.implied_line.specs.Answer.{questionValidity, judgedBy, judged, unlessRefused, impliedAnswer, answerFor, modelLeft, workLeft, AnswersLine}
 use Rattle.implied_line.specs.Judged.{LineAsked, asked}
 use Rattle.implied_line.specs.Meaning.{Implies, Breaks, BreakingModel, implies-more, breaks-before, implied-exactly, not-implied-exactly, unsolvable-exactly, breaking-model, one-breaking-model, implied-shown, shown-implied}
 use Rattle.implied_line.specs.Places.{Below, NotRefused, answered-valid}
@@ -54,15 +55,15 @@ opposite-exactly s l = meets-opposite s l
 -- ---- refusals
 
 -- The list's; then the rules of a line, at the number that it would have behind the list; then 7 at 1, for the model, and 8.
-abbrev pub questionTable : ℕ → List ℤ → Line → LineLent → List Row
-questionTable n L l lent = listTable n L ++ (lineTable n (lineCount L) l ++ roomsTable lineRooms n (lengthsOf lent))
+abbrev pub questionTable : ℕ → List ℤ → Line → ModelLent → List Row
+questionTable n L l lent = listTable n L ++ (lineTable n (lineCount L) l ++ roomsTable modelRooms n (modelLengthsOf lent))
 
-pub question-refused-exactly-if : (n : ℕ) (L : List ℤ) (l : Line) (x : LineAnswer) (b a : LineLent) → AnswersLine n L l x b a
+pub question-refused-exactly-if : (n : ℕ) (L : List ℤ) (l : Line) (x : LineAnswer) (b a : ModelLent) → AnswersLine n L l x b a
     → (r : Refusal) → (x ≡ Refused r) ↔ FirstApplies (questionTable n L l b) r
 unfolding impliedAnswer questionValidity
 question-refused-exactly-if n L l x b a d r =
-    let f = gives-refused (gives-or (list-gives n L) (gives-or (line-gives n (lineCount L) l) (rooms-give lineRooms n (lengthsOf b)))) r in (
-      (λ e. f .0 (fore (questionValidity n L l (lengthsOf b)) (verdictOf n (linesOf L)) (verdictOf n (linesOf (opposed L l))) (sym (d .is) ∙ e))),
+    let f = gives-refused (gives-or (list-gives n L) (gives-or (line-gives n (lineCount L) l) (rooms-give modelRooms n (modelLengthsOf b)))) r in (
+      (λ e. f .0 (fore (questionValidity n L l (modelLengthsOf b)) (verdictOf n (linesOf L)) (verdictOf n (linesOf (opposed L l))) (sym (d .is) ∙ e))),
       (λ g. d .is ∙ ap (λ (v : Validity). unlessRefused v (judged n L l)) (f .1 g)),
     )
   where
@@ -73,14 +74,14 @@ question-refused-exactly-if n L l x b a d r =
     fore (validity.Refused q) s t e = cc
 
 -- A refusal leaves both buffers as they were. That the call ends is part of its promise.
-pub refused-question-changes-nothing : (n : ℕ) (L : List ℤ) (l : Line) (r : Refusal) (b a : LineLent) → AnswersLine n L l (Refused r) b a → a ≡ b
+pub refused-question-changes-nothing : (n : ℕ) (L : List ℤ) (l : Line) (r : Refusal) (b a : ModelLent) → AnswersLine n L l (Refused r) b a → a ≡ b
 refused-question-changes-nothing n L l r b a d = ap₂ both (d .model) (d .work)
   where
-    both : List ℤ → List ℤ → LineLent
+    both : List ℤ → List ℤ → ModelLent
     both m w = record { model = m; work = w }
 
 -- Every question is answered or refused, whatever it asks and whatever stands in the buffers: what is stated here is of something.
-pub questions-exist : (n : ℕ) (L : List ℤ) (l : Line) (b : LineLent) → (x : LineAnswer) × (a : LineLent) × AnswersLine n L l x b a
+pub questions-exist : (n : ℕ) (L : List ℤ) (l : Line) (b : ModelLent) → (x : LineAnswer) × (a : ModelLent) × AnswersLine n L l x b a
 questions-exist n L l b = let o = right n L l b in (o .answer, o .after, right-keeps n L l b)
 
 -- ---- the answer
@@ -88,16 +89,16 @@ questions-exist n L l b = let o = right n L l b in (o .answer, o .after, right-k
 -- A call that was not refused, whatever stood in the buffers before.
 pub record LineCall (n : ℕ) (L : List ℤ) (l : Line) : Type 0 where
   pub answer : LineAnswer
-  pub before : LineLent
-  pub after : LineLent
+  pub before : ModelLent
+  pub after : ModelLent
   pub promised : AnswersLine n L l answer before after
   pub not-refused : NotRefused answer
 
 module _ {n : ℕ} {L : List ℤ} {l : Line} (c : LineCall n L l) where
-  all-valid : questionValidity n L l (lengthsOf (c .before)) ≡ validity.Valid
+  all-valid : questionValidity n L l (modelLengthsOf (c .before)) ≡ validity.Valid
   all-valid = answered-valid n L l (c .before) (λ r e. c .not-refused r (c .promised .is ∙ e))
 
-  was-asked : LineAsked n L l (c .before .model) (c .before .work)
+  pub was-asked : LineAsked n L l (c .before .model) (c .before .work)
   was-asked = asked n L l (c .before) all-valid
 
   answer-is : c .answer ≡ judged n L l
@@ -195,11 +196,45 @@ line-unlearned n L M l c d =
       no-before = λ e. r .no-exactly .1 (breaks-before (linesOf L) (linesOf (L ++ M)) l more (q .no-exactly .0 e));
     }
 
+-- Answers depend on the solutions alone: two lists with the same solutions have the same answer, and on a no the same model, whatever stood in the buffers.
+pub line-by-solutions-alone : (n : ℕ) (L M : List ℤ) (l : Line) (c : LineCall n L l) (d : LineCall n M l) → SameSolutions (linesOf L) (linesOf M)
+    → (c .answer ≡ d .answer) × (c .answer ≡ NotImplied → take (modelRoom n) (c .after .model) ≡ take (modelRoom n) (d .after .model))
+line-by-solutions-alone n L M l c d same = (answers, (λ e. right-line n M l d .only-model (sym answers ∙ e) _ (moved (right-line n L l c .model e))))
+  where
+    v : LineAsked n L l (c .before .model) (c .before .work)
+    v = was-asked c
+
+    w : LineAsked n M l (d .before .model) (d .before .work)
+    w = was-asked d
+
+    -- the solutions of the lists with the opposite line behind them are the same, too
+    opposed-same : SameSolutions (linesOf (opposed L l)) (linesOf (opposed M l))
+    opposed-same s =
+        let f = solves-opposed L l (valid-list n L (v .list) .whole) s in
+        let g = solves-opposed M l (valid-list n M (w .list) .whole) s in
+        ((λ h. let p = f .0 h in g .1 (same s .0 (p .0), p .1)), (λ h. let p = g .0 h in f .1 (same s .1 (p .0), p .1)))
+
+    answers : c .answer ≡ d .answer
+    answers =
+        answer-is c
+        ∙ ap₂ judgedBy (same-verdict n L M (workable n L (v .list)) (workable n M (w .list)) same)
+        (same-verdict n (opposed L l) (opposed M l) (opposed-works n (lineCount L) L l (v .list) (v .line)) (opposed-works n (lineCount M) M l (w .list) (w .line)) opposed-same)
+        ∙ sym (answer-is d)
+
+    moved : {m : List ℤ} → BreakingModel n L l m → BreakingModel n M l m
+    moved b =
+        record {
+          model-length = b .model-length;
+          model-is = model-too (linesOf (opposed L l)) (linesOf (opposed M l)) opposed-same (b .model-is);
+          solves = same _ .0 (b .solves);
+          breaks = b .breaks;
+        }
+
 -- ---- the exported function
 
 -- A result that is not below 0 is that of a call which was not refused, so that all this holds of it: 0 is its yes, 1,000,000 its no, and 2,000,000 a list
 -- without a solution.
-pub record ReturnedLine (n : ℕ) (L : List ℤ) (l : Line) (r : ℤ) (b a : LineLent) : Type 0 where
+pub record ReturnedLine (n : ℕ) (L : List ℤ) (l : Line) (r : ℤ) (b a : ModelLent) : Type 0 where
   pub call : LineCall n L l
   pub before : call .before ≡ b
   pub after : call .after ≡ a
@@ -207,7 +242,7 @@ pub record ReturnedLine (n : ℕ) (L : List ℤ) (l : Line) (r : ℤ) (b a : Lin
   pub not-implied : (call .answer ≡ NotImplied) ↔ (r ≡ pos noCode)
   pub unsolvable : (call .answer ≡ Unsolvable) ↔ (r ≡ pos noSolutionCode)
 
-module _ (n : ℕ) (L : List ℤ) (l : Line) (r : ℤ) (b a : LineLent) (d : LineReturns n L l r b a) where
+module _ (n : ℕ) (L : List ℤ) (l : Line) (r : ℤ) (b a : ModelLent) (d : LineReturns n L l r b a) where
   -- the number tells the answer, since no two answers have one
   returned-exactly : (x : LineAnswer) → Below refusalUnit x → (answerFor n L l b ≡ x) ↔ (r ≡ lineCode x)
   returned-exactly x h = ((λ e. d .is ∙ ap lineCode e), (λ q. lines-apart _ _ (line-below n L l b) h (sym (d .is) ∙ q)))
@@ -250,5 +285,5 @@ module _ (n : ℕ) (L : List ℤ) (l : Line) (r : ℤ) (b a : LineLent) (d : Lin
       go (Refused s) e t = refused-question-changes-nothing n L l s b a t
 
 -- No two answers are returned as one number.
-pub lines-returned-apart : (n m : ℕ) (L M : List ℤ) (l o : Line) (b c : LineLent) → lineCode (answerFor n L l b) ≡ lineCode (answerFor m M o c) → answerFor n L l b ≡ answerFor m M o c
+pub lines-returned-apart : (n m : ℕ) (L M : List ℤ) (l o : Line) (b c : ModelLent) → lineCode (answerFor n L l b) ≡ lineCode (answerFor m M o c) → answerFor n L l b ≡ answerFor m M o c
 lines-returned-apart n m L M l o b c = lines-apart _ _ (line-below n L l b) (line-below m M o c)

@@ -22,23 +22,23 @@ use Rattle.theory_bounds.specs.Model.{model}
 use Rattle.theory_bounds.specs.Table.{tableModel}
 use Rattle.theory_bounds.specs.Verdict.{hasFalse, distances, consistentHalves, verdictOf}
 use Rattle.theory_bounds.specs.Answers.{modelOf}
-use Rattle.decide_buffers.specs.Room.{modelRoom, workRoom}
+use Rattle.decide_buffers.specs.Room.{modelRoom, workRoom, ModelLent, modelLengthsOf}
 use Rattle.implied_line.specs.declared.LineAnswer.{LineAnswer}
 use Rattle.implied_line.specs.declared.LineAnswer.the-variants.{Implied, NotImplied, Unsolvable, Refused}
 use Rattle.implied_line.specs.Opposite.{opposite, opposed}
-use Rattle.implied_line.specs.Answer.{questionValidity, judgedBy, judged, unlessRefused, impliedAnswer, LineLent, lengthsOf, answerFor, modelLeft, workLeft, AnswersLine}
+use Rattle.implied_line.specs.Answer.{questionValidity, judgedBy, judged, unlessRefused, impliedAnswer, answerFor, modelLeft, workLeft, AnswersLine}
 
 -- what a call gives back: its answer, and what the lent buffers hold after
 pub record Outcome : Type 0 where
   pub answer : LineAnswer
-  pub after : LineLent
+  pub after : ModelLent
 
 abbrev pub Version : Type 0
-Version = ℕ → List ℤ → Line → LineLent → Outcome
+Version = ℕ → List ℤ → Line → ModelLent → Outcome
 
 -- the promise of the line question, of any version of it
 abbrev pub Keeps : Version → Type 0
-Keeps f = (n : ℕ) (L : List ℤ) (l : Line) (b : LineLent) → AnswersLine n L l (f n L l b .answer) b (f n L l b .after)
+Keeps f = (n : ℕ) (L : List ℤ) (l : Line) (b : ModelLent) → AnswersLine n L l (f n L l b .answer) b (f n L l b .after)
 
 -- by the answer: a no writes this model, each answer that is no refusal clears the work area
 abbrev writtenBy : ℕ → LineAnswer → (model before : List ℤ) → List ℤ
@@ -47,12 +47,12 @@ writtenBy n NotImplied m b = m ++ drop (modelRoom n) b
 writtenBy n Unsolvable m b = b
 writtenBy n (Refused r) m b = b
 
-abbrev outcome : ℕ → LineAnswer → List ℤ → LineLent → Outcome
+abbrev outcome : ℕ → LineAnswer → List ℤ → ModelLent → Outcome
 outcome n x m b = record { answer = x; after = record { model = writtenBy n x m (b .model); work = workLeft n x (b .work) } }
 
 -- it refuses right, and else answers this, with this model on a no
 abbrev answering : (ℕ → List ℤ → Line → LineAnswer) → (ℕ → List ℤ → Line → List ℤ) → Version
-answering x m n L l b = outcome n (unlessRefused (questionValidity n L l (lengthsOf b)) (x n L l)) (m n L l) b
+answering x m n L l b = outcome n (unlessRefused (questionValidity n L l (modelLengthsOf b)) (x n L l)) (m n L l) b
 
 abbrev opposedModel : ℕ → List ℤ → Line → List ℤ
 opposedModel n L l = modelOf n (linesOf (opposed L l))
@@ -72,7 +72,7 @@ right-keeps n L l b = record { is = refl; model = left (answerFor n L l b); work
     left (Refused r) = refl
 
 -- ---- the inputs: one variable, and buffers of exactly the room needed, all zeros
-abbrev room : LineLent
+abbrev room : ModelLent
 room = record { model = replicate (modelRoom 1) (pos 0); work = replicate (workRoom 1) (pos 0) }
 
 -- x at most 0, and x at least 1

@@ -22,3 +22,11 @@ pub mod ImpliedLineVersions
 pub mod ImpliedLine
 pub mod SecondsVersions
 pub mod Seconds
+pub mod ShorterVersions
+pub mod Shorter
+pub mod Order
+pub mod Small
+pub mod TreeCalls
+pub mod TreeVersions
+pub mod TreeExists
+pub mod Trees

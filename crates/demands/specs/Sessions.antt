@@ -107,6 +107,13 @@ add-then-withdraw n ls refused s p l x b t a d h y u w = add-withdraw p d h w
 
 -- ---- demand 3 along adds
 
+-- An add that was answered is a call of deciding, on all lines so far.
+abbrev pub add-is-a-call : (n : ℕ) (ls : List Line) (refused : Bool) (s : List ℤ) → Reached n ls refused s
+    → (l : Line) (x : Answer) (b : Lent) (t : List ℤ) (a : Lent) → Adds s l x b t a → NotRefused x → Call n (numbersOf (ls ++ l ∷ []))
+add-is-a-call n ls refused s p l x b t a d h =
+    let stood = reached-stands p in
+    record { answer = x; before = b; after = a; decided = adds-to stood l d .afresh (went-on stood l d h); not-refused = h }
+
 -- Two adds of one session that were answered, with no withdrawal between them, are calls of deciding, on a list and on one that begins with all its lines.
 pub record TwoCalls (n : ℕ) (L M : List ℤ) (x : Answer) (a : Lent) (y : Answer) (e : Lent) : Type 0 where
   pub first : Call n L
@@ -125,15 +132,12 @@ pub session-unlearns-nothing : (n : ℕ) (ls : List Line) (refused : Bool) (s : 
 session-unlearns-nothing n ls refused s p l x b t a d h ms u g m y c v e f k =
     let one = reached-more x p d h in
     let more = grown-reached (one .1) g in
-    let stood = reached-stands p in
-    let stands = reached-stands (more .1) in
-    let first = adds-to stood l d .afresh (went-on stood l d h) in
-    let second = adds-to stands m f .afresh (went-on stands m f k) in
+    let early = add-is-a-call n ls refused s p l x b t a d h in
+    let second = add-is-a-call n ((ls ++ l ∷ []) ++ ms) (more .0) u (more .1) m y c v e f k in
     let list : numbersOf (((ls ++ l ∷ []) ++ ms) ++ m ∷ []) ≡ numbersOf (ls ++ l ∷ []) ++ numbersOf (ms ++ m ∷ []) =
     ap numbersOf (append-assoc (ls ++ l ∷ []) ms (m ∷ [])) ∙ numbers-append (ls ++ l ∷ []) (ms ++ m ∷ []) in
-    let early : Call n (numbersOf (ls ++ l ∷ [])) = record { answer = x; before = b; after = a; decided = first; not-refused = h } in
     let late : Call n (numbersOf (ls ++ l ∷ []) ++ numbersOf (ms ++ m ∷ [])) =
-    record { answer = y; before = c; after = e; decided = subst (λ (L : List ℤ). Decided n L y c e) list second; not-refused = k } in
+    record { answer = y; before = c; after = e; decided = subst (λ (L : List ℤ). Decided n L y c e) list (second .decided); not-refused = k } in
     record { first = early; first-answer = refl; first-left = refl; second = late; second-answer = refl; second-left = refl; unlearned = nothing-unlearned n _ _ early late }
 
 -- ---- whatever stands in the state

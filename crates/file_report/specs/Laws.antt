@@ -15,7 +15,7 @@ use Rattle.lines.specs.Limits.{lineSize}
 use Rattle.lines.specs.Line.{linesOf}
 use Rattle.lines.specs.Refusal.{validityOf}
 use Rattle.check_refutation.specs.Progress.{headSize}
-use Rattle.check_soundness.specs.Head.{stepsIn}
+use Rattle.check_soundness.specs.Head.{stepsIn, stated}
 use Rattle.theory_bounds.specs.Verdict.{verdictOf}
 use Rattle.theory_bounds.specs.Answers.{modelOf, boundsOf, groupsOf}
 use Rattle.decide_buffers.specs.Room.{Lent, lengthsOf, modelRoom, boundsRoom, groupsRoom, refutationRoom, lentRooms, HaveRoom}
@@ -24,7 +24,7 @@ use Rattle.decide.specs.declared.Answer.the-variants as answer
 use Rattle.decide.specs.Decided.{unlessRefused, decideAnswer, answerFor, OnYes, OnNo, validityFor, ok-decide}
 use Rattle.decide.specs.Decided as decide
 use Rattle.check_soundness.specs.Refutes.{stated-length}
-use Rattle.decide.specs.Parts.{stated, yes-verdict, no-verdict, model-in, bounds-in, groups-in, refutation-in}
+use Rattle.decide.specs.Parts.{yes-verdict, no-verdict, model-in, bounds-in, groups-in, refutation-in}
 use Rattle.file_records.specs.declared.FileRefusal.{FileRefusal}
 use Rattle.file_records.specs.Refusal.{fileNumber, filePlace}
 use Rattle.file_list.specs.declared.Listed.{Listed}

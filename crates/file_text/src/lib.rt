@@ -76,13 +76,13 @@ fn put_bound(out: &mut [u8], at: usize, z: i64, absent: i64) -> usize
 }
 
 // A variable's number and value, each with a space behind it.
-fn put_value(out: &mut [u8], at: usize, x: usize, value: i64) -> usize
+fn put_value(out: &mut [u8], at: usize, x: usize, value: i32) -> usize
     requires { ⌜ at + 2 * fieldRoom ≤ length (now out) ⌝ }
     ensures { λ r. ⌜ Put (2 * fieldRoom) at (valueText x value) (now (out .entry)) (now (out .exit)) r ⌝ }
 {
     let mut next = put_decimal(out, at, x as u64);
     next = put_byte(out, next, b' ');
-    next = put_signed(out, next, value);
+    next = put_signed(out, next, value as i64);
     put_byte(out, next, b' ')
 }
 
@@ -113,7 +113,7 @@ fn put_variable_line(
     out: &mut [u8],
     at: usize,
     x: usize,
-    model: &[i64],
+    model: &[i32],
     bounds: &[i64],
     groups: &[u32],
 ) -> usize
@@ -126,7 +126,7 @@ fn put_variable_line(
 }
 
 // The answer yes with n variables.
-pub fn write_yes(n: usize, model: &[i64], bounds: &[i64], groups: &[u32], out: &mut [u8]) -> usize
+pub fn write_yes(n: usize, model: &[i32], bounds: &[i64], groups: &[u32], out: &mut [u8]) -> usize
     requires { ⌜ (n ≤ length (now model)) × (2 * n ≤ length (now bounds)) × (2 * n ≤ length (now groups)) × (4 + n * lineRoom ≤ length (now out)) ⌝ }
     ensures { λ r. ⌜ Wrote (yesText n (now (model .entry)) (now (bounds .entry)) (now (groups .entry))) (now (out .entry)) (now (out .exit)) r ⌝ }
 {

@@ -4,7 +4,7 @@ use mathlib.Core.Bool.{Bool, true, false}
 use mathlib.Core.List.{List, _++_}
 use Prim.Native.Nat.{ℕ}
 use lib.IntN.{ℤ}
-use lib.ListN.{length, take, drop}
+use lib.ListN.{drop}
 use Rattle.lines.specs.declared.Line.{Line}
 use Rattle.lines.specs.declared.Validity.{Validity}
 use Rattle.lines.specs.declared.Validity.the-variants as validity
@@ -12,23 +12,16 @@ use Rattle.lines.specs.Line.{lineCount, linesOf}
 use Rattle.lines.specs.Refusal.{_orElse_, lineValidity, validityOf}
 use Rattle.theory_bounds.specs.Verdict.{verdictOf}
 use Rattle.theory_bounds.specs.Answers.{modelOf}
-use Rattle.decide_buffers.specs.Room.{Lengths, modelRoom, Room, outputRooms, workRooms, firstShort}
+use Rattle.decide_buffers.specs.Room.{Lengths, ModelLent, modelLengthsOf, modelRoom, modelRooms, firstShort}
 use Rattle.decide.specs.Decided.{cleared}
 use Rattle.implied_line.specs.declared.LineAnswer.{LineAnswer}
 use Rattle.implied_line.specs.declared.LineAnswer.the-variants.{Implied, NotImplied, Unsolvable, Refused}
 use Rattle.implied_line.specs.Opposite.{opposed}
 
 -- ---- refusals
--- of what deciding is lent, the model, which is the first, and the work area
-abbrev pub lineRooms : List Room
-lineRooms = take 1 outputRooms ++ workRooms
-
-abbrev pub lineLengths : (model work : ℕ) → Lengths
-lineLengths model work = record { model = model; bounds = 0; groups = 0; refutation = 0; identifiers = 0; work = work }
-
 -- the list's; the line's, as if it stood behind the list; then 7, 8
 unfoldable pub questionValidity : ℕ → List ℤ → Line → Lengths → Validity
-questionValidity n L l s = validityOf n L orElse lineValidity n (lineCount L) l orElse firstShort lineRooms n s
+questionValidity n L l s = validityOf n L orElse lineValidity n (lineCount L) l orElse firstShort modelRooms n s
 
 -- ---- the answer
 -- by the verdicts on the list, and on the list with the opposite line behind it
@@ -50,16 +43,9 @@ unfoldable pub impliedAnswer : ℕ → List ℤ → Line → Lengths → LineAns
 impliedAnswer n L l s = unlessRefused (questionValidity n L l s) (judged n L l)
 
 -- ---- what the lent buffers hold
-pub record LineLent : Type 0 where
-  pub model : List ℤ
-  pub work : List ℤ
-
-abbrev pub lengthsOf : LineLent → Lengths
-lengthsOf b = lineLengths (length (b .model)) (length (b .work))
-
 -- the answer, by what is lent
-abbrev pub answerFor : ℕ → List ℤ → Line → LineLent → LineAnswer
-answerFor n L l b = impliedAnswer n L l (lengthsOf b)
+abbrev pub answerFor : ℕ → List ℤ → Line → ModelLent → LineAnswer
+answerFor n L l b = impliedAnswer n L l (modelLengthsOf b)
 
 -- only a no writes the model: that of the list with the opposite line behind it
 abbrev pub modelLeft : ℕ → List ℤ → Line → LineAnswer → List ℤ → List ℤ
@@ -76,7 +62,7 @@ workLeft n Unsolvable w = cleared n w
 workLeft n (Refused r) w = w
 
 -- b is what the buffers held before, a what they hold after
-pub record AnswersLine (n : ℕ) (L : List ℤ) (l : Line) (answer : LineAnswer) (b a : LineLent) : Type 0 where
+pub record AnswersLine (n : ℕ) (L : List ℤ) (l : Line) (answer : LineAnswer) (b a : ModelLent) : Type 0 where
   pub is : answer ≡ answerFor n L l b
   pub model : a .model ≡ modelLeft n L l answer (b .model)
   pub work : a .work ≡ workLeft n answer (b .work)

@@ -20,7 +20,7 @@ use Rattle.lines.specs.LineNumbers.{length-numbers}
 use Rattle.lines.specs.Refusal.{refuseIf, lineValidity, validityOf}
 use Rattle.lines.specs.Valid.{ListOk, or-valid, not-refused, line-ok, valid-list, workable}
 use Rattle.theory_bounds.specs.Verdict.{verdictOf}
-use Rattle.decide_buffers.specs.Room.{modelRoom, refutationRoom, workRoom, HaveRoom}
+use Rattle.decide_buffers.specs.Room.{ModelLent, modelLengthsOf, modelRoom, refutationRoom, workRoom, modelRooms, none-short}
 use Rattle.longer_list.specs.Written.{mostNumbers}
 use Rattle.decide.specs.Searched.{usedRoom, SearchReady, Searched}
 use Rattle.decide.specs.Modelled.{ModelAsked, Modelled}
@@ -28,7 +28,7 @@ use Rattle.decide.specs.Decided.{cleared, used-room, cleared-is}
 use Rattle.implied_line.specs.declared.LineAnswer.{LineAnswer}
 use Rattle.implied_line.specs.declared.LineAnswer.the-variants.{Implied, NotImplied, Unsolvable, Refused}
 use Rattle.implied_line.specs.Opposite.{opposite, opposed, opposed-works}
-use Rattle.implied_line.specs.Answer.{lineLengths, lineRooms, questionValidity, judgedBy, judged, unlessRefused, impliedAnswer, LineLent, lengthsOf, modelLeft, workLeft, AnswersLine}
+use Rattle.implied_line.specs.Answer.{questionValidity, judgedBy, judged, unlessRefused, impliedAnswer, modelLeft, workLeft, AnswersLine}
 
 -- ---- nothing is refused
 pub record LineAsked (n : ℕ) (L : List ℤ) (l : Line) (model work : List ℤ) : Type 0 where
@@ -37,14 +37,13 @@ pub record LineAsked (n : ℕ) (L : List ℤ) (l : Line) (model work : List ℤ)
   pub model-room : modelRoom n ≤ length model
   pub work-room : workRoom n ≤ length work
 
-pub asked : (n : ℕ) (L : List ℤ) (l : Line) (b : LineLent) → questionValidity n L l (lengthsOf b) ≡ Valid → LineAsked n L l (b .model) (b .work)
+pub asked : (n : ℕ) (L : List ℤ) (l : Line) (b : ModelLent) → questionValidity n L l (modelLengthsOf b) ≡ Valid → LineAsked n L l (b .model) (b .work)
 unfolding questionValidity
 asked n L l b e =
     let p = or-valid (validityOf n L) _ e in
     let q = or-valid (lineValidity n (lineCount L) l) _ (p .1) in
-    let r = or-valid (refuseIf (ltb (length (b .model)) (modelRoom n)) _) _ (q .1) in
-    let s = or-valid (refuseIf (ltb (length (b .work)) (workRoom n)) _) _ (r .1) in
-    record { list = p .0; line = q .0; model-room = ltb-false _ _ (not-refused _ _ (r .0)); work-room = ltb-false _ _ (not-refused _ _ (s .0)) }
+    let r = none-short modelRooms n (modelLengthsOf b) (q .1) in
+    record { list = p .0; line = q .0; model-room = r .0; work-room = r .1 .0 }
 
 -- ---- what the searches leave: before model and work, after model′ and work′
 pub record LineJudged (n : ℕ) (L : List ℤ) (l : Line) (model work : List ℤ) (answer : LineAnswer) (model′ work′ : List ℤ) : Type 0 where
@@ -133,12 +132,12 @@ module _ (n : ℕ) (L : List ℤ) (l : Line) (model work : List ℤ) (a : LineAs
             }
 
 -- ---- the call
-module _ (n : ℕ) (L : List ℤ) (l : Line) (b : LineLent) where
-  pub refused : (r : Refusal) → questionValidity n L l (lengthsOf b) ≡ validity.Refused r → AnswersLine n L l (Refused r) b b
+module _ (n : ℕ) (L : List ℤ) (l : Line) (b : ModelLent) where
+  pub refused : (r : Refusal) → questionValidity n L l (modelLengthsOf b) ≡ validity.Refused r → AnswersLine n L l (Refused r) b b
   unfolding impliedAnswer
   refused r e = record { is = sym (ap (λ (v : Validity). unlessRefused v (judged n L l)) e); model = refl; work = refl }
 
-  module _ (e : questionValidity n L l (lengthsOf b) ≡ Valid) where
+  module _ (e : questionValidity n L l (modelLengthsOf b) ≡ Valid) where
     pub room-left : {x : LineAnswer} {m w : List ℤ} → LineJudged n L l (b .model) (b .work) x m w → workRoom n ≤ length w
     room-left j = omega (arith, j .same-length, asked n L l b e .work-room)
 

@@ -19,11 +19,11 @@ use Rattle.lines.specs.Refusal.{placeOf, _orElse_, refuseIf, Rule, lineRules, f
 use Rattle.lines.specs.Valid.{valid-list}
 use Rattle.lines.specs.Places.{Placed, valid, placed-or, placed-if, place-at, placed-list}
 use Rattle.theory_bounds.specs.Verdict.{verdictOf}
-use Rattle.decide_buffers.specs.Room.{Lengths, modelRoom, workRoom, mostPlace, firstShort}
+use Rattle.decide_buffers.specs.Room.{Lengths, modelRoom, workRoom, mostPlace, firstShort, modelRooms, ModelLent, modelLengthsOf}
 use Rattle.implied_line.specs.declared.LineAnswer.{LineAnswer}
 use Rattle.implied_line.specs.declared.LineAnswer.the-variants.{Implied, NotImplied, Unsolvable, Refused}
 use Rattle.implied_line.specs.Opposite.{opposed}
-use Rattle.implied_line.specs.Answer.{lineRooms, questionValidity, judgedBy, judged, unlessRefused, impliedAnswer, LineLent, lengthsOf, answerFor}
+use Rattle.implied_line.specs.Answer.{questionValidity, judgedBy, judged, unlessRefused, impliedAnswer, answerFor}
 
 abbrev pub Below : ℕ → LineAnswer → Type 0
 Below m Implied = Unit {0}
@@ -57,19 +57,19 @@ module _ (m : ℕ) (few-lines : maxLines < m) (few-places : mostPlace < m) (n : 
   unfolding questionValidity
   placed-question s = go (validityOf n L) refl (placed-list m n L few-lines)
     where
-      rooms : Placed m (firstShort lineRooms n s)
+      rooms : Placed m (firstShort modelRooms n s)
       rooms =
           placed-or m (refuseIf (ltb (s .model) (modelRoom n)) (ShortOutput 1)) _ (placed-if m (ltb (s .model) (modelRoom n)) (ShortOutput 1) (omega arith))
           (placed-or m (refuseIf (ltb (s .work) (workRoom n)) ShortWorkArea) validity.Valid (placed-if m (ltb (s .work) (workRoom n)) ShortWorkArea (omega arith)) valid)
 
       -- the line's place is the number of lines, which is small where the list is valid
-      go : (v : Validity) → validityOf n L ≡ v → Placed m v → Placed m (v orElse lineValidity n (lineCount L) l orElse firstShort lineRooms n s)
+      go : (v : Validity) → validityOf n L ≡ v → Placed m v → Placed m (v orElse lineValidity n (lineCount L) l orElse firstShort modelRooms n s)
       go validity.Valid e p = placed-or m (lineValidity n (lineCount L) l) _ (placed-line m n (lineCount L) l (omega (arith, valid-list n L e .count))) rooms
       go (validity.Refused r) e p = p
 
-  pub answer-below : (b : LineLent) → Below m (answerFor n L l b)
+  pub answer-below : (b : ModelLent) → Below m (answerFor n L l b)
   unfolding impliedAnswer
-  answer-below b = go (questionValidity n L l (lengthsOf b)) (verdictOf n (linesOf L)) (verdictOf n (linesOf (opposed L l))) (placed-question (lengthsOf b))
+  answer-below b = go (questionValidity n L l (modelLengthsOf b)) (verdictOf n (linesOf L)) (verdictOf n (linesOf (opposed L l))) (placed-question (modelLengthsOf b))
     where
       go : (v : Validity) (s t : Bool) → Placed m v → Below m (unlessRefused v (judgedBy s t))
       go validity.Valid false t p = tt
@@ -78,9 +78,9 @@ module _ (m : ℕ) (few-lines : maxLines < m) (few-places : mostPlace < m) (n : 
       go (validity.Refused r) s t p = place-at p
 
 -- what is answered is valid
-pub answered-valid : (n : ℕ) (L : List ℤ) (l : Line) (b : LineLent) → NotRefused (answerFor n L l b) → questionValidity n L l (lengthsOf b) ≡ validity.Valid
+pub answered-valid : (n : ℕ) (L : List ℤ) (l : Line) (b : ModelLent) → NotRefused (answerFor n L l b) → questionValidity n L l (modelLengthsOf b) ≡ validity.Valid
 unfolding impliedAnswer
-answered-valid n L l b other = go (questionValidity n L l (lengthsOf b)) other
+answered-valid n L l b other = go (questionValidity n L l (modelLengthsOf b)) other
   where
     go : (v : Validity) → NotRefused (unlessRefused v (judged n L l)) → v ≡ validity.Valid
     go validity.Valid h = refl

@@ -4,7 +4,7 @@ use decide::refuted;
 use decide::refuted_or_modelled;
 use decide_buffers::MOST_REFUTATION;
 use decide_buffers::clear;
-use decide_buffers::model_room;
+use decide_buffers::model_validity;
 use decide_buffers::work_room;
 use lines::Line;
 use lines::Refusal;
@@ -18,8 +18,9 @@ ghost use mathlib.Core.Path.{_≡_};
 ghost use lib.ListN.{length};
 ghost use Rattle.lines.specs.Limits.{maxConstant};
 ghost use Rattle.integers.specs.Integer.{Within};
+ghost use Rattle.decide_buffers.specs.Room.{modelLengths};
 ghost use Rattle.implied_line.specs.Opposite.{opposite};
-ghost use Rattle.implied_line.specs.Answer.{lineLengths, questionValidity, AnswersLine};
+ghost use Rattle.implied_line.specs.Answer.{questionValidity, AnswersLine};
 ghost use Rattle.implied_line.specs.Judged.{LineAsked, LineJudged};
 
 // The list implies the line, it does not, or it has no solution; or a refusal.
@@ -33,7 +34,7 @@ pub enum LineAnswer {
 // The first refusal that applies: the list's, the line's as if it stood behind the list, then 7 and 8. The buffers are
 // given by their lengths.
 fn question_validity(n: usize, list: &[i32], line: Line, model: usize, work: usize) -> Validity
-    ensures { λ r. ⌜ r ≡ questionValidity n (now (list .entry)) line (lineLengths model work) ⌝ }
+    ensures { λ r. ⌜ r ≡ questionValidity n (now (list .entry)) line (modelLengths model work) ⌝ }
 {
     let found = list_validity(n, list);
     if let Validity::Refused(r) = found {
@@ -43,13 +44,7 @@ fn question_validity(n: usize, list: &[i32], line: Line, model: usize, work: usi
     if let Validity::Refused(r) = found {
         return Validity::Refused(r);
     }
-    if model < model_room(n) {
-        return Validity::Refused(Refusal::ShortOutput(1));
-    }
-    if work < work_room(n) {
-        return Validity::Refused(Refusal::ShortWorkArea);
-    }
-    Validity::Valid
+    model_validity(n, model, work)
 }
 
 // The opposite line: -a·x - b·y <= -d - 1.
@@ -73,7 +68,7 @@ fn judged_line(
     n: usize,
     list: &[i32],
     line: Line,
-    model: &mut [i64],
+    model: &mut [i32],
     work: &mut [i64],
 ) -> LineAnswer
     requires { ⌜ LineAsked n (now list) line (now model) (now work) ⌝ }
@@ -97,7 +92,7 @@ pub fn implied_line(
     n: usize,
     list: &[i32],
     line: Line,
-    model: &mut [i64],
+    model: &mut [i32],
     work: &mut [i64],
 ) -> LineAnswer
     ensures { λ r. ⌜ AnswersLine n (now (list .entry)) line r

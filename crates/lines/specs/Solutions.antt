@@ -30,10 +30,15 @@ solves-append (l ∷ ls) ms s =
     let r = solves-append ls ms s in
     ((λ h. ((h .0, r .0 (h .1) .0), r .0 (h .1) .1)), (λ h. (h .0 .0, r .1 (h .0 .1, h .1))))
 
-solves-tabulate : (n : ℕ) (f : ℕ → Line) (s : Assignment) → Solves (tabulate n f) s → (k : ℕ) → k < n → Meets s (f k)
+-- lines by their numbers
+pub solves-tabulate : (n : ℕ) (f : ℕ → Line) (s : Assignment) → Solves (tabulate n f) s → (k : ℕ) → k < n → Meets s (f k)
 solves-tabulate zero f s h k l = absurd (not-suc-le-zero l)
 solves-tabulate (suc n) f s h zero l = h .0
 solves-tabulate (suc n) f s h (suc k) l = solves-tabulate n (λ i. f (suc i)) s (h .1) k (le-of-suc-le-suc l)
+
+pub tabulate-solves : (n : ℕ) (f : ℕ → Line) (s : Assignment) → ((k : ℕ) → k < n → Meets s (f k)) → Solves (tabulate n f) s
+tabulate-solves zero f s h = tt
+tabulate-solves (suc n) f s h = (h zero (omega arith), tabulate-solves n (λ k. f (suc k)) s (λ k l. h (suc k) (omega arith)))
 
 -- a solution meets line number k
 pub solves-at : (L : List ℤ) (s : Assignment) → Solves (linesOf L) s → (k : ℕ) → k < lineCount L → Meets s (lineAt L k)

@@ -175,6 +175,11 @@ valid-list n L e =
 pub workable : (n : ℕ) (L : List ℤ) → validityOf n L ≡ Valid → Workable n L
 workable n L e = let o = valid-list n L e in record { variables = o .variables; whole = o .whole; count = omega (arith, o .count); lines = o .lines }
 
+-- and the other way round: what is within the limits, and has no line that breaks a rule, is valid
+pub list-valid : (n : ℕ) (L : List ℤ) → n ≤ maxVariables → length L % lineSize ≡ 0 → lineCount L ≤ maxLines → linesValidity n 0 (linesOf L) ≡ Valid → validityOf n L ≡ Valid
+unfolding validityOf
+list-valid n L few whole count lines = rw (le-ltb maxVariables n few, eq-eqb (length L % lineSize) 0 whole, le-ltb maxLines (lineCount L) count, lines)
+
 -- with a line more, of which all rules hold but that d may pass its limit by one
 pub workable-more : (n : ℕ) (L : List ℤ) (l : Line) → validityOf n L ≡ Valid → LineWorks n l → Workable n (L ++ lineNumbers l)
 workable-more n L l e ok =
@@ -207,8 +212,7 @@ shorter-valid n L M whole e =
     let q = or-valid (refuseIf (not (eqb (length (L ++ M) % lineSize) 0)) BrokenLength) _ (p .1) in
     let all = or-valid (refuseIf (ltb maxLines (lineCount (L ++ M))) TooManyLines) _ (q .1) .1 in
     let few : lineCount L ≤ maxLines = omega (arith, o .count, count-append L M whole) in
-    let lines : linesValidity n 0 (linesOf L) ≡ Valid = front-valid n 0 (linesOf L) (linesOf M) (ap (linesValidity n 0) (sym (lines-append L M whole)) ∙ all) in
-    rw (le-ltb maxVariables n (o .variables), eq-eqb (length L % lineSize) 0 whole, le-ltb maxLines (lineCount L) few, lines)
+    list-valid n L (o .variables) whole few (front-valid n 0 (linesOf L) (linesOf M) (ap (linesValidity n 0) (sym (lines-append L M whole)) ∙ all))
 
 -- what is right among n variables is right among more
 variable-more : (n m : ℕ) (x : ℤ) → n ≤ m → VariableOk n x → VariableOk m x
@@ -248,6 +252,14 @@ variables-more n m l h e =
 -- whatever the line's number is
 pub line-valid-more : (n m k j : ℕ) (l : Line) → n ≤ m → lineValidity n k l ≡ Valid → lineValidity m j l ≡ Valid
 line-valid-more n m k j l h = none-more n k l m j lineRules (search (variables-more n m l h))
+
+-- lines of which none breaks a rule, whatever their numbers are
+pub lines-valid : (n c : ℕ) (f : ℕ → Line) (k : ℕ) → ((i : ℕ) → i < c → lineValidity n 0 (f i) ≡ Valid) → linesValidity n k (tabulate c f) ≡ Valid
+unfolding linesValidity
+lines-valid n zero f k h = refl
+lines-valid n (suc c) f k h =
+    let first : lineValidity n k (f 0) ≡ Valid = line-valid-more n n 0 k (f 0) (omega arith) (h 0 (omega arith)) in
+    rw first (lines-valid n c (λ i. f (suc i)) (k + 1) (λ i l. h (suc i) (omega arith)))
 
 -- the same of some lines
 abbrev pub AllOk : ℕ → List Line → Type 0

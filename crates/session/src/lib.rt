@@ -42,7 +42,7 @@ pub fn start(n: usize, state: &mut [i64]) -> Validity
 fn decide_with(
     state: &[i64],
     line: Line,
-    model: &mut [i64],
+    model: &mut [i32],
     bounds: &mut [i64],
     groups: &mut [u32],
     refutation: &mut [u32],
@@ -74,7 +74,7 @@ fn decide_with(
 pub fn add(
     state: &mut [i64],
     line: Line,
-    model: &mut [i64],
+    model: &mut [i32],
     bounds: &mut [i64],
     groups: &mut [u32],
     refutation: &mut [u32],

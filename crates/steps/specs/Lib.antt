@@ -1,5 +1,6 @@
 pub mod Point
 pub mod Table
+pub mod Sides
 pub mod Step
 pub mod Laws
 pub mod Meaning

@@ -3,13 +3,14 @@ use lines::Line;
 use lines::limits::LINE_SIZE;
 use lines::line_at;
 ghost use mathlib.Core.Path.{_≡_};
-ghost use Prim.Native.Nat.{_+_, _<_};
+ghost use Prim.Native.Nat.{_<_};
 ghost use lib.IntN.{pos, natAbs, _*ℤ_};
 ghost use Rattle.integers.specs.Integer.{Within};
 ghost use Rattle.lines.specs.Limits.{maxVariables, workConstant};
 ghost use Rattle.lines.specs.Valid.{VariableOk, LineWorks};
 ghost use Rattle.steps.specs.Point.{point, opposite};
-ghost use Rattle.steps.specs.Table.{entry, digit};
+ghost use Rattle.steps.specs.Table.{digit};
+ghost use Rattle.steps.specs.Sides.{sideAt, noStep, loneSide};
 ghost use Rattle.steps.specs.Step.{variableAt, endPoint, stepOf, stepNumbered, NamedOk};
 
 // A step goes from a point to a point: it says that the value of `from` less that of `to` is at most the weight.
@@ -25,90 +26,70 @@ pub enum NamedStep {
     Nothing,
 }
 
-// For the coefficients -1, 0, 1 of x and, below each, of y: side 0's start, end and weight factor, then side 1's. An end
-// is a place of the line and a sign: 0 is x+, 1 is x-, 2 is y+, 3 is y-. A factor of 0 says that there is no step. The lines of
-// a valid list take seven of the pairs, since a lone coefficient stands first; the table has all nine, as the field has them. Entries are
-// bytes: the compiler lays the table out anew wherever it is read.
-const STEP_TABLE: [u8; 54] = [
-    1,
-    2,
-    1,
-    3,
-    0,
-    1, // -x - y
-    1,
-    0,
-    2,
-    0,
-    0,
-    0, // -x
-    1,
-    3,
-    1,
-    2,
-    0,
-    1, // -x + y
-    3,
-    2,
-    2,
-    0,
-    0,
-    0, // -y
-    0,
-    0,
-    0,
-    0,
-    0,
-    0, // zero, zero
-    2,
-    3,
-    2,
-    0,
-    0,
-    0, // y
-    0,
-    2,
-    1,
-    3,
-    1,
-    1, // x - y
-    0,
-    1,
-    2,
-    0,
-    0,
-    0, // x
-    0,
-    3,
-    1,
-    2,
-    1,
-    1, // x + y
-];
-
-fn number_of(entry: u8) -> usize
-    ensures { λ r. ⌜ r ≡ entry ⌝ }
-{
-    entry as usize
-}
-
-// A side's three entries: start, end and weight factor.
+// A side's three entries of the specification's table: start, end and weight factor. An end is a place of the line and a
+// sign: 0 is x+, 1 is x-, 2 is y+, 3 is y-. A factor of 0 says that there is no step.
 pub struct Side {
     pub start: usize,
     pub end: usize,
     pub factor: usize,
 }
 
-// The three entries from i on.
-fn side_at(i: usize) -> Side
-    requires { ⌜ i + 2 < 54 ⌝ }
-    ensures { λ r. ⌜ r ≡ record { start = entry i; end = entry (i + 1); factor = entry (i + 2) } ⌝ }
+// The entries where there is no step.
+fn no_step() -> Side
+    ensures { λ r. ⌜ r ≡ noStep ⌝ }
 {
-    let table = STEP_TABLE;
     Side {
-        start: number_of(table[i]),
-        end: number_of(table[i + 1]),
-        factor: number_of(table[i + 2]),
+        start: 0,
+        end: 0,
+        factor: 0,
+    }
+}
+
+// The entries for a coefficient that stands alone, with its digit, start and end: it has one step, and 0 has none.
+fn lone_side(digit: usize, side: usize, start: usize, end: usize) -> Side
+    ensures { λ r. ⌜ r ≡ loneSide digit side start end ⌝ }
+{
+    if digit == 1 {
+        return no_step();
+    }
+    if side == 1 {
+        return no_step();
+    }
+    Side {
+        start,
+        end,
+        factor: 2,
+    }
+}
+
+// The entries for the coefficients with the digits p and q, of x and of y. The table is computed, since the compiler would
+// lay out a constant one anew wherever it is read. The lines of a valid list take seven of the nine pairs, since a lone
+// coefficient stands first; the table has all nine, as the field has them.
+fn side_of(p: usize, q: usize, side: usize) -> Side
+    requires { ⌜ (p < 3) × (q < 3) × (side < 2) ⌝ }
+    ensures { λ r. ⌜ r ≡ sideAt p q side ⌝ }
+{
+    let from_x = 1 - p / 2;
+    let to_x = p / 2;
+    let from_y = 3 - q / 2;
+    let to_y = 2 + q / 2;
+    if p == 1 {
+        return lone_side(q, side, from_y, to_y);
+    }
+    if q == 1 {
+        return lone_side(p, side, from_x, to_x);
+    }
+    if side == 0 {
+        return Side {
+            start: from_x,
+            end: to_y,
+            factor: 1,
+        };
+    }
+    Side {
+        start: from_y,
+        end: to_x,
+        factor: 1,
     }
 }
 
@@ -155,8 +136,7 @@ fn line_step(line: Line, side: usize) -> NamedStep
     requires { ⌜ LineWorks maxVariables line × (side < 2) ⌝ }
     ensures { λ r. ⌜ r ≡ stepOf line side ⌝ }
 {
-    let at = 6 * (3 * digit_of(line.a) + digit_of(line.b)) + 3 * side;
-    let entries = side_at(at);
+    let entries = side_of(digit_of(line.a), digit_of(line.b), side);
     let factor = entries.factor;
     if factor == 0 {
         return NamedStep::Nothing;

@@ -1,4 +1,6 @@
 pub mod Semantics
+pub mod Moved
+pub mod Gap
 pub mod Small
 pub mod Refuted
 pub mod Solved
@@ -7,5 +9,6 @@ pub mod Decided
 pub mod Unique
 pub mod Groups
 pub mod Absent
+pub mod Chain
 pub mod Longer
 pub mod Same

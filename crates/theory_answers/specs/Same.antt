@@ -6,9 +6,9 @@ use mathlib.Core.List.{List}
 use Prim.Native.Nat.{ℕ}
 use lib.IntN.{ℤ}
 use Rattle.lines.specs.declared.Line.{Line}
-use Rattle.lines.specs.Line.{linesOf, Entails, SameSolutions}
+use Rattle.lines.specs.Line.{Assignment, linesOf, Entails, SameSolutions}
 use Rattle.lines.specs.Valid.{Workable}
-use Rattle.theory_answers.specs.Semantics.{Form, LeastWritten, GreatestWritten, Written}
+use Rattle.theory_answers.specs.Semantics.{IsModel, Form, LeastWritten, GreatestWritten, Written}
 use Rattle.theory_bounds.specs.Verdict.{verdictOf}
 use Rattle.theory_bounds.specs.Answers.{modelOf, boundsOf, groupsOf}
 use Rattle.theory_answers.specs.Meaning.{computed-written}
@@ -32,11 +32,14 @@ module _ (ls ms : List Line) (same : SameSolutions ls ms) where
   greatest-too (inl a) = inl (record { bounds = λ t h. a .bounds t (from t h); taken-by = a .taken-by; solves = to _ (a .solves); taken = a .taken })
   greatest-too (inr a) = inr (record { beyond = λ z. let t = a .0 .beyond z in (t .0, to _ (t .1), t .2) }, a .1)
 
+  pub model-too : {n : ℕ} {m : Assignment} → IsModel n ls m → IsModel n ms m
+  model-too i = record { solves = to _ (i .solves); nearest = λ k h t s a. i .nearest k h t (from t s) a }
+
   pub written-too : {n : ℕ} {m b : List ℤ} {g : List ℕ} → Written n ls m b g → Written n ms m b g
   written-too w =
       record {
         model-length = w .model-length;
-        model-is = record { solves = to _ (w .model-is .solves); nearest = λ k h t s a. w .model-is .nearest k h t (from t s) a };
+        model-is = model-too (w .model-is);
         bounds-length = w .bounds-length;
         least-is = λ x h. least-too (w .least-is x h);
         greatest-is = λ x h. greatest-too (w .greatest-is x h);

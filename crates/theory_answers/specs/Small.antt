@@ -1,294 +1,206 @@
--- Among n variables, with every d at least -M, the values of the model lie within n * M.
+-- How large the answers are. Among n variables, with every d at least -M, the values of the model lie within n·M. With every d within M a greatest value of a
+-- variable, with either sign, does so too, and that of a sum of two lies within twice that.
+--
+-- Of n values that are not all so small, none lies in some stretch of M (`free`). Those beyond it may then be moved by one, and the assignment still solves the
+-- list: toward zero, against the model being nearest; or away from it, against the greatest value being one.
 use mathlib.Core.Path.{_≡_, refl, ap}
 use mathlib.Core.Logic.{_⊎_, inl, inr}
+use mathlib.Core.Bool.{Bool, true, false}
 use mathlib.Core.List.{List, [], _∷_}
-use Prim.Native.Nat.{ℕ, zero, suc, _+_, _*_, _-_, _≤_, _<_, min}
+use Prim.Native.Nat.{ℕ, zero, suc, _+_, _*_, _≤_, _<_}
 use native.Mathlib.Omega.{arith}
-use native.Mathlib.Decide.{ℕ-discrete, decLt}
-use lib.IntN.{ℤ, pos, negsuc, negℤ, natAbs, _+ℤ_, _-ℤ_, _*ℤ_}
+use native.Mathlib.Decide.{decLt}
+use lib.IntN.{ℤ, pos, negsuc, negℤ, natAbs, _+ℤ_}
+use lib.Signed.{ltZ}
 use Rattle.integers.specs.Integer.{_⩽_, _⋖_, Within}
-use Rattle.integers.specs.Linear.{ints, given}
+use Rattle.integers.specs.Linear.{ints, given, negPart, ≤ℤ-trans}
+use Rattle.integers.specs.Laws.{test-yes, test-no}
 use Rattle.integers.specs.Sequence.{tabulate}
 use Rattle.lines.specs.declared.Line.{Line}
 use Rattle.lines.specs.declared.Validity.the-variants.{Valid}
 use Rattle.lines.specs.Limits.{maxConstant, workConstant}
-use Rattle.lines.specs.Line.{lineAt, lineCount, linesOf, Assignment, leftSide, Meets, Solves}
+use Rattle.lines.specs.Line.{lineAt, lineCount, linesOf, Assignment, Solves}
 use Rattle.lines.specs.Refusal.{validityOf}
-use Rattle.lines.specs.Valid.{LineWorks, variable-lt, AllOk, line-ok, valid-list}
-use Rattle.theory_answers.specs.Semantics.{Agrees, IsModel}
+use Rattle.lines.specs.Valid.{AllOk, line-ok, valid-list}
+use Rattle.steps.specs.Point.{signed}
+use Rattle.theory_answers.specs.Semantics.{Agrees, IsModel, sumOf, IsGreatest, IsLeast}
+use Rattle.theory_answers.specs.Moved.{AllAbove, AllBelow, inward-near, inward-far, outward-far, outward-least, drawnIn, drawnOut, solves-inward, solves-outward}
+use Rattle.theory_answers.specs.Gap.{first, free}
 
--- every d is at least -M
-abbrev pub AllAbove : ℕ → List Line → Type 0
-AllAbove M [] = Unit {0}
-AllAbove M (l ∷ ls) = (negℤ (pos M) ⩽ l .d) × AllAbove M ls
+-- every d lies within M
+abbrev pub AllWithin : ℕ → List Line → Type 0
+AllWithin M [] = Unit {0}
+AllWithin M (l ∷ ls) = Within M (l .d) × AllWithin M ls
+
+pub within-above : (M : ℕ) (ls : List Line) → AllWithin M ls → AllAbove M ls
+within-above M [] w = tt
+within-above M (l ∷ ls) w = (w .0 .low, within-above M ls (w .1))
+
+within-below : (M : ℕ) (ls : List Line) → AllWithin M ls → AllBelow M ls
+within-below M [] w = tt
+within-below M (l ∷ ls) w = (w .0 .high, within-below M ls (w .1))
 
 pub all-above : (n : ℕ) (ls : List Line) → AllOk n ls → AllAbove workConstant ls
 all-above n [] ok = tt
 all-above n (l ∷ ls) ok = (ok .0 .constant .low, all-above n ls (ok .1))
 
-pub valid-above : (n : ℕ) (L : List ℤ) → validityOf n L ≡ Valid → AllAbove maxConstant (linesOf L)
-valid-above n L v = go (lineCount L) (lineAt L) (λ k h. line-ok n k (lineAt L k) (valid-list n L v .each k h) .constant .low)
+pub valid-within : (n : ℕ) (L : List ℤ) → validityOf n L ≡ Valid → AllWithin maxConstant (linesOf L)
+valid-within n L v = go (lineCount L) (lineAt L) (λ k h. line-ok n k (lineAt L k) (valid-list n L v .each k h) .constant)
   where
-    go : (c : ℕ) (f : ℕ → Line) → ((k : ℕ) → k < c → negℤ (pos maxConstant) ⩽ f k .d) → AllAbove maxConstant (tabulate c f)
+    go : (c : ℕ) (f : ℕ → Line) → ((k : ℕ) → k < c → Within maxConstant (f k .d)) → AllWithin maxConstant (tabulate c f)
     go zero f h = tt
     go (suc c) f h = (h 0 (omega arith), go c (λ k. f (suc k)) (λ k l. h (suc k) (omega arith)))
 
--- ---- one value moved toward zero
--- a size beyond F falls by one
-fewer : ℕ → ℕ → ℕ
-fewer F n = n - min 1 (n - F)
-
-fewer-far : (F n : ℕ) → F < n → suc (fewer F n) ≡ n
-unfolding fewer
-fewer-far F n h = omega arith
-
-fewer-near : (F n : ℕ) → n ≤ F → fewer F n ≡ n
-unfolding fewer
-fewer-near F n h = omega arith
-
--- a value beyond F goes one toward zero
-pull : ℕ → ℤ → ℤ
-pull F (pos n) = pos (fewer F n)
-pull F (negsuc n) = negℤ (pos (fewer F (suc n)))
-
--- what becomes of a term of a line: small, it stays; beyond F, it goes one toward zero
-data Moved (L F : ℕ) (u v : ℤ) : Type 0 where
-  kept : negℤ (pos L) ⩽ u → u ⩽ pos L → v ≡ u → Moved L F u v
-  fell : pos F ⋖ u → v ≡ u -ℤ pos 1 → Moved L F u v
-  rose : u ⋖ negℤ (pos F) → v ≡ u +ℤ pos 1 → Moved L F u v
-
-pull-near : (F : ℕ) (z : ℤ) → natAbs z ≤ F → pull F z ≡ z
-unfolding pull
-pull-near F (pos n) h = ap pos (fewer-near F n h)
-pull-near F (negsuc n) h = ap (λ (k : ℕ). negℤ (pos k)) (fewer-near F (suc n) h)
-
-pull-far : (F : ℕ) (z : ℤ) → F < natAbs z → natAbs (pull F z) < natAbs z
-unfolding pull
-pull-far F (pos n) h = omega (arith, fewer-far F n h)
-pull-far F (negsuc n) h = shrinks (fewer F (suc n)) n (fewer-far F (suc n) h)
-  where
-    shrinks : (k n : ℕ) → suc k ≡ suc n → natAbs (negℤ (pos k)) < suc n
-    shrinks k n = simp ints (omega arith)
-
--- a value is small or beyond F
-abbrev Apart : ℕ → ℕ → ℤ → Type 0
-Apart L F z = (natAbs z ≤ L) ⊎ (F < natAbs z)
-
-small-low : (z : ℤ) (L : ℕ) → natAbs z ≤ L → negℤ (pos L) ⩽ z
-small-low z L = simp ints (omega arith)
-
-small-high : (z : ℤ) (L : ℕ) → natAbs z ≤ L → z ⩽ pos L
-small-high z L = simp ints (omega arith)
-
-pull-moved : (L F : ℕ) (z : ℤ) → L ≤ F → Apart L F z → Moved L F z (pull F z)
-unfolding pull
-pull-moved L F z l (inl h) = kept (small-low z L h) (small-high z L h) (pull-near F z (omega arith))
-pull-moved L F (pos n) l (inr h) = fell (beyond F n h) (less (fewer F n) n (fewer-far F n h))
-  where
-    beyond : (F n : ℕ) → F < n → pos F ⋖ pos n
-    beyond F n = simp ints (omega arith)
-
-    less : (k n : ℕ) → suc k ≡ n → pos k ≡ pos n -ℤ pos 1
-    less k n = simp ints (omega arith)
-pull-moved L F (negsuc n) l (inr h) = rose (beyond F n h) (more (fewer F (suc n)) n (fewer-far F (suc n) h))
-  where
-    beyond : (F n : ℕ) → F < suc n → negsuc n ⋖ negℤ (pos F)
-    beyond F n = simp ints (omega arith)
-
-    more : (k n : ℕ) → suc k ≡ suc n → negℤ (pos k) ≡ negsuc n +ℤ pos 1
-    more k n = simp ints (omega arith)
-
--- ---- a term, with its coefficient
-moved-zero : (L F : ℕ) (z w : ℤ) → Moved L F (pos 0 *ℤ z) (pos 0 *ℤ w)
-moved-zero L F z w = kept (low L z) (high L z) (same z w)
-  where
-    low : (L : ℕ) (z : ℤ) → negℤ (pos L) ⩽ pos 0 *ℤ z
-    low L z = simp ints (omega arith)
-
-    high : (L : ℕ) (z : ℤ) → pos 0 *ℤ z ⩽ pos L
-    high L z = simp ints (omega arith)
-
-    same : (z w : ℤ) → pos 0 *ℤ w ≡ pos 0 *ℤ z
-    same z w = simp ints (omega arith)
-
-moved-one : (L F : ℕ) (z w : ℤ) → Moved L F z w → Moved L F (pos 1 *ℤ z) (pos 1 *ℤ w)
-moved-one L F z w (kept h k e) = kept (given h (simp ints (omega arith))) (given k (simp ints (omega arith))) (given e (simp ints (omega arith)))
-moved-one L F z w (fell h e) = fell (given h (simp ints (omega arith))) (given e (simp ints (omega arith)))
-moved-one L F z w (rose h e) = rose (given h (simp ints (omega arith))) (given e (simp ints (omega arith)))
-
-moved-minus : (L F : ℕ) (z w : ℤ) → Moved L F z w → Moved L F (negsuc 0 *ℤ z) (negsuc 0 *ℤ w)
-moved-minus L F z w (kept h k e) = kept (given k (simp ints (omega arith))) (given h (simp ints (omega arith))) (given e (simp ints (omega arith)))
-moved-minus L F z w (fell h e) = rose (given h (simp ints (omega arith))) (given e (simp ints (omega arith)))
-moved-minus L F z w (rose h e) = fell (given h (simp ints (omega arith))) (given e (simp ints (omega arith)))
-
-not-zero : (n : ℕ) → pos (suc n) ≡ pos 0 → ⊥
-not-zero n = simp ints (omega arith)
-
-not-negative : (n : ℕ) → negsuc n ≡ pos 0 → ⊥
-not-negative n = simp ints (omega arith)
-
-not-more : (n : ℕ) → pos (suc (suc n)) ⩽ pos 1 → ⊥
-not-more n = simp ints (omega arith)
-
-not-less : (n : ℕ) → negℤ (pos 1) ⩽ negsuc (suc n) → ⊥
-not-less n = simp ints (omega arith)
-
-term-moved : (L F : ℕ) (a z : ℤ) → L ≤ F → Within 1 a → ((a ≡ pos 0 → ⊥) → Apart L F z) → Moved L F (a *ℤ z) (a *ℤ pull F z)
-term-moved L F (pos zero) z l c h = moved-zero L F z (pull F z)
-term-moved L F (pos (suc zero)) z l c h = moved-one L F z (pull F z) (pull-moved L F z l (h (not-zero 0)))
-term-moved L F (pos (suc (suc n))) z l c h = absurd (not-more n (c .high))
-term-moved L F (negsuc zero) z l c h = moved-minus L F z (pull F z) (pull-moved L F z l (h (not-negative 0)))
-term-moved L F (negsuc (suc n)) z l c h = absurd (not-less n (c .low))
-
--- ---- a line stays met: a term that rises is so low that the sum stays at most -M, or the other term falls
-kept-kept : (u v u' v' d : ℤ) → u' ≡ u → v' ≡ v → u +ℤ v ⩽ d → u' +ℤ v' ⩽ d
-kept-kept u v u' v' d = simp ints (omega arith)
-
-fell-kept : (u v u' v' d : ℤ) → u' ≡ u -ℤ pos 1 → v' ≡ v → u +ℤ v ⩽ d → u' +ℤ v' ⩽ d
-fell-kept u v u' v' d = simp ints (omega arith)
-
-fell-fell : (u v u' v' d : ℤ) → u' ≡ u -ℤ pos 1 → v' ≡ v -ℤ pos 1 → u +ℤ v ⩽ d → u' +ℤ v' ⩽ d
-fell-fell u v u' v' d = simp ints (omega arith)
-
-fell-rose : (u v u' v' d : ℤ) → u' ≡ u -ℤ pos 1 → v' ≡ v +ℤ pos 1 → u +ℤ v ⩽ d → u' +ℤ v' ⩽ d
-fell-rose u v u' v' d = simp ints (omega arith)
-
-rose-kept : (L M : ℕ) (u v u' v' d : ℤ) → negℤ (pos M) ⩽ d → u ⋖ negℤ (pos (L + M)) → u' ≡ u +ℤ pos 1 → v ⩽ pos L → v' ≡ v → u' +ℤ v' ⩽ d
-rose-kept L M u v u' v' d = simp ints (omega arith)
-
-rose-rose : (L M : ℕ) (u v u' v' d : ℤ) → negℤ (pos M) ⩽ d → u ⋖ negℤ (pos (L + M)) → u' ≡ u +ℤ pos 1 → v ⋖ negℤ (pos (L + M)) → v' ≡ v +ℤ pos 1 → u' +ℤ v' ⩽ d
-rose-rose L M u v u' v' d = simp ints (omega arith)
-
-swapped : (u v d : ℤ) → u +ℤ v ⩽ d → v +ℤ u ⩽ d
-swapped u v d = simp ints (omega arith)
-
-sum-moved : (L M : ℕ) (u v u' v' d : ℤ) → negℤ (pos M) ⩽ d → Moved L (L + M) u u' → Moved L (L + M) v v' → u +ℤ v ⩽ d → u' +ℤ v' ⩽ d
-sum-moved L M u v u' v' d b (kept _ _ e) (kept _ _ f) = kept-kept u v u' v' d e f
-sum-moved L M u v u' v' d b (kept _ _ e) (fell _ f) = λ h. swapped v' u' d (fell-kept v u v' u' d f e (swapped u v d h))
-sum-moved L M u v u' v' d b (kept _ k e) (rose g f) = λ h. swapped v' u' d (rose-kept L M v u v' u' d b g f k e)
-sum-moved L M u v u' v' d b (fell _ e) (kept _ _ f) = fell-kept u v u' v' d e f
-sum-moved L M u v u' v' d b (fell _ e) (fell _ f) = fell-fell u v u' v' d e f
-sum-moved L M u v u' v' d b (fell _ e) (rose _ f) = fell-rose u v u' v' d e f
-sum-moved L M u v u' v' d b (rose g e) (kept _ k f) = λ h. rose-kept L M u v u' v' d b g e k f
-sum-moved L M u v u' v' d b (rose _ e) (fell _ f) = λ h. swapped v' u' d (fell-rose v u v' u' d f e (swapped u v d h))
-sum-moved L M u v u' v' d b (rose g e) (rose k f) = λ h. rose-rose L M u v u' v' d b g e k f
-
--- ---- where no variable has a size beyond L and up to L + M, all those beyond may be moved at once
-module _ (n L M : ℕ) (s : Assignment) (apart : (x : ℕ) → x < n → Apart L (L + M) (s x)) where
-  abbrev pulled : Assignment
-  pulled x = pull (L + M) (s x)
-
-  meets-pulled : (l : Line) → LineWorks n l → negℤ (pos M) ⩽ l .d → Meets s l → Meets pulled l
-  unfolding leftSide
-  meets-pulled l ok b =
-      sum-moved L M _ _ _ _ (l .d) b
-      (term-moved L (L + M) (l .a) (s (natAbs (l .x))) (omega arith) (ok .coefficient-a) (λ z. apart _ (variable-lt n (l .x) (ok .variable-x z))))
-      (term-moved L (L + M) (l .b) (s (natAbs (l .y))) (omega arith) (ok .coefficient-b) (λ z. apart _ (variable-lt n (l .y) (ok .variable-y z))))
-
-  solves-pulled : (ls : List Line) → AllOk n ls → AllAbove M ls → Solves ls s → Solves ls pulled
-  solves-pulled [] ok b h = tt
-  solves-pulled (l ∷ ls) ok b h = (meets-pulled l (ok .0) (b .0) (h .0), solves-pulled ls (ok .1) (b .1) (h .1))
-
--- ---- how many of the first n sizes lie beyond a bound
-module _ (f : ℕ → ℕ) where
-  -- 1 if f x is beyond b, else 0
-  one : ℕ → ℕ → ℕ
-  one b x = min 1 (f x - b)
-
-  abbrev beyond : ℕ → ℕ → ℕ
-  beyond b zero = 0
-  beyond b (suc n) = beyond b n + one b n
-
-  beyond-le : (b n : ℕ) → beyond b n ≤ n
-  unfolding one
-  beyond-le b zero = omega arith
-  beyond-le b (suc n) = omega (arith, beyond-le b n)
-
-  one-falls : (b c x : ℕ) → b ≤ c → one c x ≤ one b x
-  unfolding one
-  one-falls b c x h = omega arith
-
-  one-far : (b x : ℕ) → b < f x → one b x ≡ 1
-  unfolding one
-  one-far b x h = omega arith
-
-  one-near : (b x : ℕ) → f x ≤ b → one b x ≡ 0
-  unfolding one
-  one-near b x h = omega arith
-
-  beyond-falls : (b c n : ℕ) → b ≤ c → beyond c n ≤ beyond b n
-  beyond-falls b c zero h = omega arith
-  beyond-falls b c (suc n) h = omega (arith, beyond-falls b c n h, one-falls b c n h)
-
-  -- a size from beyond b up to c counts at b and not at c
-  beyond-past : (b c n x : ℕ) → b ≤ c → x < n → b < f x → f x ≤ c → beyond c n < beyond b n
-  beyond-past b c zero x h l p q = absurd (omega arith)
-  beyond-past b c (suc n) x h l p q = go (ℕ-discrete x n) (λ k. beyond-past b c n x h k p q)
-    where
-      go : Dec (x ≡ n) → (x < n → beyond c n < beyond b n) → beyond c n + one c n < beyond b n + one b n
-      go (yes e) _ = rw (← e) (omega (arith, beyond-falls b c x h, one-far b x p, one-near c x q))
-      go (no d) less = omega (arith, less (omega arith), one-falls b c n h)
-
-  beyond-none : (b n x : ℕ) → beyond b n ≡ 0 → x < n → f x ≤ b
-  beyond-none b n x e l = go (decLt b (f x))
-    where
-      go : Dec (b < f x) → f x ≤ b
-      go (yes h) = absurd (omega (arith, beyond-past b (f x) n x (omega arith) l h (omega arith)))
-      go (no h) = omega arith
-
-  -- the first of n sizes beyond b
-  record First (b n : ℕ) : Type 0 where
-    k : ℕ
-    low : k < n
-    far : b < f k
-    before : (x : ℕ) → x < k → f x ≤ b
-
-  first : (b n : ℕ) → First b n ⊎ (beyond b n ≡ 0)
-  first b zero = inr refl
-  first b (suc n) = go (first b n)
-    where
-      last : beyond b n ≡ 0 → Dec (b < f n) → First b (suc n) ⊎ (beyond b n + one b n ≡ 0)
-      last e (yes h) = inl (record { k = n; low = omega arith; far = h; before = λ x l. beyond-none b n x e l })
-      last e (no h) = inr (omega (arith, one-near b n (omega arith)))
-
-      go : First b n ⊎ (beyond b n ≡ 0) → First b (suc n) ⊎ (beyond b n + one b n ≡ 0)
-      go (inl t) = inl (record { k = t .k; low = omega (arith, t .low); far = t .far; before = t .before })
-      go (inr e) = last e (decLt b (f n))
+pub valid-above : (n : ℕ) (L : List ℤ) → validityOf n L ≡ Valid → AllAbove maxConstant (linesOf L)
+valid-above n L v = within-above maxConstant (linesOf L) (valid-within n L v)
 
 -- ---- the model
 module _ (n M : ℕ) (ls : List Line) (ok : AllOk n ls) (above : AllAbove M ls) (m : Assignment) (model : IsModel n ls m) where
   abbrev size : ℕ → ℕ
   size x = natAbs (m x)
 
-  -- where variables lie beyond L + M, one has a size beyond L and up to L + M: else those beyond could move, the first of them against `nearest`
-  no-gap : (L : ℕ) → First size (L + M) n → ((x : ℕ) → x < n → Apart L (L + M) (m x)) → ⊥
-  no-gap L t apart =
-      let solved = solves-pulled n L M m apart ls ok above (model .solves) in
-      let agrees : Agrees (t .k) (pulled n L M m apart) m = λ x l. pull-near (L + M) (m x) (t .before x l) in
-      omega (arith, pull-far (L + M) (m (t .k)) (t .far), model .nearest (t .k) (t .low) (pulled n L M m apart) solved agrees)
+  -- the first value beyond a free stretch could be nearer zero
+  none-far : (k : ℕ) → k < n → n * M < size k → ⊥
+  none-far k l h =
+      let g = free size n M 0 k l (omega arith) in
+      let t = first size (g .L + M) n k l (omega (arith, g .upto)) in
+      let solved = solves-inward n (g .L) M m (g .apart) ls ok above (model .solves) in
+      let agrees : Agrees (t .k) (drawnIn n (g .L) M m (g .apart)) m = λ x b. inward-near (g .L + M) (m x) (t .before x b) in
+      omega (arith, inward-far (g .L + M) (m (t .k)) (t .far), model .nearest (t .k) (t .low) (drawnIn n (g .L) M m (g .apart)) solved agrees)
 
-  -- with each further M fewer variables lie beyond, until none does
-  beyond-step : (L : ℕ) → beyond size (L + M) n ≤ beyond size L n - 1
-  beyond-step L = go (decLt (beyond size (L + M) n) (beyond size L n)) (first size (L + M) n)
+  pub model-small : (k : ℕ) → k < n → natAbs (m k) ≤ n * M
+  model-small k l = go (decLt (n * M) (size k))
     where
-      apart : (beyond size (L + M) n < beyond size L n → ⊥) → (x : ℕ) → Dec (L < size x) → Dec (L + M < size x) → x < n → Apart L (L + M) (m x)
-      apart h x (no p) _ l = inl (omega arith)
-      apart h x (yes p) (yes q) l = inr q
-      apart h x (yes p) (no q) l = absurd (h (beyond-past size L (L + M) n x (omega arith) l p (omega arith)))
+      go : Dec (n * M < size k) → size k ≤ n * M
+      go (yes h) = absurd (none-far k l h)
+      go (no h) = omega arith
 
-      go : Dec (beyond size (L + M) n < beyond size L n) → First size (L + M) n ⊎ (beyond size (L + M) n ≡ 0) → beyond size (L + M) n ≤ beyond size L n - 1
-      go (yes h) _ = omega arith
-      go (no h) (inr e) = omega arith
-      go (no h) (inl t) = absurd (no-gap L t (λ x. apart h x (decLt L (size x)) (decLt (L + M) (size x))))
+-- ---- a solution in which a value is far can be changed to one in which it is farther
+-- t solves the list, x with the sign q has a greater value in it than in s, and no value, with either sign, that is at least -B in s has a smaller one
+record Farther (ls : List Line) (s : Assignment) (x q B : ℕ) : Type 0 where
+  t : Assignment
+  solves : Solves ls t
+  greater : signed q (s x) ⋖ signed q (t x)
+  no-less : (y u : ℕ) → negℤ (pos B) ⩽ signed u (s y) → signed u (s y) ⩽ signed u (t y)
 
-  beyond-all : (j : ℕ) → beyond size (j * M) n ≤ n - j
-  beyond-all zero = omega (arith, beyond-le size (0 * M) n)
-  beyond-all (suc j) =
-      let e : suc j * M ≡ j * M + M = omega arith in
-      rw e (omega (arith, beyond-step (j * M), beyond-all j))
+module _ (n M : ℕ) (ls : List Line) (ok : AllOk n ls) (within : AllWithin M ls) where
+  farther : (s : Assignment) → Solves ls s → (x q B : ℕ) → x < n → pos (B + n * M) ⋖ signed q (s x) → Farther ls s x q B
+  farther s solved x q B l h =
+      let g = free (λ y. natAbs (s y)) n M B x l (size q (s x) (B + n * M) h) in
+      record {
+        t = drawnOut n (g .L) M s (g .apart);
+        solves = solves-outward n (g .L) M s (g .apart) ls ok (within-below M ls within) solved;
+        greater = outward-far (g .L + M) q (s x) (above (g .L + M) (B + n * M) (signed q (s x)) (g .upto) h);
+        no-less = λ y u k. outward-least (g .L + M) u (s y) (below B (g .L + M) (signed u (s y)) (omega (arith, g .from)) k);
+      }
+    where
+      size : (q : ℕ) (z : ℤ) (k : ℕ) → pos k ⋖ signed q z → k < natAbs z
+      size zero z k h = given h (simp ints (omega arith))
+      size (suc q) z k h = given h (simp ints (omega arith))
 
-  within-all : (k : ℕ) → k < n → size k ≤ n * M
-  within-all k l = beyond-none size (n * M) n k (omega (arith, beyond-all n)) l
+      above : (a b : ℕ) (z : ℤ) → a ≤ b → pos b ⋖ z → pos a ⋖ z
+      above a b z = simp ints (omega arith)
 
-pub model-small : (n M : ℕ) (ls : List Line) → AllOk n ls → AllAbove M ls → (m : Assignment) → IsModel n ls m → (k : ℕ) → k < n → natAbs (m k) ≤ n * M
-model-small n M ls ok above m model k l = within-all n M ls ok above m model k l
+      below : (a b : ℕ) (z : ℤ) → a ≤ b → negℤ (pos a) ⩽ z → negℤ (pos b) ⩽ z
+      below a b z = simp ints (omega arith)
+
+  -- ---- so a greatest value is not far
+  not-above : (a b : ℤ) → (b ⋖ a → ⊥) → a ⩽ b
+  not-above a b = simp ints (omega arith)
+
+  passed : (a b z : ℤ) → a ≡ z → a ⋖ b → b ⩽ z → ⊥
+  passed a b z = simp ints (omega arith)
+
+  -- of a variable with a sign
+  value-high : (x q : ℕ) (z : ℤ) → x < n → IsGreatest ls (λ t. signed q (t x)) z → z ⩽ pos (n * M)
+  value-high x q z l g = not-above z (pos (n * M)) (λ h.
+      let f = farther (g .taken-by) (g .solves) x q 0 l (moved (signed q (g .taken-by x)) z (n * M) (g .taken) h) in
+      passed (signed q (g .taken-by x)) (signed q (f .t x)) z (g .taken) (f .greater) (g .bounds (f .t) (f .solves)))
+    where
+      moved : (a z : ℤ) (k : ℕ) → a ≡ z → pos k ⋖ z → pos (0 + k) ⋖ a
+      moved a z k = simp ints (omega arith)
+
+  -- of the sum of two, each with a sign: one of them is above n·M, and the other at least -B, so that both can be changed
+  sum-far : (s : Assignment) → Solves ls s → (x q y u : ℕ) → x < n → pos (n * M + n * M) ⋖ signed q (s x) +ℤ signed u (s y) → pos (n * M) ⋖ signed q (s x)
+      → (t : Assignment) × Solves ls t × (signed q (s x) +ℤ signed u (s y) ⋖ signed q (t x) +ℤ signed u (t y))
+  sum-far s solved x q y u l h k =
+      let B = negPart (signed u (s y)) in
+      let f = farther s solved x q B l (room (n * M) (signed q (s x)) (signed u (s y)) h k) in
+      (f .t, f .solves, both (signed q (s x)) (signed u (s y)) (signed q (f .t x)) (signed u (f .t y)) (f .greater) (f .no-less y u (least (signed u (s y)))))
+    where
+      room : (k : ℕ) (a b : ℤ) → pos (k + k) ⋖ a +ℤ b → pos k ⋖ a → pos (negPart b + k) ⋖ a
+      room k a (pos b) = simp ints (omega arith)
+      room k a (negsuc b) = simp ints (omega arith)
+
+      least : (b : ℤ) → negℤ (pos (negPart b)) ⩽ b
+      least (pos b) = simp ints (omega arith)
+      least (negsuc b) = simp ints (omega arith)
+
+      both : (a b c d : ℤ) → a ⋖ c → b ⩽ d → a +ℤ b ⋖ c +ℤ d
+      both a b c d = simp ints (omega arith)
+
+  one-above : (k : ℕ) (a b : ℤ) → pos (k + k) ⋖ a +ℤ b → (pos k ⋖ a) ⊎ (pos k ⋖ b)
+  one-above k a b h = go (ltZ (pos k) a) refl
+    where
+      other : (k : ℕ) (a b : ℤ) → pos (k + k) ⋖ a +ℤ b → a ⩽ pos k → pos k ⋖ b
+      other k a b = simp ints (omega arith)
+
+      go : (t : Bool) → ltZ (pos k) a ≡ t → (pos k ⋖ a) ⊎ (pos k ⋖ b)
+      go true e = inl (test-yes (pos k) a e)
+      go false e = inr (other k a b h (test-no (pos k) a e))
+
+  sum-high : (x q y u : ℕ) (z : ℤ) → x < n → y < n → IsGreatest ls (sumOf q x u y) z → z ⩽ pos (n * M + n * M)
+  sum-high x q y u z l k g = not-above z (pos (n * M + n * M)) (λ h. let far = above (sumOf q x u y s) z (n * M + n * M) (g .taken) h in go far (one-above (n * M) _ _ far))
+    where
+      s : Assignment
+      s = g .taken-by
+
+      above : (a z : ℤ) (k : ℕ) → a ≡ z → pos k ⋖ z → pos k ⋖ a
+      above a z k = simp ints (omega arith)
+
+      swap : (a b c : ℤ) → a ⋖ b +ℤ c → a ⋖ c +ℤ b
+      swap a b c = simp ints (omega arith)
+
+      swap-both : (a b c d : ℤ) → a +ℤ b ⋖ c +ℤ d → b +ℤ a ⋖ d +ℤ c
+      swap-both a b c d = simp ints (omega arith)
+
+      less : (t : Assignment) → Solves ls t → sumOf q x u y s ⋖ sumOf q x u y t → ⊥
+      less t solved h = passed (sumOf q x u y s) (sumOf q x u y t) z (g .taken) h (g .bounds t solved)
+
+      go : pos (n * M + n * M) ⋖ sumOf q x u y s → (pos (n * M) ⋖ signed q (s x)) ⊎ (pos (n * M) ⋖ signed u (s y)) → ⊥
+      go far (inl h) = let r = sum-far s (g .solves) x q y u l far h in less (r .0) (r .1) (r .2)
+      go far (inr h) = let r = sum-far s (g .solves) y u x q k (swap _ (signed q (s x)) (signed u (s y)) far) h in less (r .0) (r .1) (swap-both (signed u (s y)) (signed q (s x)) (signed u (r .0 y)) (signed q (r .0 x)) (r .2))
+
+  -- ---- nor is it far below zero: that of the model is not
+  module _ (m : Assignment) (model : IsModel n ls m) where
+    low : (x q : ℕ) → x < n → negℤ (pos (n * M)) ⩽ signed q (m x)
+    low x q l = go q (m x) (n * M) (model-small n M ls ok (within-above M ls within) m model x l)
+      where
+        go : (q : ℕ) (z : ℤ) (k : ℕ) → natAbs z ≤ k → negℤ (pos k) ⩽ signed q z
+        go zero z k = simp ints (omega arith)
+        go (suc q) z k = simp ints (omega arith)
+
+    pub value-small : (x q : ℕ) (z : ℤ) → x < n → IsGreatest ls (λ t. signed q (t x)) z → Within (n * M) z
+    value-small x q z l g = record { low = ≤ℤ-trans (low x q l) (g .bounds m (model .solves)); high = value-high x q z l g }
+
+    pub sum-small : (x q y u : ℕ) (z : ℤ) → x < n → y < n → IsGreatest ls (sumOf q x u y) z → Within (2 * (n * M)) z
+    sum-small x q y u z l k g =
+        record {
+          low = lowest (n * M) (signed q (m x)) (signed u (m y)) z (low x q l) (low y u k) (g .bounds m (model .solves));
+          high = twice (n * M) z (sum-high x q y u z l k g);
+        }
+      where
+        lowest : (k : ℕ) (a b z : ℤ) → negℤ (pos k) ⩽ a → negℤ (pos k) ⩽ b → a +ℤ b ⩽ z → negℤ (pos (2 * k)) ⩽ z
+        lowest k a b z = simp ints (omega arith)
+
+        twice : (k : ℕ) (z : ℤ) → z ⩽ pos (k + k) → z ⩽ pos (2 * k)
+        twice k z = simp ints (omega arith)
+
+    -- a least value of x is a greatest one of -x
+    pub least-small : (x : ℕ) (z : ℤ) → x < n → IsLeast ls x z → Within (n * M) z
+    least-small x z l g =
+        let w = value-small x 1 (negℤ z) l (record { bounds = λ t h. turn (t x) z (g .bounds t h); taken-by = g .taken-by; solves = g .solves; taken = ap negℤ (g .taken) }) in
+        record { low = given (w .high) (simp ints (omega arith)); high = given (w .low) (simp ints (omega arith)) }
+      where
+        turn : (a z : ℤ) → z ⩽ a → negℤ a ⩽ negℤ z
+        turn a z = simp ints (omega arith)

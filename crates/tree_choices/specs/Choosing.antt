@@ -1,11 +1,10 @@
 -- Choice number n of a tree, found in its numbers: the lines that it picks.
 use mathlib.Core.Bool.{cond}
 use mathlib.Core.List.{List, [], _∷_, _++_}
-use mathlib.Core.Path.{_≡_}
 use Prim.Native.Nat.{ℕ, zero, suc, _+_, _-_, _/_, _%_}
 use lib.Dec.{ltb}
 use lib.ListN.{getD, set}
-use Rattle.tree_reading.specs.Tree.{Kind, all, any, other, codeOf, maxDepth}
+use Rattle.tree_reading.specs.Tree.{Kind, all, any, other, codeOf}
 use Rattle.tree_reading.specs.declared.TreeRefusal.the-variants.{TooDeep, NoSuchChoice}
 use Rattle.tree_reading.specs.declared.Head.{Head}
 use Rattle.tree_reading.specs.declared.Head.the-variants.{Line, Children, Wrong}
@@ -56,12 +55,3 @@ withChoice n (Refused r) = Refused r
 
 unfoldable pub choiceOf : List ℕ → ℕ → ℕ → Reading
 choiceOf s m n = withChoice n (validTree s m)
-
--- the flags that are left: those of the choice are set, and a refusal leaves all as they were
-abbrev pub flagsAfter : List ℕ → ℕ → ℕ → List ℕ → Reading → List ℕ
-flagsAfter s m n flags (Read b) = marked flags (chosen s m maxDepth all 0 (b .choices) n)
-flagsAfter s m n flags (Refused r) = flags
-
-pub record Chose (s : List ℕ) (m n : ℕ) (before after : List ℕ) (r : Reading) : Type 0 where
-  pub read : r ≡ choiceOf s m n
-  pub flags : after ≡ flagsAfter s m n before r

@@ -19,11 +19,11 @@ use Rattle.tree_reading.specs.declared.Node.{Node}
 use Rattle.tree_reading.specs.declared.Reading.{Reading}
 use Rattle.tree_reading.specs.declared.Reading.the-variants.{Read, Refused}
 use Rattle.tree_reading.specs.Reading.{cap, headOf, begun, finished, nodeOf, validTree}
-use Rattle.tree_choices.specs.Choosing.{marked, fromChild, allChosen, anyChosen, rowChosen, chosenAt, chosen, withChoice, choiceOf, flagsAfter}
+use Rattle.tree_choices.specs.Choosing.{fromChild, allChosen, anyChosen, rowChosen, chosenAt, chosen, withChoice, choiceOf}
 use Rattle.tree_reading.specs.Counted.{count-choices, node-choices}
 use Rattle.tree_reading.specs.Numbers.{Has, has-at, has-append, has-self}
 use Rattle.tree_reading.specs.Accepted.{after, after-end, line-head, line-read, node-head, node-read}
-use Rattle.tree_reading.specs.Over.{IsValid, valid}
+use Rattle.tree_reading.specs.Taken.{treeIn, taken}
 
 -- ---- choice number n of two lists of choices
 second-positive : (a b n : ℕ) → n < a * b → 0 < b
@@ -196,38 +196,27 @@ module _ (s : List ℕ) (m : ℕ) where
       (λ j. picks (suc d) k r (x .end) j (f .2) hr (ap (λ (a : ℕ). overs a r) ends ∙ u .1))
 
 -- ---- the whole tree
--- there are as many choices as were counted, and choosing number n picks the n-th
-module _ (s : List ℕ) (m : ℕ) (b : Node) (v : IsValid s m b) where
-  pub counted : length (choices all (v .read .tree)) ≡ b .choices
-  counted = count-choices all (v .read .tree) ∙ sym (v .counted)
-
-  pub picked : (n : ℕ) → n < b .choices → chosen s m maxDepth all 0 (b .choices) n ≡ getD (choices all (v .read .tree)) n []
+-- choosing number n picks the n-th choice of the tree that was read
+module _ (s : List ℕ) (m : ℕ) (b : Node) (e : validTree s m ≡ Read b) where
+  pub picked : (n : ℕ) → n < b .choices → chosen s m maxDepth all 0 (b .choices) n ≡ getD (choices all (treeIn s m)) n []
   picked n l =
-      let t : Row = v .read .tree in
-      let h : Has s 0 (treeNumbers t) = subst (Has s 0) (v .read .numbered) (has-self s) in
+      let t : Row = treeIn s m in
+      let v = taken s m b e in
+      let h : Has s 0 (treeNumbers t) = subst (Has s 0) (v .numbers .numbered) (has-self s) in
       let o : overs 2 t ≡ [] = none-left s m (here (count all t) 0) (overs 2 t) (v .few) .1 in
       node-chosen s m levels all 0 t (h .0, h .1, (h .2 .0, h .2 .1, tt)) (b .choices) n
       ∙ ap (λ (c : ℕ). rowChosen (nodeOf s m levels any) (chosen s m levels any) all (size t) 2 c n) (v .counted)
-      ∙ picks s m levels all t 2 n (v .read .fits) (h .2 .2) o (omega (arith, v .counted))
+      ∙ picks s m levels all t 2 n (v .numbers .fits) (h .2 .2) o (omega (arith, v .counted))
 
--- where a choice is there, the tree is valid and its flags are those of the n-th choice
-pub record Chosen (s : List ℕ) (m n : ℕ) (b : Node) : Type 0 where
-  pub valid : IsValid s m b
-  pub there : n < length (choices all (valid .read .tree))
-  pub flags : (p : List ℕ) → flagsAfter s m n p (Read b) ≡ marked p (getD (choices all (valid .read .tree)) n [])
-
-pub choice-chosen : (s : List ℕ) (m n : ℕ) (b : Node) → choiceOf s m n ≡ Read b → Chosen s m n b
+-- where a choice is there, the tree is read and has it
+pub choice-read : (s : List ℕ) (m n : ℕ) (b : Node) → choiceOf s m n ≡ Read b → (validTree s m ≡ Read b) × (n < b .choices)
 unfolding choiceOf
-choice-chosen s m n b = go (validTree s m) refl
+choice-read s m n b = go (validTree s m) refl
   where
-    last : (x : Node) → validTree s m ≡ Read x → (t : Bool) → ltb n (x .choices) ≡ t → cond t (Read x) (Refused NoSuchChoice) ≡ Read b → Chosen s m n b
-    last x p true q e =
-        let j : x ≡ b = cc in
-        let v : IsValid s m b = valid s m b (p ∙ ap Read j) in
-        let l : n < b .choices = subst (λ (y : Node). n < y .choices) j (ltb-true _ _ q) in
-        record { valid = v; there = subst (λ (i : ℕ). n < i) (sym (counted s m b v)) l; flags = λ f. ap (marked f) (picked s m b v n l) }
+    last : (x : Node) → validTree s m ≡ Read x → (t : Bool) → ltb n (x .choices) ≡ t → cond t (Read x) (Refused NoSuchChoice) ≡ Read b → (validTree s m ≡ Read b) × (n < b .choices)
+    last x p true q e = let j : x ≡ b = cc in (p ∙ ap Read j, subst (λ (y : Node). n < y .choices) j (ltb-true _ _ q))
     last x p false q e = never (cc)
 
-    go : (r : Reading) → validTree s m ≡ r → withChoice n r ≡ Read b → Chosen s m n b
+    go : (r : Reading) → validTree s m ≡ r → withChoice n r ≡ Read b → (validTree s m ≡ Read b) × (n < b .choices)
     go (Read x) p e = last x p (ltb n (x .choices)) refl e
     go (Refused r) p e = never (cc)

@@ -14,7 +14,7 @@ ghost use mathlib.Core.Path.{_≡_};
 ghost use Prim.Native.Nat.{_/_, _%_};
 ghost use lib.ListN.{set};
 ghost use Rattle.tree_reading.specs.Tree.{all, any, maxDepth};
-ghost use Rattle.tree_choices.specs.Choosing.{marked, chosen, Chose};
+ghost use Rattle.tree_choices.specs.Choosing.{marked, chosen, choiceOf};
 
 // A quotient and a remainder; by zero they are zero and the number itself.
 fn quotient(a: usize, b: usize) -> usize
@@ -148,10 +148,9 @@ pub fn choose(numbers: &[u32], lines: usize, total: usize, choice: usize, picked
     choose_all_of(numbers, lines, MAX_DEPTH, 0, total, choice, picked);
 }
 
-// Marks the lines that a choice of a tree picks: all refusals of the tree, then 43 if it has no such choice. A refusal
-// leaves the flags as they were.
-pub fn choose_in_tree(numbers: &[u32], lines: usize, choice: usize, picked: &mut [u8]) -> Reading
-    ensures { λ r. ⌜ Chose (now (numbers .entry)) lines choice (now (picked .entry)) (now (picked .exit)) r ⌝ }
+// The root of a tree that has a choice with this number: all refusals of the tree, then 43.
+pub fn choice_in_tree(numbers: &[u32], lines: usize, choice: usize) -> Reading
+    ensures { λ r. ⌜ r ≡ choiceOf (now (numbers .entry)) lines choice ⌝ }
 {
     match valid_tree(numbers, lines) {
         Reading::Refused(r) => Reading::Refused(r),
@@ -159,7 +158,6 @@ pub fn choose_in_tree(numbers: &[u32], lines: usize, choice: usize, picked: &mut
             if choice >= node.choices {
                 return Reading::Refused(TreeRefusal::NoSuchChoice);
             }
-            choose(numbers, lines, node.choices, choice, picked);
             Reading::Read(node)
         }
     }

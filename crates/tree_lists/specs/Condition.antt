@@ -15,12 +15,9 @@ use Rattle.integers.specs.Laws.{never}
 use Rattle.lines.specs.Line.{lineAt, lineCount, linesOf, Assignment, Meets, Solves}
 use Rattle.lines.specs.declared.Validity.the-variants.{Valid}
 use Rattle.lines.specs.Refusal.{validityOf}
-use Rattle.tree_reading.specs.declared.Node.{Node}
-use Rattle.tree_reading.specs.declared.Reading.the-variants.{Read}
 use Rattle.tree_reading.specs.Tree.{Kind, all, any, Row, none, line, node, Fits, levels}
 use Rattle.tree_reading.specs.Choices.{pairs, joined, choices, count}
-use Rattle.tree_choices.specs.Choosing.{marked, flagsAfter}
-use Rattle.tree_choices.specs.Chosen.{Chosen}
+use Rattle.tree_choices.specs.Choosing.{marked}
 use Rattle.tree_reading.specs.Counted.{count-choices}
 use Rattle.tree_choices.specs.Formula.{All, Some, Holds, both-all, holds-some, some-holds, some-number, number-some}
 use Rattle.tree_lists.specs.Masked.{isPicked, masked, masked-valid, masked-solved, solved-masked}
@@ -159,12 +156,6 @@ module _ (L : List ℤ) (t : Row) (s : Assignment) where
       let listed : All (λ i. i < lineCount L) lines = each-at (lineCount L) (choices all t) n k (listed (lineCount L) levels all t f) in
       let met : All P lines = all-picked P (lineCount L) lines listed (masked-solved (flagsOf (lineCount L) lines) L s h) in
       some-holds P all t (number-some P (choices all t) n k met)
-
--- what choosing in a tree's numbers leaves in flags that were all 0, and masking by them, is the list of that choice
-pub chosen-list : (s : List ℕ) (L : List ℤ) (n : ℕ) (b : Node) (c : Chosen s (lineCount L) n b)
-    → masked (flagsAfter s (lineCount L) n (replicate (lineCount L) 0) (Read b)) L ≡ choiceList L (c .valid .read .tree) n
-unfolding choiceList
-chosen-list s L n b c = ap (λ (flags : List ℕ). masked flags L) (c .flags (replicate (lineCount L) 0))
 
 -- a choice is decided as its list: it is valid
 pub choice-valid : (n : ℕ) (L : List ℤ) (t : Row) (k : ℕ) → validityOf n L ≡ Valid → validityOf n (choiceList L t k) ≡ Valid

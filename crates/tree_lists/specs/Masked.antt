@@ -2,25 +2,24 @@
 use mathlib.Core.Path.{_≡_, refl, sym, ap, ap₂, subst, _∙_}
 use mathlib.Core.Bool.{Bool, true, false, cond}
 use mathlib.Core.List.{List, [], _∷_, _++_}
-use Prim.Native.Nat.{ℕ, zero, suc, _+_, _*_, _/_, _%_, _<_, _≤_}
+use Prim.Native.Nat.{ℕ, _+_, _*_, _/_, _%_, _<_, _≤_}
 use native.Mathlib.Omega.{arith}
-use borrow.Author.Tests.{le-ltb, lt-ltb, eq-eqb}
+use borrow.Author.Tests.{le-ltb, lt-ltb}
 use lib.Dec.{eqb, ltb}
-use lib.IntN.{ℤ, pos, _+ℤ_, _*ℤ_, zero-*ℤ}
-use lib.ListN.{length, getD, set, drop, take, replicate, length-replicate, getD-replicate}
+use lib.IntN.{ℤ, pos, _+ℤ_, zero-*ℤ}
+use lib.ListN.{length, getD, set, drop, replicate, length-replicate, getD-replicate}
 use lib.Seq.{getD-take, take-all}
 use Rattle.integers.specs.Integer.{_⩽_}
 use Rattle.integers.specs.Linear.{ints}
 use Rattle.integers.specs.Sequence.{tabulate, length-tabulate, getD-tabulate, tabulate-add, tabulate-cong, tabulate-getD, grow}
 use Rattle.lines.specs.declared.Line.{Line}
-use Rattle.lines.specs.declared.Validity.{Validity}
 use Rattle.lines.specs.declared.Validity.the-variants.{Valid}
-use Rattle.lines.specs.Limits.{lineSize, maxVariables, maxLines}
+use Rattle.lines.specs.Limits.{lineSize, maxLines}
 use Rattle.lines.specs.Line.{number, lineNumbers, lineOf, lineAt, lineCount, linesOf, Assignment, leftSide, Meets, Solves}
 use Rattle.lines.specs.LineNumbers.{length-numbers, line-of-numbers, numbers-of-line, number-at}
-use Rattle.lines.specs.Refusal.{lineTests, lineValidity, linesValidity, validityOf}
-use Rattle.lines.specs.Solutions.{solves-at}
-use Rattle.lines.specs.Valid.{valid-list, line-valid-more}
+use Rattle.lines.specs.Refusal.{lineTests, lineValidity, validityOf}
+use Rattle.lines.specs.Solutions.{tabulate-solves, solves-at}
+use Rattle.lines.specs.Valid.{valid-list, list-valid, lines-valid, line-valid-more}
 
 -- a line is picked if its flag is 1
 abbrev pub isPicked : List ℕ → ℕ → Bool
@@ -81,18 +80,6 @@ same-line l m e =
     let numbers : lineNumbers l ≡ lineNumbers m = all-numbers l ∙ tabulate-cong lineSize _ _ e ∙ sym (all-numbers m) in
     sym (line-of-numbers l []) ∙ ap (λ (N : List ℤ). lineOf (N ++ [])) numbers ∙ line-of-numbers m []
 
--- ---- of all lines, from what holds of each
-lines-valid : (n c : ℕ) (f : ℕ → Line) (k : ℕ) → ((i : ℕ) → i < c → lineValidity n 0 (f i) ≡ Valid) → linesValidity n k (tabulate c f) ≡ Valid
-unfolding linesValidity
-lines-valid n zero f k h = refl
-lines-valid n (suc c) f k h =
-    let first : lineValidity n k (f 0) ≡ Valid = line-valid-more n n 0 k (f 0) (omega arith) (h 0 (omega arith)) in
-    rw first (lines-valid n c (λ i. f (suc i)) (k + 1) (λ i l. h (suc i) (omega arith)))
-
-solves-all : (s : Assignment) (c : ℕ) (f : ℕ → Line) → ((k : ℕ) → k < c → Meets s (f k)) → Solves (tabulate c f) s
-solves-all s zero f h = tt
-solves-all s (suc c) f h = (h zero (omega arith), solves-all s c (λ k. f (suc k)) (λ k l. h (suc k) (omega arith)))
-
 -- ---- line by line
 module _ (flags : List ℕ) (L : List ℤ) where
   pub same-length : length (masked flags L) ≡ length L
@@ -140,13 +127,12 @@ module _ (flags : List ℕ) (L : List ℤ) where
 
   -- ---- validity
   pub masked-valid : (n : ℕ) → validityOf n L ≡ Valid → validityOf n (masked flags L) ≡ Valid
-  unfolding validityOf
   masked-valid n e =
       let o = valid-list n L e in
       let whole : length (masked flags L) % lineSize ≡ 0 = ap (λ (i : ℕ). i % lineSize) same-length ∙ o .whole in
       let few : lineCount (masked flags L) ≤ maxLines = omega (arith, same-count, o .count) in
-      let lines : linesValidity n 0 (linesOf (masked flags L)) ≡ Valid = lines-valid n (lineCount (masked flags L)) (lineAt (masked flags L)) 0 (λ k l. valid k (subst (λ (c : ℕ). k < c) same-count l)) in
-      rw (le-ltb maxVariables n (o .variables), eq-eqb (length (masked flags L) % lineSize) 0 whole, le-ltb maxLines (lineCount (masked flags L)) few, lines)
+      list-valid n (masked flags L) (o .variables) whole few
+      (lines-valid n (lineCount (masked flags L)) (lineAt (masked flags L)) 0 (λ k l. valid k (subst (λ (c : ℕ). k < c) same-count l)))
     where
       valid : (k : ℕ) → k < lineCount L → lineValidity n 0 (lineAt (masked flags L) k) ≡ Valid
       valid k l = each-masked (λ m. lineValidity n 0 m ≡ Valid) (zero-valid n 0) k l (λ p. line-valid-more n n k 0 (lineAt L k) (omega arith) (valid-list n L e .each k l))
@@ -158,5 +144,5 @@ module _ (flags : List ℕ) (L : List ℤ) where
 
   pub solved-masked : (s : Assignment) → ((k : ℕ) → k < lineCount L → isPicked flags k ≡ true → Meets s (lineAt L k)) → Solves (linesOf (masked flags L)) s
   solved-masked s f =
-      solves-all s (lineCount (masked flags L)) (lineAt (masked flags L))
+      tabulate-solves (lineCount (masked flags L)) (lineAt (masked flags L)) s
       (λ k l. let h = subst (λ (n : ℕ). k < n) same-count l in each-masked (Meets s) (zero-met s) k h (f k h))

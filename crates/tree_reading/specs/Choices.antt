@@ -45,7 +45,7 @@ count k none = unitOf k
 count k (line i r) = with k 1 (count k r)
 count k (node l c r) = with k (count l c) (count k r)
 
--- the nodes with over 256 choices, by their indices, in a row whose numbers begin at `at`, and in a whole tree
+-- the nodes with more than the most choices, by their indices, in a row whose numbers begin at `at`, and in a whole tree
 abbrev pub here : ℕ → ℕ → List ℕ
 here n at = cond (ltb maxChoices n) (at ∷ []) []
 

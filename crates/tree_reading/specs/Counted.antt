@@ -1,5 +1,5 @@
--- Counting up to 257 is exact: a node's number of choices is its own or 257 for any higher one, and the node that is
--- found is the first with over 256.
+-- Counting up to one above the most is exact: a node's number of choices is its own or that for any higher one, and the
+-- node that is found is the first with more than the most.
 use mathlib.Core.Path.{_≡_, refl, sym, ap, ap₂, subst, _∙_}
 use mathlib.Core.Bool.{Bool, true, false, cond}
 use mathlib.Core.List.{List, [], _∷_, _++_, map}
@@ -32,8 +32,8 @@ count-choices any none = refl
 count-choices k (line i r) = length-joined k _ (choices k r) ∙ ap (with k 1) (count-choices k r)
 count-choices k (node l c r) = length-joined k (choices l c) (choices k r) ∙ ap₂ (with k) (count-choices l c) (count-choices k r)
 
--- ---- counting up to 257
--- a factor over 257 makes a product over 257, unless the other is zero
+-- ---- counting up to one above the most
+-- a factor above that makes a product above it, unless the other is zero
 cap-product : (a b : ℕ) → cap (cap a * cap b) ≡ cap (a * b)
 cap-product zero b = ap cap (zero-mul (cap b) ∙ sym (zero-mul b))
 cap-product (suc a) zero = ap cap (mul-zero (cap (suc a)) ∙ sym (mul-zero (suc a)))

@@ -14,3 +14,4 @@ pub mod Examples
 pub mod Faults
 pub mod FirstFault
 pub mod Refused
+pub mod Taken

@@ -1,4 +1,4 @@
--- The node that reading finds is the lowest with over 256 choices, and a tree is refused exactly if it has one.
+-- The node that reading finds is the lowest with more than the most choices, and a tree is refused exactly if it has one.
 use mathlib.Core.Path.{_≡_, refl, sym, ap, ap₂, subst, _∙_}
 use mathlib.Core.Bool.{Bool, true, false, cond}
 use mathlib.Core.List.{List, [], _∷_, _++_}
@@ -66,7 +66,7 @@ lowest-below d x xs h = omega (arith, h .0)
 
 -- ---- what reading finds
 module _ (s : List ℕ) where
-  -- the test on the number up to 257 is the test on the number
+  -- the test on the number that was cut is the test on the number
   node-over : (n at : ℕ) (a : Node) (xs : List ℕ) → a .choices ≡ cap n → a .over ≡ lowest (length s) xs → finished at a .over ≡ lowest (length s) (here n at ++ xs)
   node-over n at a xs p q = go (ltb maxChoices n) refl
     where
@@ -139,7 +139,7 @@ few-choices t e = go (ltb maxChoices (count all t)) refl e
     go true p q = never (cc)
     go false p q = ltb-false maxChoices (count all t) p
 
--- s are the numbers of a tree with at most 256 choices at each node, and b has where it ends and its number of choices
+-- s are the numbers of a tree with at most the most choices at each node, and b has where it ends and its number of choices
 pub record IsValid (s : List ℕ) (m : ℕ) (b : Node) : Type 0 where
   pub read : IsTree s m b
   pub few : oversOf (read .tree) ≡ []

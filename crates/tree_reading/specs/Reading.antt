@@ -1,5 +1,5 @@
--- What reading the numbers of a tree finds: the first refusal, or where the tree ends, its number of choices up to 257,
--- and the first node with over 256.
+-- What reading the numbers of a tree finds: the first refusal, or where the tree ends, its number of choices up to one
+-- above the most, and the first node with more than the most.
 use mathlib.Core.Bool.{Bool, cond}
 use mathlib.Core.List.{List}
 use Prim.Native.Nat.{ℕ, zero, suc, _+_, _*_, min}
@@ -15,7 +15,7 @@ use Rattle.tree_reading.specs.declared.Node.{Node}
 use Rattle.tree_reading.specs.declared.Reading.{Reading}
 use Rattle.tree_reading.specs.declared.Reading.the-variants.{Read, Refused}
 
--- a number of choices, or 257 for any higher one
+-- a number of choices, or one above the most for any higher one
 abbrev pub cap : ℕ → ℕ
 cap n = min n (maxChoices + 1)
 
@@ -40,7 +40,7 @@ headOf s m depth kind at =
     (cond (eqb (getD s at 0) kind) (childrenHead s at) (Wrong (Malformed at)))))
     (Wrong (Malformed (length s)))
 
--- a line, and a node before its first child; no node has over 256 choices
+-- a line, and a node before its first child; no node has too many choices
 abbrev pub begun : List ℕ → ℕ → ℕ → Node
 begun s at n = record { end = at + 2; choices = n; over = length s }
 
@@ -48,7 +48,7 @@ begun s at n = record { end = at + 2; choices = n; over = length s }
 abbrev pub withChild : Kind → Node → Node → Node
 withChild k a b = record { end = b .end; choices = cap (with k (cap (a .choices)) (cap (b .choices))); over = min (a .over) (b .over) }
 
--- after its last child: the node itself may have over 256
+-- after its last child: the node itself may have too many
 abbrev pub finished : ℕ → Node → Node
 finished at a = record { end = a .end; choices = a .choices; over = cond (ltb maxChoices (a .choices)) (min at (a .over)) (a .over) }
 
@@ -84,7 +84,7 @@ rootIsLine s = eqb (getD s 0 0) lineCode
 unfoldable pub treeOf : List ℕ → ℕ → Reading
 treeOf s m = cond (rootIsLine s) (Refused (Malformed 0)) (wholeTree s (nodeOf s m maxDepth all 0))
 
--- 40 at the first node with over 256 choices
+-- 40 at the first node with more than the most choices
 abbrev pub fewChoices : List ℕ → Reading → Reading
 fewChoices s (Read a) = cond (ltb (a .over) (length s)) (Refused (TooManyChoices (a .over))) (Read a)
 fewChoices s (Refused r) = Refused r

@@ -36,8 +36,8 @@ pub enum Head {
     Wrong(TreeRefusal),
 }
 
-// A node that was read: where the next one begins, its choices (257 for any higher number), and the first node in it with
-// over 256 choices, or the length of the numbers if there is none.
+// A node that was read: where the next one begins, its choices (one above the most for any higher number), and the first
+// node in it with more than the most, or the length of the numbers if there is none.
 pub struct Node {
     pub end: usize,
     pub choices: usize,
@@ -68,7 +68,7 @@ pub fn as_index(x: u32) -> usize
     x as usize
 }
 
-// A number of choices, or 257 for any higher one.
+// A number of choices, or one above the most for any higher one.
 fn capped(n: usize) -> usize
     ensures { λ r. ⌜ r ≡ read.cap n ⌝ }
 {
@@ -253,7 +253,7 @@ fn whole_tree(numbers: &[u32], node: Node) -> Reading
     Reading::Read(node)
 }
 
-// 40 at the first node with over 256 choices.
+// 40 at the first node with more than the most choices.
 fn few_choices(numbers: &[u32], node: Node) -> Reading
     ensures { λ r. ⌜ r ≡ read.fewChoices (now (numbers .entry)) (Read node) ⌝ }
 {

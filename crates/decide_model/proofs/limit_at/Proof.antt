@@ -6,10 +6,9 @@ use borrow.Author.Needs.{needs}
 use denote.Ref.{now}
 use lib.IntN.{ℤ}
 use lib.ListN.{length}
-use mir.Syntax.{w64}
-use mir.Val.{toZ, ofZ}
-use mir.Facts.{toZ-ofZ}
-use Rattle.integers.specs.Bits.{kept}
+use mir.Syntax.{w32, w64}
+use mir.Val.{SFits, toZ, ofZ}
+use Rattle.integers.specs.Bits.{kept, widens, widened}
 use Rattle.integers.specs.Integer.{Within}
 use Rattle.lines.specs.Line.{number}
 use Rattle.decide_rows.specs.Stored.{stored}
@@ -47,8 +46,14 @@ module _ (l : tie.At-loop Inv-loop μ-loop) where
     small : Within maxModel value
     small = s .pre .small x h
 
-    value-is : toZ w64 (ofZ w64 value) ≡ value
-    value-is = toZ-ofZ (value-fits value small)
+    fits : SFits w32 value
+    fits = value-fits value small
+
+    value-is : toZ w64 (ofZ w64 (toZ w32 (ofZ w32 value))) ≡ value
+    value-is = widened {w = w32} {z = value} tt fits
+
+cast-limit-step : tie.Need-cast-limit-step Inv-loop μ-loop
+cast-limit-step c = widens {w = w32} tt (fits (c .before .before) (c .before .loop-test .taken))
 
 limit-step-requires : tie.Need-limit-step-requires Inv-loop μ-loop
 limit-step-requires c κs =
@@ -85,6 +90,7 @@ limit-at-spec =
     loop-holds
     (search needs)
     (search needs)
+    cast-limit-step
     limit-step-requires
     (search needs)
     (search needs)

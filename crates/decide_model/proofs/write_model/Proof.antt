@@ -5,13 +5,16 @@ use Prim.Native.Nat.{ℕ, _*_, _-_, _≤_, _<_}
 use native.Mathlib.Omega.{arith}
 use borrow.Author.Needs.{needs}
 use denote.Ref.{now}
-use lib.ListN.{length, drop, length-set}
-use mir.Syntax.{w64}
+use lib.IntN.{ℤ}
+use lib.ListN.{length, take, drop, length-set}
+use mir.Syntax.{w32, w64}
+use mir.Val.{SFits, toZ, ofZ}
+use mir.Facts.{toZ-ofZ}
 use Rattle.integers.specs.Bits.{kept}
 use Rattle.integers.specs.Sequence.{tabulate}
 use Rattle.theory_bounds.specs.Table.{tableModel}
 use Rattle.decide_stored_table.specs.Table.{tableOf, mirrored-table}
-use Rattle.decide_model.specs.Written.{part-length, part-small, part-below-halves, written-more}
+use Rattle.decide_model.specs.Written.{nextOf, part-length, part-small, part-below-halves, next-fits, written-more}
 use Rattle.decide_model.proofs.write_model.Statement.{statement}
 use Rattle.decide_model.proofs.write_model.Tie as tie
 
@@ -55,21 +58,41 @@ next-value-requires c κs =
       below-halves = part-below-halves (r .args .n) (now (r .args .table)) (now (r .args .model)) (r .pre) (k l) h (l .loop .model) (l .loop .inv .2);
     })
 
+-- the next value, as it was given and as it is kept
+module _ (c : tie.After-next-value Inv-loop μ-loop) where
+  abbrev turn : tie.At-loop Inv-loop μ-loop
+  turn = c .before .before .before .before
+
+  abbrev r : tie.Start Inv-loop μ-loop
+  r = s turn
+
+  more : k turn < r .args .n
+  more = c .before .before .before .loop-test .taken
+
+  abbrev given : ℤ
+  given = toZ w64 (ofZ w64 (c .next-value .result))
+
+  is-next : given ≡ nextOf (tableOf (2 * r .args .n) (now (r .args .table))) (take (k turn) (turn .loop .model))
+  is-next = kept w64 (c .next-value .result) (c .next-value .ok) ∙ (rw (from-zero (k turn)) at (c .next-value .ensures))
+
+  fits : SFits w32 given
+  fits = next-fits (r .args .n) (now (r .args .table)) (now (r .args .model)) (r .pre) (k turn) more (turn .loop .model) (turn .loop .inv .2) given is-next
+
+cast-value : tie.Need-cast-value Inv-loop μ-loop
+cast-value c = fits c
+
 mul-value : tie.Need-mul-value Inv-loop μ-loop
-mul-value c = let h = inside (c .before .before .before .before) (c .before .before .before .loop-test .taken) in search needs
+mul-value c = let h = inside (turn c) (more c) in search needs
 
 slice-set-from-value : tie.Need-slice-set-from-value Inv-loop μ-loop
-slice-set-from-value c = inside (c .before .before .before .before) (c .before .before .before .loop-test .taken)
+slice-set-from-value c = inside (turn c) (more c)
 
 loop-again : tie.Need-loop-again Inv-loop μ-loop
 loop-again c =
-    let l = c .before .before .before .before in
-    let h = c .before .before .before .loop-test .taken in
-    let r = s l in (
-      omega (arith, h),
+    let l = turn c in (
+      omega (arith, more c),
       length-set (l .loop .model) (k l) _ ∙ l .loop .inv .1,
-      written-more (r .args .n) (now (r .args .table)) (now (r .args .model)) (r .pre) (k l) h (l .loop .model) (l .loop .inv .2) _
-          (kept w64 (c .next-value .result) (c .next-value .ok) ∙ (rw (from-zero (k l)) at (c .next-value .ensures))),
+      written-more (r c .args .n) (now (r c .args .table)) (now (r c .args .model)) (r c .pre) (k l) (more c) (l .loop .model) (l .loop .inv .2) _ (toZ-ofZ (fits c) ∙ is-next c),
     )
 
 returns : tie.Need-returns Inv-loop μ-loop
@@ -90,6 +113,7 @@ write-model-spec =
     (search needs)
     part-next-value-end
     next-value-requires
+    cast-value
     mul-value
     slice-set-from-value
     (search needs)

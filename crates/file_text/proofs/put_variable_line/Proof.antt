@@ -5,7 +5,7 @@ use native.Mathlib.Omega.{arith}
 use denote.Ref.{now}
 use lib.IntN.{pos}
 use lib.ListN.{length, getD}
-use mir.Syntax.{w64}
+use mir.Syntax.{w32, w64}
 use Rattle.integers.specs.Bits.{kept}
 use Rattle.file_text.specs.Put.{then, wider, same}
 use Rattle.file_text.specs.Steps.{valueText, bounds-same, line-parts}
@@ -21,7 +21,7 @@ returns c =
     let h : s .args .at ≤ length (now (s .args .out)) = omega arith in
     let x = s .args .x in
     let bounds = now (s .args .bounds) in
-    let value = kept w64 (getD (now (s .args .model)) x (pos 0)) (p1 .before .put-value-arg2 .given) in
+    let value = kept w32 (getD (now (s .args .model)) x (pos 0)) (p1 .before .put-value-arg2 .given) in
     let least = kept w64 (getD bounds (2 * x) (pos 0)) (p2 .before .before .put-bounds-arg2 .given) in
     let greatest = kept w64 (getD bounds (2 * x + 1) (pos 0)) (p2 .before .put-bounds-arg3 .given) in
     let q1 = same (ap (valueText x) value) (p1 .put-value .ensures) in

@@ -2,14 +2,15 @@
 use mathlib.Core.Path.{_≡_, sym, _∙_}
 use borrow.Author.Needs.{needs}
 use Rattle.lines.specs.declared.Validity.the-variants.{Valid}
-use Rattle.implied_line.specs.Answer.{questionValidity, LineLent, lengthsOf}
+use Rattle.decide_buffers.specs.Room.{ModelLent, modelLengthsOf}
+use Rattle.implied_line.specs.Answer.{questionValidity}
 use Rattle.implied_line.specs.Judged.{asked, few, refused, room-left, answers}
 use Rattle.implied_line.proofs.implied_line.Statement.{statement}
 use Rattle.implied_line.proofs.implied_line.Tie as tie
 
 -- what the buffers held
 module _ (start : tie.Start) where
-  abbrev lent : LineLent
+  abbrev lent : ModelLent
   lent = record { model = start .args .model .now; work = start .args .work .now }
 
 returns : tie.Need-returns
@@ -22,7 +23,7 @@ module _ (told : tie.After-enum-told) where
   abbrev start : tie.Start
   start = told .before .before .before
 
-  valid : questionValidity (start .args .n) (start .args .list .now) (start .args .line) (lengthsOf (lent start)) ≡ Valid
+  valid : questionValidity (start .args .n) (start .args .list .now) (start .args .line) (modelLengthsOf (lent start)) ≡ Valid
   valid = sym (told .before .before .question-validity .ensures) ∙ told .enum-told .given .1
 
 judged-line-requires : tie.Need-judged-line-requires

@@ -1,7 +1,6 @@
 -- `implied_line::question_validity` meets its contract: each way out has the tests that led there.
 use mathlib.Core.Path.{_≡_, sym, _∙_}
 use borrow.Author.Needs.{needs}
-use borrow.Author.Tests.{lt-ltb, le-ltb}
 use Rattle.lines.specs.declared.Validity.the-variants.{Valid}
 use Rattle.lines.specs.Line.{lineCount}
 use Rattle.lines.specs.Refusal.{lineValidity, validityOf}
@@ -39,31 +38,12 @@ module _ (told : tie.After-enum-told2) where
   line-valid : lineValidity (start listed .args .n) (lineCount (start listed .args .list .now)) (start listed .args .line) ≡ Valid
   line-valid = sym (told .before .before .line-validity .ensures) ∙ told .enum-told2 .given .1
 
-model-room-requires : tie.Need-model-room-requires
-model-room-requires c κs = valid-list _ _ (list-valid (listed c)) .variables
+model-validity-requires : tie.Need-model-validity-requires
+model-validity-requires c κs = valid-list _ _ (list-valid (listed c)) .variables
 
 returns-3 : tie.Need-returns-3
 unfolding questionValidity
-returns-3 c =
-    let told = c .before .before in
-    rw (list-valid (listed told), line-valid told, lt-ltb _ _ (rw (c .before .model-room .ensures) at (c .if1 .taken)))
-
-work-room-requires : tie.Need-work-room-requires
-work-room-requires c κs = valid-list _ _ (list-valid (listed (c .before .before))) .variables
-
-returns-4 : tie.Need-returns-4
-unfolding questionValidity
-returns-4 c =
-    let long = c .before .before in
-    let told = long .before .before in
-    rw (list-valid (listed told), line-valid told, le-ltb _ _ (rw (long .before .model-room .ensures) at (long .if1 .left)), lt-ltb _ _ (rw (c .before .work-room .ensures) at (c .if2 .taken)))
-
-returns-5 : tie.Need-returns-5
-unfolding questionValidity
-returns-5 c =
-    let long = c .before .before in
-    let told = long .before .before in
-    rw (list-valid (listed told), line-valid told, le-ltb _ _ (rw (long .before .model-room .ensures) at (long .if1 .left)), le-ltb _ _ (rw (c .before .work-room .ensures) at (c .if2 .left)))
+returns-3 c = rw (list-valid (listed (c .before)), line-valid (c .before)) (c .model-validity .ensures)
 
 pub question-validity-spec : {M : Type 1} → statement M
 question-validity-spec =
@@ -77,8 +57,5 @@ question-validity-spec =
     (search needs)
     returns-2
     (search needs)
-    model-room-requires
-    returns-3
-    work-room-requires
-    returns-4
-    returns-5)
+    model-validity-requires
+    returns-3)

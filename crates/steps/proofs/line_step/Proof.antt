@@ -12,15 +12,16 @@ use Rattle.lines.specs.Valid.{LineWorks}
 use Rattle.steps.specs.declared.Side.{Side}
 use Rattle.steps.specs.declared.NamedStep.the-variants.{Found}
 use Rattle.steps.specs.Table.{entry, cell, digit, CellRule}
+use Rattle.steps.specs.Sides.{sideAt}
 use Rattle.steps.specs.Step.{endPoint}
 use Rattle.steps.specs.Laws.{step-none, step-found, line-rule, end-ok}
 use Rattle.steps.proofs.line_step.Statement.{statement}
 use Rattle.steps.proofs.line_step.Tie as tie
 
--- where the table is read
-module _ (c : tie.After-digit-of2) where
+-- what is read of the table
+module _ (c : tie.After-side-of) where
   abbrev start : tie.Start
-  start = c .before .before .before .before
+  start = c .before .before .before .before .before
 
   abbrev l : Line
   l = start .args .line
@@ -28,27 +29,27 @@ module _ (c : tie.After-digit-of2) where
   abbrev at : ℕ
   at = cell (l .a) (l .b) (start .args .side)
 
-  at-is : 6 * (3 * c .before .before .digit-of .result + c .digit-of2 .result) + 3 * start .args .side ≡ at
-  at-is =
-      ap₂ (λ (a b : ℕ). 6 * (3 * a + b) + 3 * start .args .side)
-      (c .before .before .digit-of .ensures .0 ∙ ap digit (kept w32 (l .a) (c .before .before .before .struct-told .given .0 .1)))
-      (c .digit-of2 .ensures .0 ∙ ap digit (kept w32 (l .b) (c .before .struct-told2 .given .1 .1 .0 .1)))
+  side-is : c .side-of .result ≡ sideAt (digit (l .a)) (digit (l .b)) (start .args .side)
+  side-is =
+      let d = c .before in
+      c .side-of .ensures
+      ∙ ap₂ (λ (p q : ℕ). sideAt p q (start .args .side))
+      (d .before .before .digit-of .ensures .0 ∙ ap digit (kept w32 (l .a) (d .before .before .before .struct-told .given .0 .1)))
+      (d .digit-of2 .ensures .0 ∙ ap digit (kept w32 (l .b) (d .before .struct-told2 .given .1 .1 .0 .1)))
 
--- what is read
-module _ (c : tie.After-side-at) where
-  from-is : c .side-at .result .start ≡ entry (at (c .before))
-  from-is = ap (λ (s : Side). s .start) (c .side-at .ensures) ∙ ap entry (at-is (c .before))
+  from-is : c .side-of .result .start ≡ entry at
+  from-is = ap (λ (s : Side). s .start) side-is
 
-  to-is : c .side-at .result .end ≡ entry (at (c .before) + 1)
-  to-is = ap (λ (s : Side). s .end) (c .side-at .ensures) ∙ ap (λ (i : ℕ). entry (i + 1)) (at-is (c .before))
+  to-is : c .side-of .result .end ≡ entry (at + 1)
+  to-is = ap (λ (s : Side). s .end) side-is
 
-  factor-is : c .side-at .result .factor ≡ entry (at (c .before) + 2)
-  factor-is = ap (λ (s : Side). s .factor) (c .side-at .ensures) ∙ ap (λ (i : ℕ). entry (i + 2)) (at-is (c .before))
+  factor-is : c .side-of .result .factor ≡ entry (at + 2)
+  factor-is = ap (λ (s : Side). s .factor) side-is
 
 -- there is a step, so that the rule says what its ends are
 module _ (c : tie.Else1) where
-  abbrev d : tie.After-digit-of2
-  d = c .before .before
+  abbrev d : tie.After-side-of
+  d = c .before
 
   some-factor : entry (at d + 2) ≡ 0 → ⊥
   some-factor e = c .if1 .left (factor-is (c .before) ∙ e)
@@ -60,7 +61,7 @@ module _ (c : tie.Else1) where
   rule = line-rule (l d) (start d .args .side) (start d .pre .1)
 
 returns : tie.Need-returns
-returns c = step-none (l (c .before .before)) _ (sym (factor-is (c .before)) ∙ c .if1 .taken)
+returns c = step-none (l (c .before)) _ (sym (factor-is (c .before)) ∙ c .if1 .taken)
 
 end-point-requires : tie.Need-end-point-requires
 end-point-requires e κs = rw (from-is (e .before)) (end-ok maxVariables (l (d e)) (ok e) (entry (at (d e))) (rule e .start (some-factor e)))
@@ -97,11 +98,6 @@ pub line-step-spec : {M : Type 1} → statement M
 line-step-spec =
     tie.close
     (tie.spec
-    (search needs)
-    (search needs)
-    (search needs)
-    (search needs)
-    (search needs)
     (search needs)
     (search needs)
     (search needs)

@@ -1,7 +1,8 @@
-//! What the build scripts of the tests and of the benchmark share: where the static
-//! library is, and what its header defines.
+//! What build scripts of Rust programs take from the library's header: its numbers and the
+//! rooms of buffers, so that they stand there alone. The tests and the benchmark have it
+//! from here, too, and where the static library is in the repository.
 
-use std::path::PathBuf;
+use std::path::{Path, PathBuf};
 use std::{env, fs};
 
 /// The rooms of the buffers that deciding is lent, in their order, by their names
@@ -40,13 +41,17 @@ pub fn link() {
     println!("cargo:rustc-link-lib=static=utvpi");
 }
 
-/// Writes what the header defines under these names, given without UTVPI_, as constants,
-/// and the rooms of the buffers and of a session's state as functions, for src/limits.rs
-/// to take in.
+/// Writes what the repository's header defines under these names, given without UTVPI_, as
+/// constants, and the rooms of the buffers and of a session's state as functions, for
+/// src/limits.rs to take in.
 pub fn write_limits(names: &[&str]) {
-    let header = root().join("include/utvpi.h");
+    write_limits_of(&root().join("include/utvpi.h"), names);
+}
+
+/// The same for the header that stands there.
+pub fn write_limits_of(header: &Path, names: &[&str]) {
     println!("cargo:rerun-if-changed={}", header.display());
-    let text = fs::read_to_string(&header)
+    let text = fs::read_to_string(header)
         .unwrap_or_else(|why| panic!("{} can't be read: {why}", header.display()));
     let of_n = |name: &str| defined(&text, &format!("{name}(n)"));
     let mut items: Vec<String> = Vec::new();

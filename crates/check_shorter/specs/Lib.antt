@@ -1,0 +1,3 @@
+pub mod HandsBack
+pub mod Shorter
+pub mod Laws

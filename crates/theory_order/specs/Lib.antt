@@ -1,0 +1,3 @@
+pub mod Rearranged
+pub mod Often
+pub mod Order

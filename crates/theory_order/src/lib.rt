@@ -1,0 +1,1 @@
+// Lines in another order: what stays with them. Mathematics, no code.

@@ -1,0 +1,289 @@
+/* Blocks of rules: either, or and end around alternatives, all and end around rules that
+ * belong together. What is read becomes a tree for the library: rules and eithers beside
+ * each other are the children of an all-of, the alternatives of an either those of an
+ * any-of, and each alternative is an all-of. An all adds no node: its rules are children of
+ * the all-of around it. */
+#include "list.h"
+
+#include <stdlib.h>
+#include <string.h>
+
+static const struct text nothing = {"", 0};
+
+static const char either_word[] = "either", or_word[] = "or", all_word[] = "all",
+                  end_word[] = "end";
+static const char *const words[] = {either_word, or_word, all_word, end_word};
+
+/* Whether a line is one of the words of blocks. */
+bool is_block_word(struct text line)
+{
+    bool found = false;
+    for (size_t at = 0; at < sizeof words / sizeof words[0]; at++) {
+        found = found || is_word(line, words[at]);
+    }
+    return found;
+}
+
+/* Whether a line begins with one of the words, in a block with anything behind it, and else
+ * with a name or a number: outside of blocks an event may be called so. */
+static bool is_crowded(const struct list *list, struct text line)
+{
+    for (size_t at = 0; at < sizeof words / sizeof words[0]; at++) {
+        size_t length = strlen(words[at]);
+        struct text rest = {line.at + length, line.length - length};
+        if (begins_with_word(line, words[at]) && line.length > length) {
+            char next = trim(rest).at[0];
+            return list->tree.open > 0 || is_letter(next) || is_digit(next);
+        }
+    }
+    return false;
+}
+
+static bool no_memory(const struct list *list, struct origin origin)
+{
+    return wrong(list, origin, nothing, "there is not enough memory for so many rules",
+                 "leave out rules that add nothing");
+}
+
+/* Adds a node behind the last, as the last child of its parent; the root is its own. */
+static bool add_node(struct list *list, struct origin origin, uint32_t kind, size_t parent,
+                     uint32_t number)
+{
+    struct tree *tree = &list->tree;
+    if (tree->count == tree->room) {
+        size_t longer = tree->room == 0 ? 64 : 2 * tree->room;
+        uint32_t *numbers = realloc(tree->numbers, 2 * longer * sizeof *numbers);
+        tree->numbers = numbers != NULL ? numbers : tree->numbers;
+        struct node *nodes = realloc(tree->nodes, longer * sizeof *nodes);
+        tree->nodes = nodes != NULL ? nodes : tree->nodes;
+        if (numbers == NULL || nodes == NULL) {
+            return no_memory(list, origin);
+        }
+        tree->room = longer;
+    }
+    uint32_t ordinal = tree->count > 0 ? tree->numbers[2 * parent + 1]++ : 0;
+    tree->numbers[2 * tree->count] = kind;
+    tree->numbers[2 * tree->count + 1] = number;
+    tree->nodes[tree->count] = (struct node){.parent = parent,
+                                             .ordinal = ordinal,
+                                             .line = origin.line,
+                                             .choices = kind == UTVPI_ANY_OF ? 0 : 1};
+    tree->count++;
+    return true;
+}
+
+/* The all-of that the next rule belongs to: that of the open block, or the root. */
+static size_t node_at_hand(const struct tree *tree)
+{
+    return tree->open > 0 ? tree->blocks[tree->open - 1].node : 0;
+}
+
+static uint32_t children(const struct tree *tree, size_t node)
+{
+    return tree->numbers[2 * node + 1];
+}
+
+/* Opens a block whose rules belong to this all-of. */
+static bool open_block(struct list *list, struct origin origin, size_t node, bool either)
+{
+    struct tree *tree = &list->tree;
+    if (tree->block_count == tree->block_room) {
+        size_t longer = tree->block_room == 0 ? 16 : 2 * tree->block_room;
+        struct block *blocks = realloc(tree->blocks, longer * sizeof *blocks);
+        if (blocks == NULL) {
+            return no_memory(list, origin);
+        }
+        tree->blocks = blocks;
+        tree->block_room = longer;
+    }
+    tree->blocks[tree->block_count] =
+        (struct block){either, origin, tree->open, node, children(tree, node)};
+    tree->block_count++;
+    tree->open = tree->block_count;
+    return true;
+}
+
+/* Opens an either, with its first alternative. */
+static bool open_either(struct list *list, struct origin origin)
+{
+    struct tree *tree = &list->tree;
+    size_t any_of = tree->count;
+    if (tree->either_line == 0) {
+        tree->either_line = origin.line;
+    }
+    return add_node(list, origin, UTVPI_ANY_OF, node_at_hand(tree), 0) &&
+           add_node(list, origin, UTVPI_ALL_OF, any_of, 0) &&
+           open_block(list, origin, any_of + 1, true);
+}
+
+/* Counts more choices of a node, up to one too many: then notes the either. */
+static void count_choices(struct tree *tree, size_t node, uint64_t choices, size_t either_line)
+{
+    bool too_many = choices > UTVPI_MOST_CHOICES;
+    tree->nodes[node].choices = too_many ? UTVPI_MOST_CHOICES + 1 : (uint32_t)choices;
+    if (too_many && tree->too_many_line == 0) {
+        tree->too_many_line = either_line;
+    }
+}
+
+/* Counts the choices of an alternative that ends: its either has so many more. */
+static void end_alternative(struct tree *tree, size_t node)
+{
+    size_t any_of = tree->nodes[node].parent;
+    count_choices(tree, any_of,
+                  (uint64_t)tree->nodes[any_of].choices + tree->nodes[node].choices,
+                  tree->nodes[any_of].line);
+}
+
+/* Counts those of an either that ends: what is around it has so many times as many. */
+static void end_either(struct tree *tree, size_t any_of)
+{
+    size_t around = tree->nodes[any_of].parent;
+    count_choices(tree, around,
+                  (uint64_t)tree->nodes[around].choices * tree->nodes[any_of].choices,
+                  tree->nodes[any_of].line);
+}
+
+/* Whether rules stand behind the word that opened a block, or its last alternative. */
+static bool has_rules(const struct list *list, const struct block *block)
+{
+    struct origin origin = {block->origin.line, nothing};
+    return children(&list->tree, block->node) > block->before ||
+           wrong(list, origin, block->origin.rule, "has no rule behind it",
+                 block->either ? "write the rules of this alternative, or 0 <= 0 where it always"
+                                 " holds"
+                               : "write rules there, or leave it and its end out");
+}
+
+/* Begins another alternative of the open block. */
+static bool read_or(struct list *list, struct origin origin)
+{
+    struct tree *tree = &list->tree;
+    struct block *block = tree->open > 0 ? &tree->blocks[tree->open - 1] : NULL;
+    struct origin place = {origin.line, nothing};
+    if (block == NULL) {
+        return wrong(list, place, origin.rule, "stands outside of either",
+                     "write either before the first alternative, and end behind the last");
+    }
+    if (!block->either) {
+        wrong(list, place, origin.rule, "stands in an all that has no end yet",
+              "write end behind the last rule of the all");
+        fprintf(stderr, "  The all began in line %zu.\n", block->origin.line);
+        return false;
+    }
+    if (!has_rules(list, block)) {
+        return false;
+    }
+    size_t any_of = tree->nodes[block->node].parent;
+    end_alternative(tree, block->node);
+    block->origin = origin;
+    block->node = tree->count;
+    block->before = 0;
+    return add_node(list, origin, UTVPI_ALL_OF, any_of, 0);
+}
+
+/* Closes the open block. */
+static bool read_end(struct list *list, struct origin origin)
+{
+    struct tree *tree = &list->tree;
+    struct origin place = {origin.line, nothing};
+    if (tree->open == 0) {
+        return wrong(list, place, origin.rule, "stands where no either and no all is open",
+                     "leave it out, or write either or all before the rules that it ends");
+    }
+    const struct block *block = &tree->blocks[tree->open - 1];
+    if (!has_rules(list, block)) {
+        return false;
+    }
+    place.line = block->origin.line;
+    if (block->either && tree->nodes[block->node].ordinal == 0) {
+        return wrong(list, place, block->origin.rule, "has no or before its end",
+                     "write or between its alternatives; where there is only one, leave out"
+                     " either and end");
+    }
+    if (block->either) {
+        end_alternative(tree, block->node);
+        end_either(tree, tree->nodes[block->node].parent);
+    }
+    tree->open = block->around;
+    return true;
+}
+
+/* Reads a line with one of the words. */
+static bool read_word(struct list *list, struct origin origin)
+{
+    if (is_word(origin.rule, either_word)) {
+        return open_either(list, origin);
+    }
+    if (is_word(origin.rule, or_word)) {
+        return read_or(list, origin);
+    }
+    return is_word(origin.rule, all_word)
+               ? open_block(list, origin, node_at_hand(&list->tree), false)
+               : read_end(list, origin);
+}
+
+/* Whether a line may stand in the open block, if there is one: a rule may. */
+static bool suits_block(const struct list *list, struct origin origin)
+{
+    struct text line = origin.rule;
+    origin.rule = nothing;
+    if (is_crowded(list, line)) {
+        return wrong(list, origin, line,
+                     "begins with a word that stands alone where there are alternatives",
+                     "write either, or, all and end each on a line of its own; in these blocks a"
+                     " rule can't begin with an event of that name");
+    }
+    bool is_rule =
+        !is_clock(line) && (has_relation(line) || !begins_with_word(line, "variables"));
+    return list->tree.open == 0 || is_rule ||
+           wrong(list, origin, line, "is no rule, and only rules stand in either and all",
+                 "write it before them");
+}
+
+/* Reads a line that is not empty: one of the words, or what read_rule takes, whose lines
+ * belong to the open block. */
+bool read_in_block(struct list *list, struct origin origin)
+{
+    struct tree *tree = &list->tree;
+    if (tree->count == 0 && !add_node(list, (struct origin){0, nothing}, UTVPI_ALL_OF, 0, 0)) {
+        return false;
+    }
+    if (is_block_word(origin.rule)) {
+        return read_word(list, origin);
+    }
+    size_t line = list->count;
+    if (!suits_block(list, origin) || !read_rule(list, origin)) {
+        return false;
+    }
+    while (line < list->count &&
+           add_node(list, origin, UTVPI_LEAF, node_at_hand(tree), (uint32_t)line)) {
+        line++;
+    }
+    return line == list->count;
+}
+
+/* Whether all blocks are closed, at the end of the file. */
+bool end_blocks(const struct list *list)
+{
+    const struct tree *tree = &list->tree;
+    if (tree->open == 0) {
+        return true;
+    }
+    const struct block *block = &tree->blocks[tree->open - 1];
+    struct origin origin = {block->origin.line, nothing};
+    struct text word = {all_word, strlen(all_word)};
+    if (block->either) {
+        origin.line = tree->nodes[tree->nodes[block->node].parent].line;
+        word = (struct text){either_word, strlen(either_word)};
+    }
+    return wrong(list, origin, word, "has no end",
+                 "write end on a line of its own behind the last rule");
+}
+
+void free_tree(struct tree *tree)
+{
+    free(tree->numbers);
+    free(tree->nodes);
+    free(tree->blocks);
+}
