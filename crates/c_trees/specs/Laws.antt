@@ -50,7 +50,7 @@ module _ (asked : ℕ) where
       → (r : ConditionRefusal) × (x ≡ Refused r) × (choiceReturned asked x .refusal ≡ conditionNumber r) × (choiceReturned asked x .place ≡ conditionPlace r)
   refusal-told (Yes k) e = absurd (refused-low 0 e)
   refusal-told No e = absurd (refused-low noCode e)
-  refusal-told (Refused r) e = (r, refl, (refl, refl))
+  refusal-told (Refused r) e = (r, refl, refl, refl)
 
   -- no two answers are returned alike
   pub choices-apart : (x y : TreeAnswer) → choiceReturned asked x ≡ choiceReturned asked y → x ≡ y
