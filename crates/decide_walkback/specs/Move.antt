@@ -20,7 +20,7 @@ use Rattle.theory_walks.specs.Distance.{Distance, none, some, ⊕-some}
 use Rattle.theory_walks.specs.Row.{at, relaxRow, Along, at-lt, relax-one}
 use Rattle.lines.specs.Limits.{absentGreatest}
 use Rattle.theory_walks.specs.Graph.{numbered}
-use Rattle.decide_rows.specs.Stored.{stored, storedRow}
+use Rattle.decide_rows.specs.Stored.{stored, storedRow, stored-at}
 use Rattle.decide_walkback.specs.declared.Move.{Move}
 use Rattle.decide_walkback.specs.Makes.{entry, maxEntry, Near, startOf, Maker, SearchOk, IsMaker, makes}
 use Rattle.steps.specs.Laws.{number-below}
@@ -73,11 +73,6 @@ at-most-one (inr g) = omega (arith, g .count)
 -- ---- stored rows
 pub entry-in : (N : ℕ) (w : List ℤ) (from p : ℕ) → p < N → entry (rowIn N w from) p ≡ entry w (from + p)
 entry-in N w from p h = getD-take N (drop from w) p (pos 0) h ∙ getD-drop from w p (pos 0)
-
-pub stored-at : (row : List Distance) (p : ℕ) → p < length row → entry (storedRow row) p ≡ stored (at row p)
-stored-at [] p h = absurd (omega arith)
-stored-at (d ∷ row) zero h = refl
-stored-at (d ∷ row) (suc p) h = stored-at row p (omega arith)
 
 -- a small number is not the one that stands for no walk
 pub not-absent : (z : ℤ) → Within maxEntry z → z ≡ absentGreatest → ⊥

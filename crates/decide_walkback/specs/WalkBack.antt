@@ -21,10 +21,10 @@ use Rattle.theory_walks.specs.Row.{at, relaxRow, rowAt, at-lt, start-some, row-
 use Rattle.theory_walks.specs.Size.{within-more, row-within}
 use Rattle.lines.specs.Limits.{absentGreatest}
 use Rattle.theory_walks.specs.Graph.{weights-small}
-use Rattle.decide_rows.specs.Stored.{stored, storedRow, storedRows}
+use Rattle.decide_rows.specs.Stored.{stored, storedRow, stored-at, storedRows}
 use Rattle.decide_walkback.specs.declared.Move.{Move}
 use Rattle.decide_walkback.specs.Makes.{entry, startOf, made, numbered-start}
-use Rattle.decide_walkback.specs.Move.{rowIn, SmallRow, MoveOk, Stays, Goes, Moved, entry-in, stored-at, stored-some, not-absent}
+use Rattle.decide_walkback.specs.Move.{rowIn, SmallRow, MoveOk, Stays, Goes, Moved, entry-in, stored-some, not-absent}
 
 -- ---- what the function asks and promises
 -- rows 0 to top of the source u stand at the front, the last one's entry at v is a number, and behind them, from a place on, there is room for

@@ -4,7 +4,6 @@ use mathlib.Core.Path.{_≡_, refl, sym, _∙_}
 use mathlib.Core.Bool.{Bool, true, false, _&&_}
 use mathlib.Core.List.{List}
 use Prim.Native.Nat.{ℕ, _*_, _<_}
-use native.Mathlib.Omega.{arith}
 use Rattle.integers.specs.Sequence.{tabulate, tabulate-cong}
 use Rattle.integers.specs.Table.{below-all}
 use Rattle.lines.specs.declared.Line.{Line}
@@ -12,10 +11,9 @@ use Rattle.lines.specs.Valid.{AllOk}
 use Rattle.steps.specs.Step.{stepsOf}
 use Rattle.theory_walks.specs.Least.{NoneNegative}
 use Rattle.theory_walks.specs.Negative.{noNegative, no-negative-yes}
-use Rattle.theory_bounds.specs.Tight.{Table, halves, tight}
-use Rattle.theory_bounds.specs.Range.{model-same}
+use Rattle.theory_bounds.specs.Tight.{Table}
 use Rattle.theory_bounds.specs.Table.{tableModel}
-use Rattle.theory_bounds.specs.Agree.{Agree, halves-same, tight-same, bounds-same, groups-same}
+use Rattle.theory_bounds.specs.Agree.{Agree, table-model-same, bounds-same, groups-same}
 use Rattle.theory_bounds.specs.Verdict.{distances, halvesOk, consistentHalves, verdictOf, dueKind}
 use Rattle.theory_bounds.specs.Answers.{modelOf, boundAt, boundsOf, groupAt, groupsOf}
 use Rattle.theory_differences.specs.Plain.{Differences, plainSteps, none-false}
@@ -55,8 +53,8 @@ module _ (n : ℕ) (ls : List Line) (ok : AllOk n ls) (ds : Differences ls) wher
         between = doubled-cong n D (plainDistances n ls) same
 
     pub plain-model : tabulate n (tableModel n (doubled D)) ≡ modelOf n ls
-    unfolding modelOf tableModel
-    plain-model = tabulate-cong n _ _ (λ x h. model-same n (tight (doubled D)) (tight (distances n ls)) (halves (doubled D)) (halves (distances n ls)) (tight-same n _ _ doubled-same) (halves-same n _ _ doubled-same) n (omega arith) x)
+    unfolding modelOf
+    plain-model = tabulate-cong n _ _ (λ x h. table-model-same n (doubled D) (distances n ls) doubled-same x)
 
     pub plain-groups : tabulate (2 * n) (groupAt (doubled D)) ≡ groupsOf n ls
     unfolding groupsOf

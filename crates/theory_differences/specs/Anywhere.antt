@@ -29,7 +29,7 @@ zeroRow N = replicate N (some (pos 0))
 unfoldable pub zeroAt : List Step → ℕ → ℕ → List Distance
 zeroAt E N k = rounds E k (zeroRow N)
 
-zero-entry : (N p : ℕ) → p < N → at (zeroRow N) p ≡ some (pos 0)
+pub zero-entry : (N p : ℕ) → p < N → at (zeroRow N) p ≡ some (pos 0)
 zero-entry N p h = getD-replicate N p (some (pos 0)) _ h
 
 -- an entry that is a number in the first row is 0

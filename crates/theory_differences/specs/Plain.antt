@@ -122,13 +122,7 @@ plain-forward l e = (rw e, rw e)
 
 pub plain-backward : (l : Line) → (l .a ≡ pos 1 → ⊥) → (plainStep l ≡ record { from = natAbs (l .y); to = natAbs (l .x); weight = l .d }) × (plainSide l ≡ 1)
 unfolding plainStep plainSide
-plain-backward l n = go (eqZ (l .a) (pos 1)) refl
-  where
-    go : (t : Bool) → eqZ (l .a) (pos 1) ≡ t
-        → (cond t (record { from = natAbs (l .x); to = natAbs (l .y); weight = l .d }) (record { from = natAbs (l .y); to = natAbs (l .x); weight = l .d }) ≡ record { from = natAbs (l .y); to = natAbs (l .x); weight = l .d })
-        × (cond t 0 1 ≡ 1)
-    go true e = absurd (n (eqZ-true (l .a) (pos 1) e))
-    go false e = (refl, refl)
+plain-backward l n = (rw (ne-eqZ (l .a) (pos 1) n), rw (ne-eqZ (l .a) (pos 1) n))
 
 -- ---- members
 pub record PlainSource (ls : List Line) (p : Step) : Type 0 where

@@ -39,6 +39,9 @@ record Visits (E : List Step) (k i j : ℕ) (ss : List Step) : Type 0 where
   walk-from : Walk E k (then ∷ thens) j
   inner-from : Inner (suc k) (then ∷ thens)
 
+visit-sum : {E : List Step} {k i j : ℕ} {ss : List Step} (v : Visits E k i j ss) → total ss ≡ total (v .first ∷ v .firsts) +ℤ total (v .then ∷ v .thens)
+visit-sum v = ap total (v .joined) ∙ total-append (v .first ∷ v .firsts) (v .then ∷ v .thens)
+
 visits : (E : List Step) (k i j : ℕ) (s : Step) (ss : List Step) → Walk E i (s ∷ ss) j → Inner (suc k) (s ∷ ss) → Inner k (s ∷ ss) ⊎ Visits E k i j (s ∷ ss)
 visits E k i j s [] w n = inl tt
 visits E k i j s (t ∷ ss) w n = go (ℕ-discrete (s .to) k) (visits E k (s .to) j t ss (walk-rest s (t ∷ ss) w) (n .1))
@@ -95,18 +98,17 @@ module _ (E : List Step) (N : ℕ) (q : ℕ → ℤ) where
     -- from k on: parts that return to k are not negative
     from-there : (m : ℕ) (j : ℕ) → j < N → (s : Step) (ss : List Step) → length (s ∷ ss) ≤ m → Walk E k (s ∷ ss) j → Inner (suc k) (s ∷ ss) → Under k j (T k j) (s ∷ ss)
     from-there zero j hj s ss l w n = absurd (omega arith)
-    from-there (suc m) j hj s ss l w n = go (visits E k k j s ss w n)
+    from-there (suc m) j hj s ss l w n = go (visits E k k j s ss w n) (from-there m j hj)
       where
-        go : Inner k (s ∷ ss) ⊎ Visits E k k j (s ∷ ss) → Under k j (T k j) (s ∷ ss)
-        go (inl i) = through k j k-lt hj s ss w i
-        go (inr v) =
+        go : Inner k (s ∷ ss) ⊎ Visits E k k j (s ∷ ss) → ((t : Step) (ts : List Step) → length (t ∷ ts) ≤ m → Walk E k (t ∷ ts) j → Inner (suc k) (t ∷ ts) → Under k j (T k j) (t ∷ ts)) → Under k j (T k j) (s ∷ ss)
+        go (inl i) shorter = through k j k-lt hj s ss w i
+        go (inr v) shorter =
             let a = through k k k-lt k-lt (v .first) (v .firsts) (v .walk-to) (v .inner-to) in
-            let b = from-there m j hj (v .then) (v .thens) (omega (arith, v .fewer)) (v .walk-from) (v .inner-from) in
-            rw (v .joined, total-append (v .first ∷ v .firsts) (v .then ∷ v .thens))
-            (skip (T k k) (T k j) (total (v .first ∷ v .firsts)) (total (v .then ∷ v .thens)) (q k) (q j) low a b)
+            let b = shorter (v .then) (v .thens) (omega (arith, v .fewer)) (v .walk-from) (v .inner-from) in
+            skip (T k k) (T k j) (total (v .first ∷ v .firsts)) (total (v .then ∷ v .thens)) (total (s ∷ ss)) (q k) (q j) (visit-sum v) low a b
           where
-            skip : (c z a b x y : ℤ) → pos 0 ⩽ c → c +ℤ x ⩽ (a +ℤ a) +ℤ x → z +ℤ y ⩽ (b +ℤ b) +ℤ x → z +ℤ y ⩽ ((a +ℤ b) +ℤ (a +ℤ b)) +ℤ x
-            skip c z a b x y = simp ints (omega arith)
+            skip : (c z a b t x y : ℤ) → t ≡ a +ℤ b → pos 0 ⩽ c → c +ℤ x ⩽ (a +ℤ a) +ℤ x → z +ℤ y ⩽ (b +ℤ b) +ℤ x → z +ℤ y ⩽ (t +ℤ t) +ℤ x
+            skip c z a b t x y = simp ints (omega arith)
 
     pub through-more : Through (suc k) U
     through-more i j hi hj s ss w n = go (visits E k i j s ss w n)
@@ -119,11 +121,10 @@ module _ (E : List Step) (N : ℕ) (q : ℕ → ℤ) where
         go (inr v) =
             let a = through i k hi k-lt (v .first) (v .firsts) (v .walk-to) (v .inner-to) in
             let b = from-there (length (v .then ∷ v .thens)) j hj (v .then) (v .thens) (omega arith) (v .walk-from) (v .inner-from) in
-            rw (v .joined, total-append (v .first ∷ v .firsts) (v .then ∷ v .thens))
-            (both (U i j) (T i k) (T k j) (total (v .first ∷ v .firsts)) (total (v .then ∷ v .thens)) (q i) (q k) (q j) (by-two i j hi hj) a b)
+            both (U i j) (T i k) (T k j) (total (v .first ∷ v .firsts)) (total (v .then ∷ v .thens)) (total (s ∷ ss)) (q i) (q k) (q j) (visit-sum v) (by-two i j hi hj) a b
           where
-            both : (u c d a b x y z : ℤ) → u ⩽ c +ℤ d → c +ℤ y ⩽ (a +ℤ a) +ℤ x → d +ℤ z ⩽ (b +ℤ b) +ℤ y → u +ℤ z ⩽ ((a +ℤ b) +ℤ (a +ℤ b)) +ℤ x
-            both u c d a b x y z = simp ints (omega arith)
+            both : (u c d a b t x y z : ℤ) → t ≡ a +ℤ b → u ⩽ c +ℤ d → c +ℤ y ⩽ (a +ℤ a) +ℤ x → d +ℤ z ⩽ (b +ℤ b) +ℤ y → u +ℤ z ⩽ (t +ℤ t) +ℤ x
+            both u c d a b t x y z = simp ints (omega arith)
 
   -- through all points: every walk, that of no step too where the diagonal is no more than 0
   pub through-all : WithinPoints N E → (T : ℕ → ℕ → ℤ) → Through N T → ((i : ℕ) → i < N → T i i ⩽ pos 0) → (i j : ℕ) → i < N → j < N → (ss : List Step) → Walk E i ss j → Under i j (T i j) ss
