@@ -1,16 +1,18 @@
 -- What the engine for differences asks of a list: that deciding works on it, and that each line is a difference; its plain steps then.
+use mathlib.Core.Path.{_≡_, sym, _∙_}
 use mathlib.Core.List.{List}
 use Prim.Native.Nat.{ℕ, _<_}
-use lib.IntN.{ℤ}
+use lib.IntN.{ℤ, pos}
+use Rattle.integers.specs.Laws.{never}
 use Rattle.lines.specs.Limits.{maxVariables}
 use Rattle.lines.specs.Line.{lineAt, lineCount, linesOf}
-use Rattle.lines.specs.Valid.{LineWorks, AllOk, Workable, all-ok, lines-more}
+use Rattle.lines.specs.Valid.{VariableOk, LineWorks, AllOk, Workable, all-ok, lines-more}
 use Rattle.steps.specs.declared.Step.{Step}
 use Rattle.steps.specs.Step.{maxWeight}
 use Rattle.theory_walks.specs.Row.{In, WithinPoints}
 use Rattle.theory_walks.specs.Size.{WithinWeights}
 use Rattle.theory_walks.specs.Graph.{line-at}
-use Rattle.theory_differences.specs.Plain.{Difference, Differences, plainSteps, plain-member, plainStep, plain-within, plain-weights}
+use Rattle.theory_differences.specs.Plain.{Difference, forward, backward, Differences, plainSteps, plain-member, plainStep, plain-within, plain-weights}
 
 pub record PlainList (n : ℕ) (L : List ℤ) : Type 0 where
   pub works : Workable n L
@@ -21,6 +23,22 @@ pub record PlainAt (L : List ℤ) (k : ℕ) : Type 0 where
   pub inside : k < lineCount L
   pub works : LineWorks maxVariables (lineAt L k)
   pub is : Difference (lineAt L k)
+
+-- both its variables have a coefficient
+module _ {L : List ℤ} {k : ℕ} (p : PlainAt L k) where
+  pub plain-x : VariableOk maxVariables (lineAt L k .x)
+  plain-x = p .works .variable-x (some-first (p .is))
+    where
+      some-first : Difference (lineAt L k) → lineAt L k .a ≡ pos 0 → ⊥
+      some-first (forward e f) z = never (cc (sym e ∙ z))
+      some-first (backward e f) z = never (cc (sym e ∙ z))
+
+  pub plain-y : VariableOk maxVariables (lineAt L k .y)
+  plain-y = p .works .variable-y (some-second (p .is))
+    where
+      some-second : Difference (lineAt L k) → lineAt L k .b ≡ pos 0 → ⊥
+      some-second (forward e f) z = never (cc (sym f ∙ z))
+      some-second (backward e f) z = never (cc (sym f ∙ z))
 
 -- its steps over the variables
 abbrev pub plainOf : List ℤ → List Step

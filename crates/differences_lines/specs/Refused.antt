@@ -1,11 +1,12 @@
 -- What is refused of a list of differences and its lent buffers: the first that applies.
 use mathlib.Core.Path.{_≡_, refl}
-use mathlib.Core.Bool.{true, not}
+use mathlib.Core.Bool.{true, false, not}
 use mathlib.Core.List.{List}
 use Prim.Native.Nat.{ℕ, _<_}
 use native.Mathlib.Omega.{arith}
 use borrow.Author.Tests.{not-false}
 use lib.IntN.{ℤ}
+use Rattle.lines.specs.declared.Refusal.{Refusal}
 use Rattle.lines.specs.declared.Refusal.the-variants.{NotDifference}
 use Rattle.lines.specs.declared.Validity.{Validity}
 use Rattle.lines.specs.declared.Validity.the-variants.{Valid, Refused}
@@ -28,6 +29,21 @@ plainRoomsValidity n s = firstShort (lentRoomsBy differencesWorkRoom) n s
 -- the list's; 60; then 7, 8
 unfoldable pub differencesValidity : ℕ → List ℤ → Lengths → Validity
 differencesValidity n L s = validityOf n L orElse othersValidity L orElse plainRoomsValidity n s
+
+-- ---- the ways through it
+module _ (n : ℕ) (L : List ℤ) (s : Lengths) where
+  pub list-refused : (r : Refusal) → validityOf n L ≡ Refused r → Refused r ≡ differencesValidity n L s
+  unfolding differencesValidity
+  list-refused r e = rw e
+
+  module _ (v : validityOf n L ≡ Valid) where
+    pub other-refused : (k : ℕ) → k ≡ firstOther L → allDifferences L ≡ false → Refused (NotDifference k) ≡ differencesValidity n L s
+    unfolding differencesValidity othersValidity
+    other-refused k e f = rw (v, f, e)
+
+    pub rooms-left : allDifferences L ≡ true → plainRoomsValidity n s ≡ differencesValidity n L s
+    unfolding differencesValidity othersValidity
+    rooms-left f = rw (v, f)
 
 -- ---- nothing is refused
 pub record DifferencesOk (n : ℕ) (L : List ℤ) (s : Lengths) : Type 0 where

@@ -10,7 +10,10 @@ use lines::list_validity;
 use steps::Step;
 ghost use mathlib.Core.Path.{_≡_};
 ghost use Prim.Native.Nat.{_<_};
+ghost use lib.IntN.{natAbs};
+ghost use Rattle.lines.specs.Limits.{maxVariables};
 ghost use Rattle.lines.specs.Line.{lineAt, lineCount};
+ghost use Rattle.lines.specs.Valid.{VariableOk};
 ghost use Rattle.theory_differences.specs.Plain.{oneEach, isDifference, plainStep};
 ghost use Rattle.theory_differences.specs.Numbers.{plainNumber};
 ghost use Rattle.differences_lines.specs.Others.{firstOther};
@@ -54,27 +57,28 @@ fn first_other(list: &[i32]) -> usize
     k
 }
 
+// The step from x to y of weight d.
+fn step_between(x: i32, y: i32, d: i32) -> Step
+    requires { ⌜ VariableOk maxVariables x × VariableOk maxVariables y ⌝ }
+    ensures { λ r. ⌜ r ≡ record { from = natAbs x; to = natAbs y; weight = d } ⌝ }
+{
+    Step {
+        from: x as usize,
+        to: y as usize,
+        weight: d as i64,
+    }
+}
+
 // The step of line number k over the variables: x - y <= d leads from x to y, and -x + y <= d from y to x.
 pub fn plain_step(list: &[i32], k: usize) -> Step
     requires { ⌜ PlainAt (now list) k ⌝ }
     ensures { λ r. ⌜ r ≡ plainStep (lineAt (now (list .entry)) k) ⌝ }
 {
     let line = line_at(list, k);
-    let x = line.x as usize;
-    let y = line.y as usize;
-    let weight = line.d as i64;
     if line.a == 1 {
-        return Step {
-            from: x,
-            to: y,
-            weight,
-        };
+        return step_between(line.x, line.y, line.d);
     }
-    Step {
-        from: y,
-        to: x,
-        weight,
-    }
+    step_between(line.y, line.x, line.d)
 }
 
 // The number in the list of that step between plus points: the line's side 0 where x has the coefficient 1, else side 1.
