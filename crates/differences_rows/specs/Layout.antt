@@ -1,9 +1,8 @@
 -- Where the engine for differences works in the lent work area: at its front the rows 0 to n, or the table of distances; behind these the step numbers of a
 -- walk, or a number of each variable; and behind these the walk's points.
-use Prim.Native.Nat.{ℕ, _+_, _*_, _≤_, _<_}
+use Prim.Native.Nat.{ℕ, _+_, _*_, _≤_}
 use native.Mathlib.Nat.{mul-le-mul-right}
 use native.Mathlib.Omega.{arith}
-use Rattle.lines.specs.Limits.{maxVariables}
 use Rattle.decide_buffers.specs.Room.{differencesWorkRoom}
 use Rattle.decide_rows.specs.Table.{tableStart}
 
@@ -19,10 +18,6 @@ plainEnd n = pointsAt n + n + 1
 -- the named room is enough
 pub plain-room : (n : ℕ) → plainEnd n ≤ differencesWorkRoom n
 plain-room n = omega arith
-
--- none of these comes near 64 bits
-pub plain-small : (n : ℕ) → n ≤ maxVariables → n * n ≤ maxVariables * maxVariables
-plain-small n h = let a : n * n ≤ maxVariables * n = mul-le-mul-right n h in omega (arith, a, h)
 
 -- row j ends before the walk, if it is no later than row n
 pub row-before : (n j : ℕ) → j ≤ n → j * n + n ≤ walkAt n

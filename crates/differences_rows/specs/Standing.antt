@@ -1,7 +1,7 @@
 -- The rows 0 to k as they stand in the work area, number by number; one more row; and what it says that it differs from the one before, or does not.
 use mathlib.Core.Path.{_≡_, refl, sym, ap, ap₂, subst, _∙_}
 use mathlib.Core.Bool.{Bool, true, false}
-use mathlib.Core.List.{List, [], _∷_, _++_, append-assoc}
+use mathlib.Core.List.{List, _++_, append-assoc}
 use Prim.Native.Nat.{ℕ, zero, suc, _+_, _*_, _≤_, _<_}
 use native.Mathlib.Nat.{mul-le-mul-right}
 use native.Mathlib.Numerals.{add-one}
@@ -22,7 +22,7 @@ use Rattle.theory_walks.specs.Distance.{Distance, some}
 use Rattle.theory_walks.specs.Row.{at, relaxRow, some-is}
 use Rattle.theory_walks.specs.Size.{WithinWeights, within-more}
 use Rattle.theory_differences.specs.Anywhere.{zeroRow, zeroAt, Changed, zero-first, zero-next, zero-length, zero-some, zero-within}
-use Rattle.decide_rows.specs.Stored.{stored, storedRow}
+use Rattle.decide_rows.specs.Stored.{stored, storedRow, stored-at}
 use Rattle.decide_rows.specs.Read.{rowOf, AllShort, maxDistance, short-more, row-of-stored, stored-replicate}
 use Rattle.decide_rows.specs.Next.{sameRows, sameAt, same-rows, rowIn, withNext, in-length, with-length}
 use Rattle.engine_packed_steps.specs.Scratch.{Scratch, scratch-at}
@@ -33,11 +33,6 @@ use Rattle.differences_rows.specs.Round.{NextReady, NextDone}
 -- a row at a place
 abbrev pub RowAt : List ℤ → ℕ → List Distance → Type 0
 RowAt w from row = (p : ℕ) → p < length row → number w (from + p) ≡ stored (at row p)
-
-stored-at : (row : List Distance) (p : ℕ) → p < length row → number (storedRow row) p ≡ stored (at row p)
-stored-at [] p h = absurd (omega arith)
-stored-at (d ∷ row) zero h = refl
-stored-at (d ∷ row) (suc p) h = stored-at row p (omega arith)
 
 -- as a list
 row-list : (w : List ℤ) (from : ℕ) (row : List Distance) → from + length row ≤ length w → RowAt w from row → rowIn (length row) w from ≡ storedRow row
