@@ -112,9 +112,11 @@ module _ (L : List ℤ) (row : List Distance) (small : SmallRow row) (p : ℕ) (
               (record {
                 step = t;
                 named = k .1;
-                ends = sym (a .ends);
-                known = λ q. not-absent (x .0) (small (t .from) (x .0) (x .1)) (sym e ∙ q);
-                sum = ap (λ (y : ℤ). y +ℤ t .weight) e ∙ x .2;
+                is = record {
+                  ends = sym (a .ends);
+                  known = λ q. not-absent (x .0) (small (t .from) (x .0) (x .1)) (sym e ∙ q);
+                  sum = ap (λ (y : ℤ). y +ℤ t .weight) e ∙ x .2;
+                };
               });
         };
       }

@@ -2,6 +2,7 @@
 // walk of as many steps as there were rounds. It is read back, one row at a time; where it comes to a variable twice, the
 // part between is a closed walk of negative sum.
 use check_refutation::HEAD_SIZE;
+use decide_walkback::step_makes;
 use decide_written_walks::copy_numbers;
 use decide_written_walks::write_head;
 use differences_lines::plain_number;
@@ -30,12 +31,7 @@ fn makes(list: &[i32], old: &[i64], v: usize, z: i64, k: usize) -> bool
     requires { ⌜ OldRow (now list) (now old) × (k < lineCount (now list)) ⌝ }
     ensures { λ r. ⌜ r ≡ makesAt (now (list .entry)) (now (old .entry)) v z k ⌝ }
 {
-    let step = plain_step(list, k);
-    let from = step.from;
-    if step.to != v {
-        return false;
-    }
-    old[from] + step.weight == z
+    step_makes(old, plain_step(list, k), v, z)
 }
 
 // The number of a line whose step makes the value z at v from the old row.
@@ -152,7 +148,13 @@ pub fn refuted_back(
     if top < last {
         return false;
     }
-    copy_numbers(work, walk_at(n) + first, last - first, refutation, HEAD_SIZE);
+    copy_numbers(
+        work,
+        walk_at(n) + first,
+        last - first,
+        refutation,
+        HEAD_SIZE,
+    );
     write_head(refutation, 1, last - first, 0);
     true
 }

@@ -168,6 +168,11 @@ split-at E N u v ss w m h k t =
       few = omega (arith, t .order, t .high, length-take d rest);
     }
 
+pub split-closed : (E : List Step) (N : ℕ) (u v : ℕ) (ss : List Step) (w : Walk E u ss v) (m : ℕ) (h : m ≤ length ss) (k : m ≤ N) (t : Twice (pointAfter u ss) m)
+    → split-at E N u v ss w m h k t .closed ≡ take (t .j - t .i) (drop (t .i) ss)
+unfolding split-at
+split-closed E N u v ss w m h k t = refl
+
 -- the points of a walk are below N, so that among N + 1 of them one is there twice
 pub twice-there : (E : List Step) (N : ℕ) → WithinPoints N E → (u v : ℕ) (ss : List Step) → u < N → Walk E u ss v → Twice (pointAfter u ss) N
 twice-there E N within u v ss h w = pigeon N (pointAfter u ss) (λ i k. after-lt E N within u v ss i h w)
