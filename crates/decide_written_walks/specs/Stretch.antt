@@ -1,5 +1,5 @@
--- Step numbers that stand in the work area and name a walk between two points.
-use mathlib.Core.Path.{_≡_, refl, ap, ap₂, subst, _∙_}
+-- Step numbers that stand in the work area and name a walk between two points, and the refutation that a closed one of negative sum makes.
+use mathlib.Core.Path.{_≡_, refl, sym, ap, ap₂, subst, _∙_}
 use mathlib.Core.List.{List, [], _∷_, _++_, map}
 use Prim.Native.Nat.{ℕ, zero, suc, _+_, _*_, _-_, _<_, _≤_}
 use native.Mathlib.Decide.{decLt}
@@ -7,13 +7,16 @@ use native.Mathlib.Omega.{arith}
 use lib.IntN.{ℤ, pos, natAbs}
 use lib.ListN.{length, getD, set, take, drop, length-append, List·getD-append}
 use lib.Seq.{getD-set-same, getD-set-other, getD-append-add, drop-cons}
+use Rattle.integers.specs.Integer.{_⋖_}
 use Rattle.lines.specs.Limits.{workLines}
 use Rattle.lines.specs.Line.{number}
 use Rattle.steps.specs.declared.Step.{Step}
 use Rattle.steps.specs.Walk.{Path, total, Names}
 use Rattle.check_refutation.specs.Progress.{headSize}
+use Rattle.check_soundness.specs.Head.{kindOf, stepsIn}
+use Rattle.check_soundness.specs.Refutes.{Refutes, kind-1}
 use Rattle.decide_written_walks.specs.Copy.{StepNumbers, copiedTo}
 use Rattle.decide_written_walks.specs.Refutation.{behind-place}
 
 -- these numbers stand from a place on, and could be steps
 abbrev pub Stand : List ℤ → ℕ → List ℕ → Type 0
@@ -91,3 +94,38 @@ stand-behind w from ks room s size e R R₁ head c =
   where
     copied : take size (map natAbs (drop from w)) ≡ ks
     copied = subst (λ (j : ℕ). take j (map natAbs (drop from w)) ≡ ks) e (stand-copied w from ks room s)
+
+-- ---- a closed walk of negative sum, copied behind a head: a refutation of kind 1 in front of what stood there
+pub record ClosedShown (L : List ℤ) (size : ℕ) (R R′ : List ℕ) : Type 0 where
+  pub numbers : List ℕ
+  pub refutes : Refutes L numbers
+  pub kind-is : kindOf numbers ≡ 1
+  pub steps : stepsIn numbers ≡ size
+  pub length-is : length numbers ≡ headSize + size
+  pub is : R′ ≡ numbers ++ drop (length numbers) R
+
+module _ {L : List ℤ} {p : ℕ} {w : List ℤ} {start end : ℕ} {sum : ℤ} (s : Stretch L p p w start end sum) (room : end ≤ length w) where
+  abbrev size : ℕ
+  size = end - start
+
+  size-is : length (s .numbers) ≡ size
+  size-is = omega (arith, s .count)
+
+  pub closed-numbers : StepNumbers w start size
+  closed-numbers = stand-numbers w start (s .numbers) (s .stand) size size-is
+
+  pub closed-shown : start < end → sum ⋖ pos 0 → (R : List ℕ) → headSize ≤ length R → (R₁ : List ℕ) → R₁ ≡ copiedTo R headSize w start size → (R′ : List ℕ) → R′ ≡ 1 ∷ size ∷ 0 ∷ drop headSize R₁ → ClosedShown L size R R′
+  closed-shown some low R head R₁ c R′ e =
+      record {
+        numbers = 1 ∷ length (s .numbers) ∷ 0 ∷ s .numbers;
+        refutes = kind-1 (record { numbers = s .numbers; point = p; is = refl; walk = record { steps = s .steps; some = omega (arith, s .count, some); named = s .named; path = s .path }; low = rw (s .sum-is) low });
+        kind-is = refl;
+        steps = omega (arith, size-is);
+        length-is = omega (arith, size-is);
+        is =
+            e ∙ ap₂ (λ (i : ℕ) (l : List ℕ). 1 ∷ i ∷ 0 ∷ l) (sym size-is) (stand-behind w start (s .numbers) (omega (arith, s .count, room)) (s .stand) size size-is R R₁ head c)
+            ∙ ap (λ (i : ℕ). 1 ∷ length (s .numbers) ∷ 0 ∷ (s .numbers ++ drop i R)) last;
+      }
+    where
+      last : headSize + size ≡ length (1 ∷ length (s .numbers) ∷ 0 ∷ s .numbers)
+      last = omega (arith, size-is)
