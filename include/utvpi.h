@@ -69,6 +69,11 @@
 extern "C" {
 #endif
 
+/* The version of this header and of the library that belongs to it. The first number is
+ * raised where a program that was compiled with the header before has to be compiled
+ * again or changed; it is the number behind libutvpi.so, too. */
+#define UTVPI_VERSION "1.0.0"
+
 /* Deciding, checking, sessions and what a list implies return one number; of two
  * variables it is the result of a struct:
  *

@@ -1,18 +1,21 @@
 /* The library's answer with something altered, for the tests: the command, built with
  * altered_decide in place of utvpi_decide, and so on, has to find it. ALTERATION is a
  * statement for deciding and sessions, PAIR_ALTERATION and LINE_ALTERATION are for the
- * two questions, SECONDS_ALTERATION is for seconds; what is not given alters nothing. */
+ * two questions, SECONDS_ALTERATION is for seconds, CHECK_ALTERATION for the check of a
+ * refutation, of which calls is the number; what is not given alters nothing. */
 #define utvpi_decide altered_decide
 #define utvpi_session_add altered_session_add
 #define utvpi_implied_pair altered_implied_pair
 #define utvpi_implied_line altered_implied_line
 #define utvpi_events_seconds altered_events_seconds
+#define utvpi_check_refutation altered_check_refutation
 #include "utvpi.h"
 #undef utvpi_decide
 #undef utvpi_session_add
 #undef utvpi_implied_pair
 #undef utvpi_implied_line
 #undef utvpi_events_seconds
+#undef utvpi_check_refutation
 
 #ifndef ALTERATION
 #define ALTERATION (void)0
@@ -26,6 +29,9 @@
 #ifndef SECONDS_ALTERATION
 #define SECONDS_ALTERATION (void)0
 #endif
+#ifndef CHECK_ALTERATION
+#define CHECK_ALTERATION (void)0
+#endif
 
 /* The header declared those that the command calls; the library's are of their types. */
 extern __typeof__(altered_decide) utvpi_decide;
@@ -33,6 +39,7 @@ extern __typeof__(altered_session_add) utvpi_session_add;
 extern __typeof__(altered_implied_pair) utvpi_implied_pair;
 extern __typeof__(altered_implied_line) utvpi_implied_line;
 extern __typeof__(altered_events_seconds) utvpi_events_seconds;
+extern __typeof__(altered_check_refutation) utvpi_check_refutation;
 
 int64_t altered_decide(uint64_t n, const int32_t *list, size_t list_len,
                        int64_t *model, size_t model_len, int64_t *bounds, size_t bounds_len,
@@ -94,4 +101,14 @@ utvpi_seconds altered_events_seconds(const uint32_t *forms, size_t forms_len,
                                                  seconds_len);
     SECONDS_ALTERATION;
     return written;
+}
+
+int64_t altered_check_refutation(uint64_t n, const uint8_t *list, size_t list_len,
+                                 const uint8_t *refutation, size_t refutation_len)
+{
+    static int calls;
+    int64_t result = utvpi_check_refutation(n, list, list_len, refutation, refutation_len);
+    calls++;
+    CHECK_ALTERATION;
+    return result;
 }
