@@ -290,7 +290,7 @@ def picture(name, *arguments, rules=None):
             not any("href" in key or key.startswith("on") for element in elements
                     for key in element.attrib) and b"url(" not in out)
     width, height = float(root.get("width")), float(root.get("height"))
-    for element in elements:
+    for element in root:
         x, y = element.get("x"), element.get("y")
         if x and y and not (0 <= float(x) <= width and 0 <= float(y) <= height):
             compare(f"{name}, inside", "inside", (element.tag, x, y))

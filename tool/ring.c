@@ -12,6 +12,7 @@
 #define MARGIN 20.0
 #define HEAD 40.0
 #define LEAST_RADIUS 110.0
+#define LEAST_WIDTH 560.0
 #define ROUND_LETTER 15.0
 
 /* The most characters of a rule that are drawn. */
@@ -225,17 +226,21 @@ static void draw_stops(const struct ring *ring)
     free_writing(&name);
 }
 
-/* Writes what the rules add up to in the middle. */
+/* Writes what the rules add up to in the middle, larger in a larger ring. */
 static void write_sum(const struct ring *ring, const struct argument *argument)
 {
     char sum[48];
+    double scale = ring->radius < 2 * LEAST_RADIUS ? 1 : ring->radius / (2 * LEAST_RADIUS);
     snprintf(sum, sizeof sum, "0 \xE2\x89\xA4 %" PRId64, argument->sum);
-    svg_text(ring->to, ring->x, ring->y - 4, "false", "middle", text_of(sum));
-    svg_text(ring->to, ring->x, ring->y + 18, "small", "middle",
+    fprintf(ring->to, "<g transform=\"translate(%.1f %.1f) scale(%.2f)\">\n", ring->x, ring->y,
+            scale);
+    svg_text(ring->to, 0, -4, "false", "middle", text_of(sum));
+    svg_text(ring->to, 0, 18, "small", "middle",
              text_of(argument->form == ALONE    ? "it says,"
                      : argument->form == HALVED ? "halved and added up,"
                                                 : "added up,"));
-    svg_text(ring->to, ring->x, ring->y + 34, "small", "middle", text_of("which is false"));
+    svg_text(ring->to, 0, 34, "small", "middle", text_of("which is false"));
+    fputs("</g>\n", ring->to);
 }
 
 /* Takes the measures: the radius, by the stops, and the room that the longest texts need
@@ -259,6 +264,7 @@ static void lay_out(struct ring *ring, double *width, double *height)
     double beside = longest + 30, above = few ? 40 : beside;
     ring->x = MARGIN + beside + ring->radius;
     ring->y = MARGIN + HEAD + above + ring->radius;
+    ring->x = ring->x < LEAST_WIDTH / 2 ? LEAST_WIDTH / 2 : ring->x;
     *width = 2 * ring->x;
     *height = 2 * (ring->radius + above) + HEAD + 2 * MARGIN;
 }
