@@ -39,10 +39,22 @@ static bool is_crowded(const struct list *list, struct text line)
     return false;
 }
 
-static bool no_memory(const struct list *list, struct origin origin)
+/* Where a line stands, without the line. */
+static struct origin without_rule(struct origin origin)
 {
-    return wrong(list, origin, nothing, "there is not enough memory for so many rules",
-                 "leave out rules that add nothing");
+    struct origin place = nowhere;
+    place.line = origin.line;
+    place.file = origin.file;
+    return place;
+}
+
+/* Where a node begins. */
+struct origin origin_of_node(const struct tree *tree, size_t at)
+{
+    struct origin place = nowhere;
+    place.line = tree->nodes[at].line;
+    place.file = tree->nodes[at].file;
+    return place;
 }
 
 /* Adds a node behind the last, as the last child of its parent; the root is its own. */
@@ -57,7 +69,7 @@ static bool add_node(struct list *list, struct origin origin, uint32_t kind, siz
         struct node *nodes = realloc(tree->nodes, longer * sizeof *nodes);
         tree->nodes = nodes != NULL ? nodes : tree->nodes;
         if (numbers == NULL || nodes == NULL) {
-            return no_memory(list, origin);
+            return no_memory(list);
         }
         tree->room = longer;
     }
@@ -66,6 +78,7 @@ static bool add_node(struct list *list, struct origin origin, uint32_t kind, siz
     tree->numbers[2 * tree->count + 1] = number;
     tree->nodes[tree->count] = (struct node){.parent = parent,
                                              .ordinal = ordinal,
+                                             .file = origin.file,
                                              .line = origin.line,
                                              .choices = kind == UTVPI_ANY_OF ? 0 : 1};
     tree->count++;
@@ -91,7 +104,7 @@ static bool open_block(struct list *list, struct origin origin, size_t node, boo
         size_t longer = tree->block_room == 0 ? 16 : 2 * tree->block_room;
         struct block *blocks = realloc(tree->blocks, longer * sizeof *blocks);
         if (blocks == NULL) {
-            return no_memory(list, origin);
+            return no_memory(list);
         }
         tree->blocks = blocks;
         tree->block_room = longer;
@@ -108,8 +121,8 @@ static bool open_either(struct list *list, struct origin origin)
 {
     struct tree *tree = &list->tree;
     size_t any_of = tree->count;
-    if (tree->either_line == 0) {
-        tree->either_line = origin.line;
+    if (tree->either == 0) {
+        tree->either = any_of;
     }
     return add_node(list, origin, UTVPI_ANY_OF, node_at_hand(tree), 0) &&
            add_node(list, origin, UTVPI_ALL_OF, any_of, 0) &&
@@ -117,12 +130,12 @@ static bool open_either(struct list *list, struct origin origin)
 }
 
 /* Counts more choices of a node, up to one too many: then notes the either. */
-static void count_choices(struct tree *tree, size_t node, uint64_t choices, size_t either_line)
+static void count_choices(struct tree *tree, size_t node, uint64_t choices, size_t either)
 {
     bool too_many = choices > UTVPI_MOST_CHOICES;
     tree->nodes[node].choices = too_many ? UTVPI_MOST_CHOICES + 1 : (uint32_t)choices;
-    if (too_many && tree->too_many_line == 0) {
-        tree->too_many_line = either_line;
+    if (too_many && tree->too_many == 0) {
+        tree->too_many = either;
     }
 }
 
@@ -131,8 +144,7 @@ static void end_alternative(struct tree *tree, size_t node)
 {
     size_t any_of = tree->nodes[node].parent;
     count_choices(tree, any_of,
-                  (uint64_t)tree->nodes[any_of].choices + tree->nodes[node].choices,
-                  tree->nodes[any_of].line);
+                  (uint64_t)tree->nodes[any_of].choices + tree->nodes[node].choices, any_of);
 }
 
 /* Counts those of an either that ends: what is around it has so many times as many. */
@@ -140,14 +152,13 @@ static void end_either(struct tree *tree, size_t any_of)
 {
     size_t around = tree->nodes[any_of].parent;
     count_choices(tree, around,
-                  (uint64_t)tree->nodes[around].choices * tree->nodes[any_of].choices,
-                  tree->nodes[any_of].line);
+                  (uint64_t)tree->nodes[around].choices * tree->nodes[any_of].choices, any_of);
 }
 
 /* Whether rules stand behind the word that opened a block, or its last alternative. */
 static bool has_rules(const struct list *list, const struct block *block)
 {
-    struct origin origin = {block->origin.line, nothing};
+    struct origin origin = without_rule(block->origin);
     return children(&list->tree, block->node) > block->before ||
            wrong(list, origin, block->origin.rule, "has no rule behind it",
                  block->either ? "write the rules of this alternative, or 0 <= 0 where it always"
@@ -160,16 +171,18 @@ static bool read_or(struct list *list, struct origin origin)
 {
     struct tree *tree = &list->tree;
     struct block *block = tree->open > 0 ? &tree->blocks[tree->open - 1] : NULL;
-    struct origin place = {origin.line, nothing};
+    struct origin place = without_rule(origin);
     if (block == NULL) {
         return wrong(list, place, origin.rule, "stands outside of either",
                      "write either before the first alternative, and end behind the last");
     }
     if (!block->either) {
-        wrong(list, place, origin.rule, "stands in an all that has no end yet",
-              "write end behind the last rule of the all");
-        fprintf(stderr, "  The all began in line %zu.\n", block->origin.line);
-        return false;
+        struct problem problem = problem_at(list, place, origin.rule,
+                                            "stands in an all that has no end yet",
+                                            "write end behind the last rule of the all");
+        snprintf(problem.example, sizeof problem.example, ", which began in line %zu",
+                 block->origin.line);
+        return report(problem);
     }
     if (!has_rules(list, block)) {
         return false;
@@ -186,7 +199,7 @@ static bool read_or(struct list *list, struct origin origin)
 static bool read_end(struct list *list, struct origin origin)
 {
     struct tree *tree = &list->tree;
-    struct origin place = {origin.line, nothing};
+    struct origin place = without_rule(origin);
     if (tree->open == 0) {
         return wrong(list, place, origin.rule, "stands where no either and no all is open",
                      "leave it out, or write either or all before the rules that it ends");
@@ -195,7 +208,7 @@ static bool read_end(struct list *list, struct origin origin)
     if (!has_rules(list, block)) {
         return false;
     }
-    place.line = block->origin.line;
+    place = without_rule(block->origin);
     if (block->either && tree->nodes[block->node].ordinal == 0) {
         return wrong(list, place, block->origin.rule, "has no or before its end",
                      "write or between its alternatives; where there is only one, leave out"
@@ -246,7 +259,7 @@ static bool suits_block(const struct list *list, struct origin origin)
 bool read_in_block(struct list *list, struct origin origin)
 {
     struct tree *tree = &list->tree;
-    if (tree->count == 0 && !add_node(list, (struct origin){0, nothing}, UTVPI_ALL_OF, 0, 0)) {
+    if (tree->count == 0 && !add_node(list, nowhere, UTVPI_ALL_OF, 0, 0)) {
         return false;
     }
     if (is_block_word(origin.rule)) {
@@ -263,19 +276,20 @@ bool read_in_block(struct list *list, struct origin origin)
     return line == list->count;
 }
 
-/* Whether all blocks are closed, at the end of the file. */
-bool end_blocks(const struct list *list)
+/* Whether all blocks are closed, at the end of the file. None goes on in the next. */
+bool end_blocks(struct list *list)
 {
-    const struct tree *tree = &list->tree;
+    struct tree *tree = &list->tree;
     if (tree->open == 0) {
         return true;
     }
     const struct block *block = &tree->blocks[tree->open - 1];
-    struct origin origin = {block->origin.line, nothing};
-    struct text word = {all_word, strlen(all_word)};
+    struct origin origin = without_rule(block->origin);
+    struct text word = text_of(all_word);
+    tree->open = 0;
     if (block->either) {
-        origin.line = tree->nodes[tree->nodes[block->node].parent].line;
-        word = (struct text){either_word, strlen(either_word)};
+        origin = origin_of_node(tree, tree->nodes[block->node].parent);
+        word = text_of(either_word);
     }
     return wrong(list, origin, word, "has no end",
                  "write end on a line of its own behind the last rule");

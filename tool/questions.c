@@ -3,8 +3,6 @@
  * held before it is printed. */
 #include "list.h"
 
-static const struct text nothing = {"", 0};
-
 const char no_event[] = "is no event of the rules";
 const char event_advice[] =
     "name events as utvpi prints them for the same rules; those of numbers and records are"
@@ -53,7 +51,7 @@ bool is_answered(struct list *list, const int64_t line[UTVPI_LINE_NUMBERS], int 
     for (size_t at = 0; at < UTVPI_LINE_NUMBERS; at++) {
         numbers[at] = (int32_t)line[at];
     }
-    if (!add_line(list, (struct origin){0, nothing}, numbers)) {
+    if (!add_line(list, nowhere, numbers)) {
         return false;
     }
     int status = answer(list, UNPRINTED);
