@@ -226,6 +226,8 @@ struct list {
     enum form form;
     struct origin form_from;
     bool form_broken;
+
+    /* The names of events; in numbers x0, x1 and so on. */
     struct text names[MOST_NAMES];
 };
 
@@ -414,6 +416,7 @@ size_t name_length(struct text text);
 size_t scan_name(struct text text, struct text *name);
 bool is_same(struct text one, struct text other);
 bool find_name(const struct list *list, struct text name, uint64_t *variable);
+void name_by_numbers(struct list *list);
 void print_name(FILE *to, struct text name);
 int name_width(struct text name);
 bool is_right_name(const struct list *list, struct origin origin, struct text rest,
@@ -567,7 +570,7 @@ void json_alternatives(const struct list *list);
  * what is wrong with a name that no event has, and what to do about it. */
 extern const char no_event[];
 extern const char event_advice[];
-int take_questions(struct list *list);
+int take_questions(const struct list *list);
 bool is_answered(struct list *list, const int64_t line[UTVPI_LINE_NUMBERS], int expected);
 int answer_unsolvable(const struct list *list);
 

@@ -52,6 +52,16 @@ bool find_name(const struct list *list, struct text name, uint64_t *variable)
     return false;
 }
 
+/* Names the events of a list in numbers: variable 3 is called x3. */
+void name_by_numbers(struct list *list)
+{
+    static char named[UTVPI_MOST_VARIABLES][MOST_NAME + 1];
+    for (size_t v = 0; v < UTVPI_MOST_VARIABLES; v++) {
+        int length = snprintf(named[v], sizeof named[v], "x%zu", v);
+        list->names[v] = (struct text){named[v], (size_t)length};
+    }
+}
+
 /* Whether a name needs quotes. */
 static bool is_odd(struct text name)
 {

@@ -14,6 +14,9 @@ bool settle_form(struct list *list, struct origin origin, enum form form)
     if (list->form == FORM_OPEN) {
         list->form = form;
         list->form_from = origin;
+        if (form == FORM_NUMBERS) {
+            name_by_numbers(list);
+        }
     }
     if (list->form == form || list->form_broken) {
         return list->form == form;

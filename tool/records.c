@@ -121,7 +121,6 @@ static bool make_shown(struct source *source)
 
 static void read_count(struct list *list, struct source *source)
 {
-    list->form = FORM_NUMBERS;
     list->declared = true;
     list->variables = number_at(source->input, 0, 0);
     int length = snprintf(source->shown[0], MOST_SHOWN_LINE, "variables %" PRIu64,

@@ -33,13 +33,7 @@ void make_table(const struct list *list, const int32_t *model, const int64_t *bo
 /* Writes an event's name, without quotes of its own. */
 void json_event(const char *key, const struct list *list, uint64_t variable)
 {
-    char numbered[24];
-    if (list->form == FORM_NAMES) {
-        json_text(key, list->names[variable]);
-    } else {
-        snprintf(numbered, sizeof numbered, "x%" PRIu64, variable);
-        json_string(key, numbered);
-    }
+    json_text(key, list->names[variable]);
 }
 
 /* Writes a table as the member events. */

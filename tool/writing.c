@@ -46,14 +46,8 @@ void put_name(struct writing *writing, struct text name)
     put_string(writing, quote);
 }
 
-/* Adds an event's name. In a file of numbers variable 3 is called x3. */
 void put_event(struct writing *writing, const struct list *list, uint64_t variable)
 {
-    if (list->form != FORM_NAMES) {
-        put_string(writing, "x");
-        put_number(writing, (int64_t)variable);
-        return;
-    }
     put_name(writing, list->names[variable]);
 }
 

@@ -7,14 +7,10 @@
 /* Room for a 64-bit number in digits. */
 #define DIGITS 24
 
-/* An event's name. In a file of numbers variable 3 is called x3. */
+/* An event's name. */
 void print_event(FILE *to, const struct list *list, uint64_t variable)
 {
-    if (list->form == FORM_NAMES) {
-        print_name(to, list->names[variable]);
-    } else {
-        fprintf(to, "x%" PRIu64, variable);
-    }
+    print_name(to, list->names[variable]);
 }
 
 /* Prints a point: an event, or its opposite with a minus. */
@@ -27,10 +23,7 @@ void print_point(const struct list *list, struct point point)
 /* How many characters an event's name has. */
 int event_width(const struct list *list, uint64_t variable)
 {
-    if (list->form == FORM_NAMES) {
-        return name_width(list->names[variable]);
-    }
-    return snprintf(NULL, 0, "x%" PRIu64, variable);
+    return name_width(list->names[variable]);
 }
 
 /* An event's group: the first event that it always equals, or its opposite. */
