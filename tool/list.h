@@ -607,7 +607,7 @@ void svg_text(FILE *to, double x, double y, const char *kind, const char *anchor
               struct text text);
 void svg_end(FILE *to);
 void draw_timeline(FILE *to, const struct list *list, struct yes yes);
-bool draw_ring(FILE *to, const struct list *list, const uint32_t *refutation);
+void draw_ring(FILE *to, const struct list *list, const struct argument *argument);
 int answer_drawn(struct list *list, const char *picture);
 
 /* check.c: a refutation that someone proposes, read from this file. */

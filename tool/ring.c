@@ -269,27 +269,21 @@ static void lay_out(struct ring *ring, double *width, double *height)
     *height = 2 * (ring->radius + above) + HEAD + 2 * MARGIN;
 }
 
-/* Draws the argument of a refutation that the checker has accepted. False where it can't
- * be trusted. */
-bool draw_ring(FILE *to, const struct list *list, const uint32_t *refutation)
+/* Draws an argument that was checked. */
+void draw_ring(FILE *to, const struct list *list, const struct argument *argument)
 {
-    static struct argument argument;
     static struct ring ring;
     double width, height;
-    if (!take_argument(list, refutation, &argument)) {
-        return false;
-    }
     ring.to = to;
     ring.list = list;
-    make_ring(&ring, &argument);
+    make_ring(&ring, argument);
     lay_out(&ring, &width, &height);
     svg_begin(to, width, height, "No. No whole numbers meet all the rules.");
     svg_text(to, MARGIN, MARGIN + 10, "head", "start",
-             text_of(argument.form == ALONE
+             text_of(argument->form == ALONE
                          ? "No. No whole numbers meet all the rules. One is false by itself:"
                          : "No. No whole numbers meet all the rules. These rules clash:"));
     draw_stops(&ring);
-    write_sum(&ring, &argument);
+    write_sum(&ring, argument);
     svg_end(to);
-    return true;
 }

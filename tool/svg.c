@@ -72,15 +72,14 @@ void svg_end(FILE *to)
     fputs("</svg>\n", to);
 }
 
-/* Draws the last answer, a yes or a no. */
-static bool draw(FILE *to, const struct list *list, int status)
+/* Draws the last answer, a yes, or a no with its argument. */
+static void draw(FILE *to, const struct list *list, int status, const struct argument *argument)
 {
-    struct yes yes = last_yes();
     if (status == STATUS_YES) {
-        draw_timeline(to, list, yes);
-        return true;
+        draw_timeline(to, list, last_yes());
+    } else {
+        draw_ring(to, list, argument);
     }
-    return draw_ring(to, list, last_refutation());
 }
 
 /* Says that a picture could not be written, and why. */
@@ -94,22 +93,27 @@ static int not_drawn(const char *picture, int why)
  * standard output. Gives back a status. */
 int answer_drawn(struct list *list, const char *picture)
 {
+    static struct argument argument;
     int status = answer(list, UNPRINTED);
     if (status != STATUS_YES && status != STATUS_NO) {
         return status;
     }
+    if (status == STATUS_NO && !take_argument(list, last_refutation(), &argument)) {
+        return disagree_on_argument();
+    }
     if (is_standard_input(picture)) {
-        return draw(stdout, list, status) ? status : disagree_on_argument();
+        draw(stdout, list, status, &argument);
+        return status;
     }
     FILE *to = fopen(picture, "wb");
     if (to == NULL) {
         return not_drawn(picture, errno);
     }
-    bool drawn = draw(to, list, status);
+    draw(to, list, status, &argument);
     bool out = fflush(to) == 0 && !ferror(to);
     int why = errno;
     if (fclose(to) != 0 || !out) {
         return not_drawn(picture, out ? errno : why);
     }
-    return drawn ? status : disagree_on_argument();
+    return status;
 }
