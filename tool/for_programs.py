@@ -78,7 +78,7 @@ def seconds(text):
 
 def check_yes(name, text, answer):
     events = answer.get("events")
-    if text.startswith(b"Yes. There are no events"):
+    if b"\n  event " not in text:
         compare(f"{name}, no events", [], events)
         return
     head, rows = table(text)
@@ -141,9 +141,75 @@ def check_errors(name, text, answer):
     compare(f"{name}, advice", advice, [error["advice"] for error in errors if error["advice"]])
 
 
+WORDS = re.compile(rb"^[ \t]*(?:either|or|all|end)[ \t\r]*(?:#.*)?$", re.M)
+ALTERNATIVE = re.compile(r"^ *(\S.*?):(\d+): +alternative (\d+) of (\d+)", re.M)
+
+
+def alternatives_in(text):
+    return [(file, *map(int, numbers)) for file, *numbers in ALTERNATIVE.findall(text)]
+
+
+def places_of(alternatives):
+    return [(own["file"], own["line"], own["alternative"], own["of"]) for own in alternatives]
+
+
+def check_alternatives(name, text, answer):
+    """The alternatives of a yes, each with its rules, those of eithers in it left out."""
+    shown = text.decode().split("\n\n")[1]
+    compare(f"{name}, alternatives", alternatives_in(shown), places_of(answer["alternatives"]))
+    quoted = [(file, int(line), words) for file, line, words in
+              re.findall(r"^  (\S.*?):(\d+): +(.*)$", shown, re.M)
+              if not re.fullmatch(r"alternative \d+ of \d+", words)]
+    rules = sorted((rule["line"], rule["file"], rule["rule"], rule["identifier"])
+                   for own in answer["alternatives"] for rule in own["rules"])
+    compare(f"{name}, rules of alternatives", [(line, file) for file, line, _ in quoted],
+            [rule[:2] for rule in rules])
+    for (_, _, words), (_, _, rule, identifier) in zip(quoted, rules):
+        compare(f"{name}, a rule", True, words.startswith(rule))
+        at = re.search(r"(?:@ *|^(?:-?\d+[ ,]+){5})(\S+)$", words)
+        compare(f"{name}, an identifier", at and int(at.group(1), 0) or None, identifier)
+
+
+def check_reasons(name, file, text, answer):
+    """The reasons of a no: each is told as in words, and its numbers pass --check with the
+    rules of the file, taken all together."""
+    told = re.split(r"\n\n(?=\S)", text.decode())[1:]
+    plain = os.path.join(made, "without_words")
+    with open(file, "rb") as rules, open(plain, "wb") as without:
+        without.write(WORDS.sub(b"", rules.read()))
+    compare(f"{name}, reasons", len(told), len(answer["reasons"]))
+    for part, reason in zip(told, answer["reasons"]):
+        compare(f"{name}, members of a reason",
+                {"alternatives", "clash", "refutation", "identifiers"}, set(reason))
+        compare(f"{name}, alternatives of a reason", alternatives_in(part.split("\n\n")[0]),
+                places_of(reason["alternatives"]))
+        check_clash(name, part.encode(), reason, None)
+        numbers = " ".join(map(str, reason["refutation"])) + "\nidentifiers " + \
+            " ".join(map(str, reason["identifiers"]))
+        status, checked = ask(name, "--check", "-", plain, rules=numbers.encode())
+        compare(f"{name}, a reason checked", (0, "yes", reason["clash"]["argument"]),
+                (status, checked["answer"], checked["clash"]["argument"]))
+
+
 MEMBERS = {"yes": {"answer", "events", "rules", "left_out", "notes"},
            "no": {"answer", "clash", "refutation", "identifiers", "rules", "left_out", "notes"},
            "refused": {"answer", "errors"}}
+
+
+def has_either(file):
+    with open(file, "rb") as rules:
+        return re.search(rb"^[ \t]*either[ \t\r]*(#.*)?$", rules.read(), re.M) is not None
+
+
+def members_of(said, answer, either):
+    """The members that an answer is to have; with alternatives a no has reasons, unless one
+    clash is for all."""
+    if not either or said == "refused":
+        return MEMBERS[said]
+    if said == "yes":
+        return MEMBERS["yes"] | {"alternatives"}
+    return MEMBERS["no"] if "clash" in answer else \
+        MEMBERS["no"] - {"clash", "refutation", "identifiers"} | {"reasons"}
 
 
 def check_case(file):
@@ -163,10 +229,15 @@ def check_case(file):
         compare(f"{name}, breaks", True, index is None or int(index.group(1)) == member["index"])
     elif said == "yes" and not check:
         check_yes(name, out, answer)
+        if "alternatives" in answer:
+            check_alternatives(name, out, answer)
+    elif "reasons" in answer:
+        check_reasons(name, file, out, answer)
     else:
-        check_clash(name, out, answer, None if check else run("--numbers", file)[1])
+        check_clash(name, out, answer, None if check or has_either(file)
+                    else run("--numbers", file)[1])
     if not check:
-        compare(f"{name}, members", MEMBERS[said], set(answer))
+        compare(f"{name}, members", members_of(said, answer, has_either(file)), set(answer))
 
 
 os.chdir(cases)
@@ -174,6 +245,42 @@ for case in sorted(glob.glob("*.txt")):
     check_case(case)
 for example in sorted(glob.glob("../../examples/*.txt")):
     check_case(example)
+plain = [file for file in sorted(glob.glob("../../examples/*.txt")) if not has_either(file)]
+
+# Alternatives: nested, with identifiers and halves; one clash for all; none without events.
+for at, rules in enumerate((
+        b"x >= 0\neither\n x <= -1 @ 7 # c\nor\n x = 5 @ 0x18DA10F1\n all # a\n y - x >= 1\n end\n"
+        b" either\n  y <= 2\n or\n  y <= 9 # last\n end\nend\n",
+        b"either\nx + y = 3 @ 7 # c\nx - y = 0\nor\nx = 5 @ 9\nx <= 4\nend\n",
+        b"either\nx >= 3\nor\nx >= 5\nend\neither\nx <= 2\nor\nx <= 1 # d\nend\n",
+        b"x < x\neither\nx >= 3\nor\nx >= 5\nend\n",
+        b"either\n0 <= -1\nor\n0 <= -2 @ 5\nend\n",
+        b"either\n0 <= -1\nor\n0 <= 2 @ 5\nend\n",
+        b"either\n1 0 0 0 3 0\nor\n1,0,0,0,4,7\nend\n-1 0 0 0 -4 0\n",
+        b"either\nx =< 3\nor\nx - y\nend\nor\neither\n",
+        b"either\nx <= 3\n")):
+    file = os.path.join(made, f"alternatives_{at}.txt")
+    with open(file, "wb") as written:
+        written.write(rules)
+    check_case(file)
+status, answer = ask("alternatives, members", os.path.join(made, "alternatives_0.txt"))
+compare("alternatives, members", (0, [
+    {"line": 4, "alternative": 2, "of": 2, "rules": [(5, "x = 5", None, 0x18DA10F1),
+                                                     (7, "y - x >= 1", None, None)]},
+    {"line": 11, "alternative": 2, "of": 2, "rules": [(12, "y <= 9", "# last", None)]}], 6, 0, []),
+    (status, [{"line": own["line"], "alternative": own["alternative"], "of": own["of"],
+               "rules": [(rule["line"], rule["rule"], rule["comment"], rule["identifier"])
+                         for rule in own["rules"]]} for own in answer["alternatives"]],
+     answer["rules"], answer["left_out"], answer["notes"]))
+status, answer = ask("alternatives, a note", rules=b"either\nabcde = 3\nor\nx = 5\nend\nx <= 5\n")
+compare("alternatives, a note", [2], [note["line"] for note in answer["notes"]])
+for option in (["--order"], ["--between", "x", "x"], ["--implies", "x <= 3"], ["--check", "/dev/null"],
+               ["--svg", os.path.join(made, "none.svg")]):
+    status, answer = ask(f"alternatives, {option}", *option, rules=b"x <= 3\neither\nx <= 1\nor\nx <= 2\nend\n")
+    compare(f"alternatives, {option}", (2, "refused", [2], True),
+            (status, answer["answer"], [error["line"] for error in answer["errors"]],
+             f"which {option[0]} does not take" in answer["errors"][0]["what"]))
+compare("alternatives, no picture", False, os.path.exists(os.path.join(made, "none.svg")))
 
 # Questions.
 rules = b"a.x >= 3\nb - a.x >= 2\nb <= 9\nc <= 0\n"
@@ -215,7 +322,7 @@ for wrong in (["--what"], ["--json", "--csv"], ["no_such_file"], ["--between", "
     compare(f"wrong: {wrong}", (2, "refused", 1), (status, answer["answer"], len(answer["errors"])))
 
 # The order, in words and as JSON.
-for example in sorted(glob.glob("../../examples/*.txt")):
+for example in plain:
     status, out, _ = run("--quiet", "--order", example)
     own, answer = ask(f"order of {example}", "--quiet", "--order", example)
     compare(f"order of {example}, status", status, own)
@@ -246,7 +353,7 @@ compare("a session's help", True, answers[10]["help"].startswith("A session,"))
 compare("a session's end", [], answers[11]["events"])
 
 # CSV: the table of a yes.
-for example in sorted(glob.glob("../../examples/*.txt")) + ["words_group.txt", "mirror_several.txt"]:
+for example in plain + ["words_group.txt", "mirror_several.txt"]:
     status, out, err = run("--quiet", "--csv", example)
     own, answer = ask(f"CSV of {example}", "--quiet", example)
     compare(f"CSV of {example}, status", own, status)
@@ -302,7 +409,7 @@ def names_in(elements):
             if group.tag == f"{SVG}g" and group.get("class") == "event"]
 
 
-for example in sorted(glob.glob("../../examples/*.txt")) + sorted(glob.glob("words_*.txt")) + \
+for example in plain + sorted(glob.glob("words_*.txt")) + \
         ["mirror_several.txt", "scope_01.txt", "scope_03_no.txt", "scope_04.txt", "scope_05.txt"]:
     elements = picture(example, example)
     answer = ask(example, "--quiet", example)[1]

@@ -10,6 +10,7 @@ const char help[] =
     "    brake - cause >= 1            # the brake came after its cause\n"
     "    up + down = 400 @ 0x18DA10F1  # two counters, and the message that said so\n"
     "    \"ABS-Status\" < brake + 5      # a name with other characters is in quotes\n"
+    "Lines either, or and end stand around alternatives, of which one is to hold.\n"
     "\n"
     "  --order                  the events in order, and which orders are forced\n"
     "  --svg PICTURE            draws a timeline, or the rules that clash as a ring\n"
@@ -38,6 +39,8 @@ const char version[] =
     "    origins      -" AS_TEXT(MOST_ORIGIN) " to " AS_TEXT(MOST_ORIGIN) "\n"
     "    identifiers  0 to " AS_TEXT(UTVPI_MOST_IDENTIFIER) "\n"
     "    clocks       " AS_TEXT(UTVPI_MOST_RECORDERS) "\n"
+    "    choices      " AS_TEXT(UTVPI_MOST_CHOICES) " of alternatives, and " AS_TEXT(MOST_EITHERS)
+    " eithers inside each other\n"
     "    a name       " AS_TEXT(MOST_NAME) " characters\n"
     "    a rule       " AS_TEXT(MOST_RULE) " characters\n"
     "    a file       " AS_TEXT(MOST_MIB) " MiB\n";

@@ -73,6 +73,7 @@ static bool read_source(struct list *list, struct source *source)
     list->form_broken = false;
     if (is_records(source->input)) {
         read_records(list, source);
+        add_leaves(list, from);
     } else {
         read_list(list, source->input);
     }

@@ -111,11 +111,12 @@ struct node {
     bool named_below;
 };
 
-/* A block of rules in the file, all or either: the line that opened it, or that began its
- * last alternative, the block around it, the all-of that its rules belong to, and how many
- * children that had before them. */
+/* A block of rules in the file, all or either: whether something in it is wrong; the line
+ * that opened it, or that began its last alternative, the block around it, the all-of that
+ * its rules belong to, and how many children that had before them. */
 struct block {
     bool either;
+    bool faulty;
     struct origin origin;
     size_t around;
     size_t node;
@@ -444,10 +445,11 @@ bool settle_form(struct list *list, struct origin origin, enum form form);
 bool add_line(struct list *list, struct origin origin, const int32_t line[UTVPI_LINE_NUMBERS]);
 
 /* blocks.c: a line of a file, which may open or close a block of rules; and the end of the
- * file, where none may be open. */
+ * file, where none may be open, if all of it was read. */
 bool is_block_word(struct text line);
 bool read_in_block(struct list *list, struct origin origin);
-bool end_blocks(struct list *list);
+bool add_leaves(struct list *list, size_t line);
+void end_blocks(struct list *list, bool all_read);
 struct origin origin_of_node(const struct tree *tree, size_t at);
 void free_tree(struct tree *tree);
 
@@ -510,9 +512,10 @@ bool is_misnamed(const struct proposal *proposal, size_t *place);
 bool is_records(struct text input);
 void read_records(struct list *list, struct source *source);
 
-/* needless.c: the lines that say no more than another, marked or left out. */
+/* needless.c: the lines that say no more than another, marked, counted or left out. */
 char *mark_needless(const struct list *list);
 bool same_rule(struct origin one, struct origin other);
+void count_rules(struct list *list, const char *marks);
 bool leave_out(struct list *list);
 uint32_t step_as_read(const struct list *list, uint32_t step);
 

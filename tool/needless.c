@@ -70,8 +70,9 @@ bool same_rule(struct origin one, struct origin other)
     return one.line == other.line && one.file == other.file;
 }
 
-/* Counts the rules of a list, and those of which all lines are marked. */
-static void count_rules(struct list *list, const char *marks)
+/* Counts the rules of a list, and those of which all lines are marked; without marks, none
+ * is. */
+void count_rules(struct list *list, const char *marks)
 {
     bool kept = true;
     list->rules = list->left_out = 0;
@@ -81,7 +82,7 @@ static void count_rules(struct list *list, const char *marks)
             list->rules++;
             kept = false;
         }
-        kept = kept || marks[line] == 0;
+        kept = kept || marks == NULL || marks[line] == 0;
     }
     list->left_out += kept ? 0 : 1;
 }

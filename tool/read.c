@@ -120,5 +120,5 @@ void read_list(struct list *list, struct text input)
             list->variables_from = from;
         }
     }
-    end_blocks(list);
+    end_blocks(list, rest.length == 0);
 }

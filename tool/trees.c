@@ -29,27 +29,37 @@ static int level_of(const struct tree *tree, size_t node)
     return level;
 }
 
-/* Prints what a yes says of a node that is taken, where it is an alternative or the first
- * line of a rule in one: the line of the file, and it, further in the more alternatives it
+/* Whether a yes names a node: one that is taken, and an alternative or the first line of a
+ * rule in one. */
+static bool is_named(const struct tree *tree, size_t at)
+{
+    const struct node *node = &tree->nodes[at];
+    bool rule = tree->numbers[2 * at] == UTVPI_LEAF && node->parent > 0 &&
+                tree->nodes[at - 1].line != node->line;
+    return node->taken && (is_alternative(tree, at) || rule);
+}
+
+/* How many characters the file and the line of a node take. */
+static int width_of(const struct node *node)
+{
+    return snprintf(NULL, 0, "%s:%zu", node->file, node->line);
+}
+
+/* Prints such a node: the line of the file, and it, further in the more alternatives it
  * stands in. */
 static void print_taken(const struct list *list, size_t at, int widest)
 {
     const struct tree *tree = &list->tree;
     const struct node *node = &tree->nodes[at];
     bool alternative = is_alternative(tree, at);
-    bool rule = tree->numbers[2 * at] == UTVPI_LEAF && node->parent > 0 &&
-                tree->nodes[at - 1].line != node->line;
-    if (alternative || rule) {
-        int digits = snprintf(NULL, 0, "%zu", node->line);
-        int blanks = 2 * level_of(tree, at) - (alternative ? 2 : 0);
-        printf("  %s:%zu: %*s", node->file, node->line, widest - digits + blanks, "");
-        if (alternative) {
-            print_alternative(tree, at);
-        } else {
-            show(stdout, list->origins[tree->numbers[2 * at + 1]].rule);
-        }
-        putchar('\n');
+    int blanks = 2 * level_of(tree, at) - (alternative ? 2 : 0);
+    printf("  %s:%zu: %*s", node->file, node->line, widest - width_of(node) + blanks, "");
+    if (alternative) {
+        print_alternative(tree, at);
+    } else {
+        show(stdout, list->origins[tree->numbers[2 * at + 1]].rule);
     }
+    putchar('\n');
 }
 
 /* Prints the first sentence of a yes, with the alternatives of the choice at hand and their
@@ -57,11 +67,15 @@ static void print_taken(const struct list *list, size_t at, int widest)
 void print_alternatives(const struct list *list)
 {
     const struct tree *tree = &list->tree;
-    int widest = snprintf(NULL, 0, "%zu", tree->nodes[tree->count - 1].line);
+    int widest = 0;
+    for (size_t at = 1; at < tree->count; at++) {
+        int width = is_named(tree, at) ? width_of(&tree->nodes[at]) : 0;
+        widest = width > widest ? width : widest;
+    }
     puts("Yes. Whole numbers meet all the rules with these alternatives, the first that can"
          " hold:\n");
     for (size_t at = 1; at < tree->count; at++) {
-        if (tree->nodes[at].taken) {
+        if (is_named(tree, at)) {
             print_taken(list, at, widest);
         }
     }

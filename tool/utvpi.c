@@ -66,6 +66,7 @@ static int obey_with_alternatives(struct list *list, const struct command *comma
     if (!command->quiet) {
         find_notes(list);
     }
+    count_rules(list, NULL);
     return answer_alternatives(list);
 }
 
@@ -107,11 +108,13 @@ static int run(const struct command *command)
 {
     static struct list list;
     bool asks = command->between[0] != NULL || command->implied != NULL || command->in_order;
+    bool decides = command->proposed == NULL && !command->to_text && command->to_records == NULL;
     int status = STATUS_BAD;
     if (read_files(&list, (const char *const *)command->files, command->file_count)) {
         status = obey(&list, command);
-        if (list.places != NULL && (status == STATUS_YES || status == STATUS_NO)) {
-            print_rest(&list, asks ? IN_SHORT : manner_of(command), status);
+        if (decides && (status == STATUS_YES || status == STATUS_NO)) {
+            bool in_short = asks || list.tree.either > 0;
+            print_rest(&list, in_short ? IN_SHORT : manner_of(command), status);
         }
     }
     free_list(&list);
