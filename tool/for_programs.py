@@ -258,7 +258,9 @@ for at, rules in enumerate((
         b"either\n0 <= -1\nor\n0 <= 2 @ 5\nend\n",
         b"either\n1 0 0 0 3 0\nor\n1,0,0,0,4,7\nend\n-1 0 0 0 -4 0\n",
         b"either\nx =< 3\nor\nx - y\nend\nor\neither\n",
-        b"either\nx <= 3\n")):
+        b"either\nx <= 3\n",
+        b"x <= 3\neither\n" + b"or\n".join(b"x = %d\n" % row for row in range(257)) + b"end\n",
+        b"either\nx <= 3\nor\n" * 4 + b"x <= 4\n" + b"end\n" * 4)):
     file = os.path.join(made, f"alternatives_{at}.txt")
     with open(file, "wb") as written:
         written.write(rules)
@@ -280,6 +282,10 @@ for option in (["--order"], ["--between", "x", "x"], ["--implies", "x <= 3"], ["
     compare(f"alternatives, {option}", (2, "refused", [2], True),
             (status, answer["answer"], [error["line"] for error in answer["errors"]],
              f"which {option[0]} does not take" in answer["errors"][0]["what"]))
+for at, line, refusal in ((9, 2, 40), (10, 10, 42)):
+    status, answer = ask(f"alternatives refused, {refusal}", os.path.join(made, f"alternatives_{at}.txt"))
+    compare(f"alternatives refused, {refusal}", (2, [(line, refusal)]),
+            (status, [(error["line"], error["number"]) for error in answer["errors"]]))
 compare("alternatives, no picture", False, os.path.exists(os.path.join(made, "none.svg")))
 
 # Questions.

@@ -18,13 +18,20 @@ struct words {
     enum about about;
 };
 
+static const char fault[] = "this is a fault of this program, not of the file: report it";
+
+/* The words on a refusal that no file can bring about: the library's. */
+static struct words words_of_fault(enum utvpi_refusal number)
+{
+    return (struct words){utvpi_refusal_text((int)number), fault, NOTHING};
+}
+
 /* The table of refusals. What a file can't bring about is said in the library's words. A
  * number of the library's header that has no row here is an error, whatever the compiler's
  * options are. */
 #pragma GCC diagnostic error "-Wswitch"
 static struct words words_of(enum utvpi_refusal number)
 {
-    static const char fault[] = "this is a fault of this program, not of the file: report it";
     static const char again[] = "look for a damaged part, or get the file again";
     static char length[160];
     switch (number) {
@@ -32,8 +39,6 @@ static struct words words_of(enum utvpi_refusal number)
         return (struct words){"there are more than " AS_TEXT(UTVPI_MOST_VARIABLES) " events",
                               "use fewer, or decide parts that share no event one by one",
                               VARIABLES};
-    case UTVPI_BROKEN_LIST_LENGTH:
-        return (struct words){utvpi_refusal_text(number), fault, NOTHING};
     case UTVPI_TOO_MANY_LINES:
         return (struct words){"there are more than " AS_TEXT(UTVPI_MOST_LINES)
                               " rules; one with = counts twice",
@@ -53,14 +58,6 @@ static struct words words_of(enum utvpi_refusal number)
         return (struct words){"the bound is below -1,000,000 or above 1,000,000",
                               "choose a coarser unit",
                               RULE_AT_PLACE};
-    case UTVPI_SHORT_OUTPUT:
-        return (struct words){utvpi_refusal_text(number), fault, NOTHING};
-    case UTVPI_SHORT_WORK_AREA:
-        return (struct words){utvpi_refusal_text(number), fault, NOTHING};
-    case UTVPI_BAD_MODEL_LENGTH:
-        return (struct words){utvpi_refusal_text(number), fault, NOTHING};
-    case UTVPI_BAD_MODEL_VALUE:
-        return (struct words){utvpi_refusal_text(number), fault, NOTHING};
     case UTVPI_LONG_REFUTATION:
         return (struct words){"the refutation has more than " AS_TEXT(UTVPI_MOST_REFUTATION)
                               " numbers",
@@ -97,8 +94,6 @@ static struct words words_of(enum utvpi_refusal number)
     case UTVPI_RECORD_AFTER_END:
         return (struct words){"something follows the record that ends the list",
                               "cut the file off at this byte, or get it again", NOTHING};
-    case UTVPI_NO_ROOM:
-        return (struct words){utvpi_refusal_text(number), fault, NOTHING};
     case UTVPI_RECORD_NO_IDENTIFIER:
         return (struct words){"this record is a line of kind 4, and its identifier is 0",
                               "write the line as kind 2, which has no identifier, or look for a"
@@ -124,23 +119,26 @@ static struct words words_of(enum utvpi_refusal number)
                               " eithers stand inside each other",
                               "write the alternatives of an inner either as some of the outer",
                               NODE_AT_PLACE};
-    case UTVPI_NO_SUCH_CHOICE:
-        return (struct words){utvpi_refusal_text(number), fault, NOTHING};
     case UTVPI_BAD_CLOCK:
         return (struct words){"the clock's number is not above 0, or a float can't hold it",
                               "say how many seconds a tick lasts, or how many ticks a second has",
                               LAST_CLOCK};
-    case UTVPI_BAD_COUNT:
-        return (struct words){utvpi_refusal_text(number), fault, NOTHING};
-    case UTVPI_SHORT_SECONDS:
-        return (struct words){utvpi_refusal_text(number), fault, NOTHING};
-    case UTVPI_BAD_RECORDER:
-        return (struct words){utvpi_refusal_text(number), fault, NOTHING};
     case UTVPI_BAD_TABLE:
         return (struct words){"there are more than " AS_TEXT(UTVPI_MOST_RECORDERS) " clocks",
                               "leave out clocks that no event has, or decide parts that share no"
                               " event one by one",
                               LAST_CLOCK};
+    case UTVPI_BROKEN_LIST_LENGTH:
+    case UTVPI_SHORT_OUTPUT:
+    case UTVPI_SHORT_WORK_AREA:
+    case UTVPI_BAD_MODEL_LENGTH:
+    case UTVPI_BAD_MODEL_VALUE:
+    case UTVPI_NO_ROOM:
+    case UTVPI_NO_SUCH_CHOICE:
+    case UTVPI_BAD_COUNT:
+    case UTVPI_SHORT_SECONDS:
+    case UTVPI_BAD_RECORDER:
+        return words_of_fault(number);
     }
     return (struct words){"this number is not known", fault, NOTHING};
 }
