@@ -35,7 +35,7 @@ fn read(entry: i64) -> i64
 }
 
 // The entry of the points u and v: row v has the distances to v.
-fn read_at(table: &[i64], n: usize, u: usize, v: usize) -> i64
+pub fn read_at(table: &[i64], n: usize, u: usize, v: usize) -> i64
     requires { ⌜ SizedTable n (now table) × (u < 2 * n) × (v < 2 * n) ⌝ }
     ensures { λ r. ⌜ r ≡ stored (smallTable (2 * n) (now (table .entry)) u v) ⌝ }
 {
@@ -76,7 +76,7 @@ fn lower_rows(table: &mut [i64], n: usize, to: usize, sums: &[i64])
 }
 
 // The distance from u to the step's start, and along the step.
-fn sum_along(table: &[i64], n: usize, u: usize, step: Step) -> i64
+pub fn sum_along(table: &[i64], n: usize, u: usize, step: Step) -> i64
     requires { ⌜ SizedTable n (now table) × StepOk n step × (u < 2 * n) ⌝ }
     ensures { λ r. ⌜ r ≡ stored (along (smallTable (2 * n) (now (table .entry))) step u) ⌝ }
 {
@@ -84,7 +84,7 @@ fn sum_along(table: &[i64], n: usize, u: usize, step: Step) -> i64
 }
 
 // Whether no closed walk through the step has a negative sum.
-fn stays(table: &[i64], n: usize, step: Step) -> bool
+pub fn stays(table: &[i64], n: usize, step: Step) -> bool
     requires { ⌜ SizedTable n (now table) × StepOk n step ⌝ }
     ensures { λ r. ⌜ r ≡ notBelow0 (closing (smallTable (2 * n) (now (table .entry))) step) ⌝ }
 {
