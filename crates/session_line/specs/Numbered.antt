@@ -100,13 +100,13 @@ module _ (n : ℕ) (L : List ℤ) (ok : LinesOk n L) where
       subst (λ (F : List Step). Meant F t′ r) (sym (before-more L k)) (named-means (stepsBefore L k) t a (stepNumbered L k) (numbered-ok n L ok k) w t′ w′ r d)
 
   -- a closed walk of negative sum stays
-  negative-next : (k : ℕ) → WithinPoints N (stepsBefore L k) → noNegative (stepsBefore L k) N ≡ false → noNegative (stepsBefore L (k + 1)) N ≡ false
+  pub negative-next : (k : ℕ) → WithinPoints N (stepsBefore L k) → noNegative (stepsBefore L k) N ≡ false → noNegative (stepsBefore L (k + 1)) N ≡ false
   negative-next k within e =
       let F = stepsBefore L k ++ named (stepNumbered L k) in
       ap (λ (x : List Step). noNegative x N) (before-more L k)
       ∙ negative-among (stepsBefore L k) F N (named-within (stepsBefore L k) N within (stepNumbered L k) (ends k)) (λ t. in-left t (stepsBefore L k) (named (stepNumbered L k))) e
 
-  within-next : (k : ℕ) → WithinPoints N (stepsBefore L k) → WithinPoints N (stepsBefore L (k + 1))
+  pub within-next : (k : ℕ) → WithinPoints N (stepsBefore L k) → WithinPoints N (stepsBefore L (k + 1))
   within-next k within = rw (before-more L k) (named-within (stepsBefore L k) N within (stepNumbered L k) (ends k))
 
   module _ (k : ℕ) (t : List ℤ) (a : TableFor n (stepsBefore L (2 * k)) t) (w t′ w′ : List ℤ) (r : Bool) (done : LineDone N L k t w t′ w′ r) where

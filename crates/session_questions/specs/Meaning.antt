@@ -1,8 +1,8 @@
 -- What the questions answer where the table is that of a list: the pair and the line of request Eight, with no search.
-use mathlib.Core.Path.{_≡_, refl, sym, ap, ap₂, subst, _∙_}
+use mathlib.Core.Path.{_≡_, refl, sym, ap, ap₂, _∙_}
 use mathlib.Core.Logic.{_↔_}
 use mathlib.Core.Bool.{Bool, true, false, not, cond, _&&_}
-use mathlib.Core.List.{List, [], _∷_}
+use mathlib.Core.List.{List}
 use Prim.Native.Nat.{ℕ, _*_, _<_}
 use native.Mathlib.Omega.{arith}
 use lib.IntN.{ℤ, pos, _+ℤ_, _-ℤ_}
@@ -15,7 +15,6 @@ use Rattle.lines.specs.declared.Validity.the-variants.{Valid}
 use Rattle.lines.specs.Line.{lineCount, linesOf, Assignment, Solves, Solvable, isZero, isFalse}
 use Rattle.lines.specs.Refusal.{lineValidity, validityOf}
 use Rattle.lines.specs.Valid.{LineWorks, AllOk, line-ok, line-works, workable}
-use Rattle.steps.specs.declared.Step.{Step}
 use Rattle.steps.specs.declared.NamedStep.{NamedStep}
 use Rattle.steps.specs.declared.NamedStep.the-variants.{Found, Nothing}
 use Rattle.steps.specs.Point.{value}
@@ -35,7 +34,6 @@ use Rattle.implied_pair.specs.Pair as pairs
 use Rattle.implied_pair.specs.Pair.{pairIn}
 use Rattle.implied_pair.specs.Reading.{pair-same}
 use Rattle.implied_pair.specs.Meaning.{IsPair, computed-pair}
-use Rattle.implied_line.specs.declared.LineAnswer.{LineAnswer}
 use Rattle.implied_line.specs.declared.LineAnswer.the-variants.{Implied, NotImplied}
 use Rattle.implied_line.specs.Opposite.{opposed}
 use Rattle.implied_line.specs.Answer.{judgedBy, judged}

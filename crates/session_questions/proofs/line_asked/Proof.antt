@@ -1,6 +1,6 @@
 -- `session_questions::line_asked` meets its contract, in each of its three ways: the line's numbers alone are a list, whose steps 0 and 1 are the line's.
 use mathlib.Core.Path.{_≡_, sym, ap, subst, _∙_}
-use mathlib.Core.Bool.{Bool, true, false}
+use mathlib.Core.Bool.{false}
 use mathlib.Core.List.{List}
 use Prim.Native.Nat.{ℕ, _*_, _<_}
 use native.Mathlib.Omega.{arith}
@@ -8,7 +8,7 @@ use borrow.Author.Needs.{needs}
 use borrow.Author.Tests.{not-true, not-false}
 use denote.Ref.{now}
 use lib.IntN.{ℤ}
-use Rattle.lines.specs.Line.{lineNumbers, isFalse}
+use Rattle.lines.specs.Line.{isFalse}
 use Rattle.lines.specs.Valid.{LinesOk}
 use Rattle.steps.specs.Step.{stepOf, stepNumbered}
 use Rattle.theory_bounds.specs.Tight.{Table}

@@ -1,6 +1,5 @@
 -- `session_questions::step_implied` meets its contract: no walk is stored as a number above every weight, so that the stored number alone is tested.
 use mathlib.Core.Path.{_≡_, sym, ap, ap₂, _∙_}
-use mathlib.Core.Bool.{Bool}
 use Prim.Native.Nat.{_*_}
 use borrow.Author.Needs.{needs}
 use denote.Ref.{now}
@@ -12,7 +11,6 @@ use Rattle.integers.specs.Bits.{kept}
 use Rattle.lines.specs.Limits.{maxVariables}
 use Rattle.lines.specs.Valid.{lines-more}
 use Rattle.steps.specs.declared.Step.{Step}
-use Rattle.steps.specs.declared.NamedStep.{NamedStep}
 use Rattle.steps.specs.declared.NamedStep.the-variants.{Found}
 use Rattle.steps.specs.Step.{stepNumbered}
 use Rattle.theory_bounds.specs.Tight.{Table, tight}
