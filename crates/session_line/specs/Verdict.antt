@@ -37,13 +37,9 @@ false-more (x ∷ ls) l e = go (isFalse x) e (false-more ls l)
     go true q later = never (cc)
     go false q later = later q
 
-module _ (n : ℕ) (L : List ℤ) (l : Line) (whole : length L % lineSize ≡ 0) (ok : LinesOk n (L ++ lineNumbers l)) (yes-verdict : verdictOf n (linesOf L) ≡ true)
-    (t : List ℤ) (a : TableFor n (stepsOf (linesOf L)) t) (w t′ w′ : List ℤ) (r : Bool) (done : AddDone (2 * n) (L ++ lineNumbers l) (lineCount L) t w t′ w′ r) where
+module _ (n : ℕ) (L : List ℤ) (l : Line) (whole : length L % lineSize ≡ 0) (yes-verdict : verdictOf n (linesOf L) ≡ true) where
   abbrev ls : List Line
   ls = linesOf (L ++ lineNumbers l)
-
-  one : lineCount (lineNumbers l) ≡ 1
-  one = omega (arith, length-numbers l)
 
   no-false : hasFalse (linesOf L) ≡ false
   unfolding verdictOf
@@ -56,18 +52,29 @@ module _ (n : ℕ) (L : List ℤ) (l : Line) (whole : length L % lineSize ≡ 0)
   false-is : hasFalse ls ≡ isFalse l
   false-is = ap hasFalse (lines-snoc L l whole) ∙ false-more (linesOf L) l no-false
 
-  walks-are : noNegative (stepsOf ls) (2 * n) ≡ r
-  walks-are = sym (longer-answer L (lineNumbers l) whole n ok one t a w t′ w′ r done)
-
-  -- where the insertion says no, halves are not asked for
-  halves-are : (b : Bool) → r ≡ b → (b && consistentHalves n ls) ≡ (b && allBelow (2 * n) (halvesOk (tableOf (2 * n) t′)))
-  unfolding consistentHalves
-  halves-are false e = refl
-  halves-are true e =
-      let longer = longer-table L (lineNumbers l) whole n ok one t a w t′ w′ r done e in
-      sym (all-ok-same n (tableOf (2 * n) t′) (distances n ls) (agree n (stepsOf ls) t′ longer))
-
-  pub longer-verdict : verdictOf n (linesOf (L ++ lineNumbers l)) ≡ (not (isFalse l) && (r && allBelow (2 * n) (halvesOk (tableOf (2 * n) t′))))
+  -- with a false line
+  pub false-verdict : isFalse l ≡ true → verdictOf n (linesOf (L ++ lineNumbers l)) ≡ false
   unfolding verdictOf
-  longer-verdict =
-      ap₂ (λ (p q : Bool). not p && q) false-is (ap (λ (b : Bool). b && consistentHalves n ls) walks-are ∙ halves-are r refl)
+  false-verdict e = ap (λ (b : Bool). not b && (noNegative (stepsOf ls) (2 * n) && consistentHalves n ls)) (false-is ∙ e)
+
+  -- by the line, the insertion and the halves
+  module _ (ok : LinesOk n (L ++ lineNumbers l)) (t : List ℤ) (a : TableFor n (stepsOf (linesOf L)) t) (w t′ w′ : List ℤ) (r : Bool)
+      (done : AddDone (2 * n) (L ++ lineNumbers l) (lineCount L) t w t′ w′ r) where
+    one : lineCount (lineNumbers l) ≡ 1
+    one = omega (arith, length-numbers l)
+
+    walks-are : noNegative (stepsOf ls) (2 * n) ≡ r
+    walks-are = sym (longer-answer L (lineNumbers l) whole n ok one t a w t′ w′ r done)
+
+    -- where the insertion says no, halves are not asked for
+    halves-are : (b : Bool) → r ≡ b → (b && consistentHalves n ls) ≡ (b && allBelow (2 * n) (halvesOk (tableOf (2 * n) t′)))
+    unfolding consistentHalves
+    halves-are false e = refl
+    halves-are true e =
+        let longer = longer-table L (lineNumbers l) whole n ok one t a w t′ w′ r done e in
+        sym (all-ok-same n (tableOf (2 * n) t′) (distances n ls) (agree n (stepsOf ls) t′ longer))
+
+    pub longer-verdict : verdictOf n (linesOf (L ++ lineNumbers l)) ≡ (not (isFalse l) && (r && allBelow (2 * n) (halvesOk (tableOf (2 * n) t′))))
+    unfolding verdictOf
+    longer-verdict =
+        ap₂ (λ (p q : Bool). not p && q) false-is (ap (λ (b : Bool). b && consistentHalves n ls) walks-are ∙ halves-are r refl)
