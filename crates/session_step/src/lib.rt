@@ -113,8 +113,8 @@ fn write_sums(table: &[i64], n: usize, step: Step, sums: &mut [i64])
 }
 
 // One more step in the table of 2n points: the distances with it, and yes; or no, where a closed walk through it has a
-// negative sum, and all is as it was. Each entry is looked at once at most. The scratch numbers, 2n of them, hold sums on
-// the way.
+// negative sum, and all is as it was. There is one pass over the table at most. The scratch numbers, 2n of them, hold sums
+// on the way.
 pub fn insert_step(table: &mut [i64], scratch: &mut [i64], n: usize, step: Step) -> bool
     requires { ⌜ InsertReady n step (now table) (now scratch) ⌝ }
     ensures { λ r. ⌜ InsertDone (2 * n) step (now (table .entry)) (now (scratch .entry)) (now (table .exit)) (now (scratch .exit)) r ⌝ }
