@@ -366,6 +366,15 @@ bool take_argument(const struct list *list, const uint32_t *refutation,
            refutation_holds(list, numbers, refutation_of(list, argument, numbers));
 }
 
+/* The rules of the argument that a refutation comes to, each once; of each a step. Gives
+ * back how many they are, 0 where it can't be trusted. */
+size_t argued_rules(const struct list *list, const uint32_t *refutation,
+                    uint32_t steps[MOST_ARGUMENT])
+{
+    static struct argument argument;
+    return take_argument(list, refutation, &argument) ? rules_of(list, &argument, steps) : 0;
+}
+
 /* Writes the numbers of a refutation, and the identifiers of its steps' rules. */
 static void write_numbers(const struct list *list, const uint32_t *refutation,
                           const uint32_t *identifiers)

@@ -153,6 +153,17 @@ def places_of(alternatives):
     return [(own["file"], own["line"], own["alternative"], own["of"]) for own in alternatives]
 
 
+def lines_of(file, line):
+    """The lines of the alternative that begins there."""
+    with open(file, "rb") as rules:
+        words = [text.split(b"#")[0].strip() for text in rules.read().split(b"\n")]
+    depth, at = 0, line
+    while depth > 0 or words[at] not in (b"or", b"end"):
+        depth += {b"either": 1, b"all": 1, b"end": -1}.get(words[at], 0)
+        at += 1
+    return set(range(line + 1, at + 1))
+
+
 def check_alternatives(name, text, answer):
     """The alternatives of a yes, each with its rules, those of eithers in it left out."""
     shown = text.decode().split("\n\n")[1]
@@ -183,6 +194,9 @@ def check_reasons(name, file, text, answer):
                 {"alternatives", "clash", "refutation", "identifiers"}, set(reason))
         compare(f"{name}, alternatives of a reason", alternatives_in(part.split("\n\n")[0]),
                 places_of(reason["alternatives"]))
+        quoted = {rule["line"] for rule in reason["clash"]["rules"]}
+        compare(f"{name}, alternatives without a rule", [],
+                [own for own in reason["alternatives"] if not quoted & lines_of(file, own["line"])])
         check_clash(name, part.encode(), reason, None)
         numbers = " ".join(map(str, reason["refutation"])) + "\nidentifiers " + \
             " ".join(map(str, reason["identifiers"]))
@@ -259,6 +273,13 @@ for at, rules in enumerate((
         b"either\n1 0 0 0 3 0\nor\n1,0,0,0,4,7\nend\n-1 0 0 0 -4 0\n",
         b"either\nx =< 3\nor\nx - y\nend\nor\neither\n",
         b"either\nx <= 3\n",
+        # The library's refutations of some choices have rules that their arguments need not.
+        b"d + d = 4\nd >= -4\nc <= -6\neither\nc + c <= 1\neither\nd <= 3\na >= 0\n"
+        b"d = -6\na + a = 4\nor\nb + b >= -4\nb + c <= -3\na + a = 2\nc + c >= 1\nend\n"
+        b"a + b <= 1\nor\neither\nb + b = -2\nc - b <= -6\nc + a >= 1\nor\nc = -1\n"
+        b"c <= -5\nb + b = 1\nc + c <= -5\nend\nd - c <= -1\nend\neither\na >= 5\neither\n"
+        b"c - d = 5\nd <= 5\nd - d = 6\nb - c <= -2\nor\nd + a <= -1\na - b <= -2\nend\n"
+        b"b + c <= 0\nor\nd = 3\nend\na + c >= 1\n",
         b"x <= 3\neither\n" + b"or\n".join(b"x = %d\n" % row for row in range(257)) + b"end\n",
         b"either\nx <= 3\nor\n" * 4 + b"x <= 4\n" + b"end\n" * 4)):
     file = os.path.join(made, f"alternatives_{at}.txt")
@@ -282,7 +303,7 @@ for option in (["--order"], ["--between", "x", "x"], ["--implies", "x <= 3"], ["
     compare(f"alternatives, {option}", (2, "refused", [2], True),
             (status, answer["answer"], [error["line"] for error in answer["errors"]],
              f"which {option[0]} does not take" in answer["errors"][0]["what"]))
-for at, line, refusal in ((9, 2, 40), (10, 10, 42)):
+for at, line, refusal in ((10, 2, 40), (11, 10, 42)):
     status, answer = ask(f"alternatives refused, {refusal}", os.path.join(made, f"alternatives_{at}.txt"))
     compare(f"alternatives refused, {refusal}", (2, [(line, refusal)]),
             (status, [(error["line"], error["number"]) for error in answer["errors"]]))

@@ -139,24 +139,6 @@ struct tree {
     size_t too_many;
 };
 
-/* Why a choice fails: the lines that it picks; a refutation, with the identifiers of its
- * steps and how many they are; and in how many alternatives its rules stand. Whether that
- * was told, with this refutation or with another whose rules the choice has, too. */
-struct clash {
-    bool picked[UTVPI_MOST_LINES];
-    uint32_t refutation[UTVPI_REFUTATION_ROOM(UTVPI_MOST_VARIABLES)];
-    uint32_t identifiers[UTVPI_IDENTIFIERS_ROOM(UTVPI_MOST_VARIABLES)];
-    uint32_t steps;
-    size_t alternatives;
-    bool told;
-};
-
-/* The choices that fail, in their order. */
-struct clashes {
-    struct clash *each;
-    size_t count;
-};
-
 /* The reading from which events count: those of a recorder, NAME.rest, or the one event
  * NAME; and the line of the file that has it. */
 struct base {
@@ -327,6 +309,26 @@ struct argument {
 
 /* The most numbers of an argument as a refutation. */
 #define MOST_ARGUMENT (2 * MOST_CHAIN + 8)
+
+/* Why a choice fails: the lines that it picks; a refutation, with the identifiers of its
+ * steps; the rules of the argument that it comes to, of each a step, and in how many
+ * alternatives they stand. Whether that was told, with this argument or with another whose
+ * rules the choice has, too. */
+struct clash {
+    bool picked[UTVPI_MOST_LINES];
+    uint32_t refutation[UTVPI_REFUTATION_ROOM(UTVPI_MOST_VARIABLES)];
+    uint32_t identifiers[UTVPI_IDENTIFIERS_ROOM(UTVPI_MOST_VARIABLES)];
+    uint32_t steps[MOST_ARGUMENT];
+    size_t count;
+    size_t alternatives;
+    bool told;
+};
+
+/* The choices that fail, in their order. */
+struct clashes {
+    struct clash *each;
+    size_t count;
+};
 
 /* The widths of the columns of quoted rules: where they stand, the rules, and their
  * identifiers, 0 where none has one. */
@@ -641,6 +643,8 @@ void make_argument(const struct list *list, const uint32_t *refutation,
                    struct argument *argument);
 bool take_argument(const struct list *list, const uint32_t *refutation,
                    struct argument *argument);
+size_t argued_rules(const struct list *list, const uint32_t *refutation,
+                    uint32_t steps[MOST_ARGUMENT]);
 void json_rule(const char *key, struct origin origin, uint32_t identifier);
 bool print_no(const struct list *list, const uint32_t *refutation, const uint32_t *identifiers,
               const char *shown);
