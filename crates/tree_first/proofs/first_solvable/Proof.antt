@@ -1,11 +1,11 @@
--- `tree_deciding::first_solvable` meets its contract. The invariant is `Trying`: no choice before this one has a solution.
+-- `tree_first::first_solvable` meets its contract. The invariant is `Trying`: no choice before this one has a solution.
 use Prim.Native.Nat.{_-_}
 use native.Mathlib.Omega.{arith}
 use borrow.Author.Needs.{needs}
 use Rattle.tree_deciding.specs.Answer.{treeOver}
-use Rattle.tree_deciding.specs.Tried.{Trying, none-tried, asked-still, one-more, found-first, all-tried}
-use Rattle.tree_deciding.proofs.first_solvable.Statement.{statement}
-use Rattle.tree_deciding.proofs.first_solvable.Tie as tie
+use Rattle.tree_first.specs.Tried.{Trying, none-tried, asked-still, one-more, found-first, all-tried}
+use Rattle.tree_first.proofs.first_solvable.Statement.{statement}
+use Rattle.tree_first.proofs.first_solvable.Tie as tie
 
 abbrev Inv-loop : tie.InvT-loop
 Inv-loop n list tree total model₀ work₀ choice₀ model work choice = Trying n list (treeOver list tree) total model₀ work₀ choice model work

@@ -1,11 +1,10 @@
 -- Trying one choice after the other: what each try and the search ask and leave, and that the first one found is the first with a solution.
-use mathlib.Core.Path.{_≡_, refl, sym, ap, subst, _∙_}
-use mathlib.Core.Bool.{Bool, true, false, not, cond}
+use mathlib.Core.Path.{_≡_, refl, sym, ap, _∙_}
+use mathlib.Core.Bool.{Bool, true, false, not}
 use mathlib.Core.List.{List, _++_}
 use Prim.Native.Nat.{ℕ, _+_, _<_, _≤_}
 use native.Mathlib.Omega.{arith}
-use borrow.Author.Tests.{lt-ltb, le-ltb, not-true, not-false}
-use lib.Dec.{ltb}
+use borrow.Author.Tests.{not-true, not-false}
 use lib.IntN.{ℤ}
 use lib.ListN.{length, drop, replicate, length-replicate}
 use Rattle.integers.specs.Lowest.{lowest, Searched, searched-none, searched-more, searched-found, searched-all}
@@ -27,9 +26,9 @@ use Rattle.tree_reading.specs.Taken.{taken}
 use Rattle.tree_lists.specs.Condition.{choiceList, choice-valid}
 use Rattle.tree_lists.specs.Numbered.{numberedList, numbered-list}
 use Rattle.tree_answers.specs.First.{choiceVerdict, firstChoice}
 use Rattle.tree_deciding.specs.declared.TreeAnswer.{TreeAnswer}
-use Rattle.tree_deciding.specs.declared.TreeAnswer.the-variants.{Yes, No}
 use Rattle.tree_deciding.specs.Answer.{treeOver, firstFound, modelLeft}
+use Rattle.tree_deciding.specs.Found.{found-yes, found-no}
 
 -- a valid list, a tree over it that has so many choices, and room
 pub record TryAsked (n : ℕ) (L : List ℤ) (s : List ℕ) (total : ℕ) (model work : List ℤ) : Type 0 where
@@ -63,13 +62,6 @@ pub record Trying (n : ℕ) (L : List ℤ) (t : Row) (total : ℕ) (model work :
   pub model-length : length model′ ≡ length model
   pub same-length : length work′ ≡ length work
   pub behind : drop (usedRoom n) work′ ≡ drop (usedRoom n) work
-
--- the answer, by the choice that was found
-pub found-yes : (total k : ℕ) → k < total → firstFound total k ≡ Yes k
-found-yes total k h = ap (λ (t : Bool). cond t (Yes k) No) (lt-ltb k total h)
-
-pub found-no : (total k : ℕ) → total ≤ k → firstFound total k ≡ No
-found-no total k h = ap (λ (t : Bool). cond t (Yes k) No) (le-ltb k total h)
 
 module _ (n : ℕ) (L : List ℤ) (s : List ℕ) (total : ℕ) (model work : List ℤ) (a : TryAsked n L s total model work) where
   abbrev tree : Row

@@ -1,4 +1,4 @@
--- `tree_deciding::first_choice` meets its contract: a refusal, or what the search for the first choice found, with the work area cleared.
+-- `tree_first::first_choice` meets its contract: a refusal, or what the search for the first choice found, with the work area cleared.
 use mathlib.Core.Path.{_≡_, sym, _∙_}
 use borrow.Author.Needs.{needs}
 use Rattle.lines.specs.declared.Validity.the-variants.{Valid}
@@ -8,10 +8,10 @@ use Rattle.lines.specs.Valid.{valid-list}
 use Rattle.decide_buffers.specs.Room.{ModelLent, modelLengthsOf, modelRooms, firstShort}
 use Rattle.tree_reading.specs.declared.Reading.the-variants.{Read}
 use Rattle.tree_reading.specs.Reading.{validTree}
-use Rattle.tree_deciding.specs.Tried.{found-yes, found-no}
-use Rattle.tree_deciding.specs.First.{list-refused, tree-refused, room-refused, asked, room-left, answers}
-use Rattle.tree_deciding.proofs.first_choice.Statement.{statement}
-use Rattle.tree_deciding.proofs.first_choice.Tie as tie
+use Rattle.tree_deciding.specs.Found.{found-yes, found-no}
+use Rattle.tree_first.specs.First.{list-refused, tree-refused, room-refused, asked, room-left, answers}
+use Rattle.tree_first.proofs.first_choice.Statement.{statement}
+use Rattle.tree_first.proofs.first_choice.Tie as tie
 
 -- the list was looked at: the start, and what the buffers held
 module _ (looked : tie.After-list-validity) where

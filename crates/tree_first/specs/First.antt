@@ -23,11 +23,11 @@ use Rattle.tree_reading.specs.declared.Reading.{Reading}
 use Rattle.tree_reading.specs.declared.Reading.the-variants as reading
 use Rattle.tree_reading.specs.Reading.{validTree}
 use Rattle.tree_answers.specs.First.{firstChoice}
 use Rattle.tree_deciding.specs.declared.ConditionRefusal.the-variants.{Deciding, Tree}
 use Rattle.tree_deciding.specs.declared.TreeAnswer.{TreeAnswer}
 use Rattle.tree_deciding.specs.declared.TreeAnswer.the-variants.{Yes, No, Refused}
 use Rattle.tree_deciding.specs.Answer.{ofDeciding, ofTree, _orNext_, firstValidity, unlessRefused, treeOver, firstFound, firstAnswer, modelLeft, workLeft, AnswersFirst}
-use Rattle.tree_deciding.specs.Tried.{TryAsked, FirstTried, counted}
+use Rattle.tree_first.specs.Tried.{TryAsked, FirstTried, counted}
 
 -- what is found is no refusal
 found-clears : (n total k : ℕ) (w : List ℤ) → workLeft n (firstFound total k) w ≡ cleared n w

@@ -1,7 +1,7 @@
--- `tree_deciding::try_choice` meets its contract: the search is of the choice's list, which stands at the front of the array.
+-- `tree_first::try_choice` meets its contract: the search is of the choice's list, which stands at the front of the array.
 use mathlib.Core.Path.{_≡_, refl, sym, ap, _∙_}
 use mathlib.Core.List.{List}
-use Prim.Native.Nat.{ℕ, _*_, _≤_}
+use Prim.Native.Nat.{_*_, _≤_}
 use native.Mathlib.Nat.{le-trans}
 use native.Mathlib.Omega.{arith}
 use borrow.Author.Needs.{needs}
@@ -11,10 +11,10 @@ use Rattle.lines.specs.Limits.{lineSize, maxLines}
 use Rattle.lines.specs.Valid.{ListOk, valid-list}
 use Rattle.tree_lists.specs.Condition.{choiceList}
 use Rattle.tree_lists.specs.Numbered.{numbered-length, numbered-front}
 use Rattle.tree_deciding.specs.Answer.{treeOver}
-use Rattle.tree_deciding.specs.Tried.{list-is, model-asked, tried}
-use Rattle.tree_deciding.proofs.try_choice.Statement.{statement}
-use Rattle.tree_deciding.proofs.try_choice.Tie as tie
+use Rattle.tree_first.specs.Tried.{list-is, model-asked, tried}
+use Rattle.tree_first.proofs.try_choice.Statement.{statement}
+use Rattle.tree_first.proofs.try_choice.Tie as tie
 
 -- the list is valid, so that it is no longer than the array
 module _ (start : tie.Start) where
