@@ -1,5 +1,5 @@
 -- The number and the place of each refusal of a question about a tree, by which it is known: deciding's and the tree's have no number in common.
-use mathlib.Core.Path.{_≡_, refl, sym, ap}
+use mathlib.Core.Path.{_≡_, refl, sym, ap, _∙_}
 use mathlib.Core.Bool.{false, false≢true}
 use Prim.Native.Nat.{ℕ, _/_, _<_}
 use native.Mathlib.Omega.{arith}
