@@ -151,13 +151,14 @@ extern "C" {
 /* The most stack that a call takes, in bytes. utvpi_check_model,
  * utvpi_check_refutation and utvpi_read_list hold the longest list there, however
  * short the one at hand is; utvpi_session_add and utvpi_implied_line hold it and one
- * line more. utvpi_check_model also holds the longest model, and utvpi_implied_line and
- * utvpi_implied_pair hold the longest refutation that is handed over, which takes more
- * than a model; the last part is for all else, and the other calls take no more than
- * that. A thread that calls them needs this much and what it takes itself. No call takes
- * memory from the heap. */
+ * line more; utvpi_tree_first and utvpi_tree_decide hold it and a byte for each of its
+ * lines. utvpi_check_model also holds the longest model, and utvpi_implied_line,
+ * utvpi_implied_pair and utvpi_tree_first hold the longest refutation that is handed over,
+ * which takes more than a model; the last part is for all else, and the other calls take
+ * no more than that. A thread that calls them needs this much and what it takes itself.
+ * No call takes memory from the heap. */
 #define UTVPI_MOST_STACK \
-    (UTVPI_LINE_BYTES * (UTVPI_MOST_LINES + 1) + \
+    (UTVPI_LINE_BYTES * (UTVPI_MOST_LINES + 1) + (size_t)UTVPI_MOST_LINES + \
      (size_t)4 * UTVPI_REFUTATION_ROOM(UTVPI_MOST_VARIABLES) + (size_t)4096)
 
 /* In the bounds: a variable that has no least value, and one that has no greatest; so

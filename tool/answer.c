@@ -12,10 +12,12 @@ static uint32_t groups[UTVPI_GROUPS_ROOM(UTVPI_MOST_VARIABLES)];
 static uint32_t refutation[UTVPI_REFUTATION_ROOM(UTVPI_MOST_VARIABLES)];
 static uint32_t identifiers[UTVPI_IDENTIFIERS_ROOM(UTVPI_MOST_VARIABLES)];
 
-/* The list, the model and the refutation as the checkers take them. */
-static uint8_t list_bytes[UTVPI_LINE_BYTES * UTVPI_MOST_LINES];
+/* The list, the model and the refutation, the library's or one made of it, as the checkers
+ * take them. */
+static uint8_t list_bytes[UTVPI_LINE_BYTES * (UTVPI_MOST_LINES > MOST_ARGUMENT ? UTVPI_MOST_LINES
+                                                                               : MOST_ARGUMENT)];
 static uint8_t model_bytes[8 * UTVPI_MODEL_ROOM(UTVPI_MOST_VARIABLES)];
-static uint8_t refutation_bytes[4 * UTVPI_REFUTATION_ROOM(UTVPI_MOST_VARIABLES)];
+static uint8_t refutation_bytes[4 * MOST_ARGUMENT];
 
 /* Writes a number's lowest `bytes` bytes, the lowest first. */
 static void pack(uint8_t *to, uint64_t number, size_t bytes)
@@ -25,10 +27,18 @@ static void pack(uint8_t *to, uint64_t number, size_t bytes)
     }
 }
 
+/* Packs a line of the list at a place. */
+static void pack_line(size_t place, const int32_t *line)
+{
+    for (size_t at = 0; at < UTVPI_LINE_NUMBERS; at++) {
+        pack(list_bytes + UTVPI_LINE_BYTES * place + 4 * at, (uint64_t)line[at], 4);
+    }
+}
+
 static size_t pack_list(const struct list *list)
 {
-    for (size_t at = 0; at < length_of(list); at++) {
-        pack(list_bytes + 4 * at, (uint64_t)list->numbers[at], 4);
+    for (size_t line = 0; line < list->count; line++) {
+        pack_line(line, list->numbers + UTVPI_LINE_NUMBERS * line);
     }
     return UTVPI_LINE_BYTES * list->count;
 }
@@ -36,6 +46,13 @@ static size_t pack_list(const struct list *list)
 /* Says that an answer can't be trusted, and why. Gives back the status for that. */
 int disagree(const char *what)
 {
+    if (json_wanted) {
+        json_begin_errors("untrusted");
+        json_object(NULL);
+        json_string("what", what);
+        json_close();
+        return STATUS_DISAGREE;
+    }
     fprintf(stderr,
             "utvpi: %s.\n"
             "  This answer can't be trusted. It is a fault of the library or of this program,\n"
@@ -47,6 +64,11 @@ int disagree(const char *what)
 int disagree_on_seconds(void)
 {
     return disagree("the library's seconds are not those that this program finds");
+}
+
+int disagree_on_argument(void)
+{
+    return disagree("what this program made of a refutation fails the library's check");
 }
 
 bool within_limits(const struct list *list)
@@ -108,6 +130,24 @@ bool values_hold(const struct list *list, size_t n, const int32_t *values)
     return UTVPI_IS_YES(utvpi_check_model(n, list_bytes, length, model_bytes, 8 * n));
 }
 
+/* Whether the library's check takes these numbers for a refutation of the list: of the
+ * lines that it names, for each step one. */
+bool refutation_holds(const struct list *list, const uint32_t *numbers, size_t count)
+{
+    size_t steps = count - 3;
+    for (size_t at = 0; at < count; at++) {
+        bool is_step = at >= 3;
+        pack(refutation_bytes + 4 * at,
+             is_step ? 2 * (at - 3) + numbers[at] % 2 : numbers[at], 4);
+        if (is_step) {
+            pack_line(at - 3, line_of(list, numbers[at]));
+        }
+    }
+    return UTVPI_IS_YES(utvpi_check_refutation(list->variables, list_bytes,
+                                               UTVPI_LINE_BYTES * steps, refutation_bytes,
+                                               4 * count));
+}
+
 /* Takes the seconds of all that a yes prints. False where they can't be trusted. */
 static bool take_all_seconds(const struct list *list)
 {
@@ -128,9 +168,11 @@ static int answer_yes(const struct list *list, size_t n, enum manner manner)
         return disagree("the library answered yes, but its groups do not agree with its values");
     }
     if (manner == IN_SHORT) {
-        puts("Yes. Whole numbers meet all the rules so far.");
+        print_short();
     } else if (manner != UNPRINTED && !take_all_seconds(list)) {
         return disagree_on_seconds();
+    } else if (manner == IN_CSV) {
+        print_csv(list, model, bounds, groups);
     } else if (manner != UNPRINTED) {
         print_yes(list, model, bounds, groups);
     }
@@ -162,13 +204,14 @@ static void print_numbers(const char *before, const uint32_t *numbers, size_t co
     putchar('\n');
 }
 
-/* Prints a no in numbers: the refutation, of so many steps, and, where some rule has
- * one, the identifiers of its steps' rules. */
-static void print_no_in_numbers(size_t steps)
+/* Prints a no in numbers: the refutation, of so many steps, by the numbers that its rules
+ * have in the file, and, where some rule has one, the identifiers of its steps' rules. */
+static void print_no_in_numbers(const struct list *list, size_t steps)
 {
     bool some = false;
     for (size_t at = 0; at < steps; at++) {
         some = some || identifiers[at] != 0;
+        refutation[3 + at] = step_as_read(list, refutation[3 + at]);
     }
     print_numbers("", refutation, 3 + steps);
     if (some) {
@@ -198,11 +241,19 @@ static int answer_no(const struct list *list, size_t n, enum manner manner)
         return disagree("the library answered no, but not with the identifiers of its rules");
     }
     if (manner == IN_NUMBERS) {
-        print_no_in_numbers((size_t)count - 3);
-    } else if (manner != UNPRINTED) {
-        print_no(list, refutation, identifiers, "No. No whole numbers meet all the rules.");
+        print_no_in_numbers(list, (size_t)count - 3);
+        return STATUS_NO;
     }
-    return STATUS_NO;
+    if (manner == IN_CSV) {
+        fputs("utvpi: no whole numbers meet all the rules, so that there is no table; without"
+              " --csv it is shown\n", stderr);
+    }
+    if (manner == UNPRINTED || manner == IN_CSV) {
+        return STATUS_NO;
+    }
+    return print_no(list, refutation, identifiers, "No. No whole numbers meet all the rules.")
+               ? STATUS_NO
+               : disagree_on_argument();
 }
 
 /* Has the result of deciding the list among n variables checked, and prints it. An
@@ -237,13 +288,25 @@ int64_t *take_work_area(const char *file, uint64_t n)
 {
     int64_t *work = malloc(work_room(n) * sizeof *work);
     if (work == NULL) {
-        fprintf(stderr,
-                "utvpi: %s: there is not enough memory to decide %" PRIu64 " events: %zu bytes are"
-                " needed.\n"
-                "  What to do: free memory, or decide parts that share no event one by one.\n",
-                file, n, work_room(n) * sizeof *work);
+        char what[120];
+        snprintf(what, sizeof what,
+                 "there is not enough memory to decide %" PRIu64 " events: %zu bytes are needed",
+                 n, work_room(n) * sizeof *work);
+        wrong_in(file, nowhere, nowhere.rule, what,
+                 "free memory, or decide parts that share no event one by one");
     }
     return work;
+}
+
+/* What the library wrote for the last yes, and for the last no. */
+struct yes last_yes(void)
+{
+    return (struct yes){model, bounds, groups};
+}
+
+const uint32_t *last_refutation(void)
+{
+    return refutation;
 }
 
 /* Decides the list, which the library may refuse, and prints the answer. */

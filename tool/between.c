@@ -3,25 +3,22 @@
 #include "list.h"
 
 #include <stdlib.h>
-#include <string.h>
 
-/* Looks for the event with this name. Says so where there is none. */
+/* Looks for the event with this name, perhaps in quotes. Says so where there is none. */
 static bool find_event(const struct list *list, const char *name, uint64_t *variable)
 {
-    struct text text = {name, strlen(name)};
-    for (*variable = 0; *variable < list->variables; *variable += 1) {
-        struct text own = list->names[*variable];
-        if (own.length == text.length && memcmp(own.at, name, own.length) == 0) {
-            return true;
-        }
+    struct text text = text_of(name), unquoted;
+    if (find_name(list, text, variable) ||
+        (scan_name(text, &unquoted) == text.length && find_name(list, unquoted, variable))) {
+        return true;
     }
-    return wrong(list, (struct origin){0, {"", 0}}, text,
+    return wrong(list, nowhere, text,
                  text.length > 0 ? no_event : "the name of an event is empty", event_advice);
 }
 
 /* Whether deciding agrees that a sum of two points, each an event or its opposite, can be
  * as large as this, or that it can't: a yes or a no is expected. */
-static bool can_reach(struct list *list, struct point one, struct point other, int64_t value,
+bool can_reach(struct list *list, struct point one, struct point other, int64_t value,
                       int expected)
 {
     int64_t line[UTVPI_LINE_NUMBERS] = {-one.sign, (int64_t)one.variable, -other.sign,
@@ -31,7 +28,7 @@ static bool can_reach(struct list *list, struct point one, struct point other, i
 
 /* Whether deciding agrees that this is the greatest value of a sum: it is reached, and
  * one more is not; where there is none, the greatest that can be asked for is reached. */
-static bool is_greatest(struct list *list, struct point one, struct point other, int64_t value)
+bool is_greatest(struct list *list, struct point one, struct point other, int64_t value)
 {
     if (value == UTVPI_NO_GREATEST) {
         return can_reach(list, one, other, UTVPI_MOST_BOUND, STATUS_YES);
@@ -50,10 +47,16 @@ static bool agrees(struct list *list, uint64_t x, uint64_t y, const utvpi_pair *
            is_greatest(list, (struct point){-1, x}, minus, pair->minus[1]);
 }
 
+/* The least and the greatest value of a sum or a difference. */
+struct range {
+    int64_t least;
+    int64_t greatest;
+};
+
 /* Prints a sum or a difference, and between which values it lies. */
-static void print_range(const struct list *list, const int32_t *line, int64_t least,
-                        int64_t greatest)
+static void print_range(const struct list *list, const int32_t *line, struct range range)
 {
+    int64_t least = range.least, greatest = range.greatest;
     bool low = least != UTVPI_NO_LEAST, high = greatest != UTVPI_NO_GREATEST;
     print_terms(list, line, 1);
     if (low && least == greatest) {
@@ -69,15 +72,40 @@ static void print_range(const struct list *list, const int32_t *line, int64_t le
     }
 }
 
+static void write_range(const char *key, struct range range)
+{
+    json_object(key);
+    json_bound("least", range.least);
+    json_bound("greatest", range.greatest);
+    json_close();
+}
+
+/* Prints what two events imply about each other, in readings. */
 static void print_pair(const struct list *list, uint64_t x, uint64_t y, const utvpi_pair *pair)
 {
-    int32_t difference[UTVPI_LINE_NUMBERS] = {1, (int32_t)x, -1, (int32_t)y};
-    int32_t sum[UTVPI_LINE_NUMBERS] = {1, (int32_t)x, 1, (int32_t)y};
+    int32_t minus[UTVPI_LINE_NUMBERS] = {1, (int32_t)x, -1, (int32_t)y};
+    int32_t plus[UTVPI_LINE_NUMBERS] = {1, (int32_t)x, 1, (int32_t)y};
+    int64_t apart = list->offsets[x] - list->offsets[y];
+    int64_t together = list->offsets[x] + list->offsets[y];
+    struct range difference = {shifted(turned(pair->minus[0]), apart),
+                               shifted(pair->plus[1], apart)};
+    struct range sum = {shifted(turned(pair->minus[1]), together),
+                        shifted(pair->plus[0], together)};
+    if (json_wanted) {
+        json_begin("yes");
+        json_array("between");
+        json_event(NULL, list, x);
+        json_event(NULL, list, y);
+        json_close();
+        write_range("difference", difference);
+        write_range("sum", sum);
+        return;
+    }
     puts("Over all the ways to meet the rules:\n");
     fputs("  how far apart:       ", stdout);
-    print_range(list, difference, turned(pair->minus[0]), pair->plus[1]);
+    print_range(list, minus, difference);
     fputs("  how large together:  ", stdout);
-    print_range(list, sum, turned(pair->minus[1]), pair->plus[0]);
+    print_range(list, plus, sum);
 }
 
 /* Asks the library for what two events of the list imply about each other. */

@@ -94,8 +94,52 @@ static void print_counting(void)
     puts("\nIndexes and rules count from 0, lines from 1. A rule with = counts as two.");
 }
 
+/* What is wrong, in a word for programs. */
+static const char *const reasons[] = {
+    [TOO_FEW] = "too_few",
+    [BAD_KIND] = "bad_kind",
+    [BAD_COUNTS] = "bad_counts",
+    [BAD_LENGTH] = "bad_length",
+    [NO_RULE] = "no_rule",
+    [NO_SIDE] = "no_side",
+    [NO_STEPS] = "no_steps",
+    [HAS_EVENTS] = "has_events",
+    [IS_TRUE] = "is_true",
+    [IS_ODD] = "is_odd",
+    [NOT_JOINED] = "not_joined",
+    [FIRST_ENDS_WRONG] = "first_ends_wrong",
+    [LAST_ENDS_WRONG] = "last_ends_wrong",
+    [NOT_LOW] = "not_low",
+};
+
+static void write_broken(const struct proposal *proposal, struct fault fault)
+{
+    json_begin("no");
+    json_object("breaks");
+    json_integer("index", (int64_t)fault.place);
+    json_bound("number", fault.place < proposal->count ? proposal->numbers[fault.place]
+                                                       : UTVPI_NO_LEAST);
+    json_string("reason", reasons[fault.reason]);
+    json_close();
+}
+
+static void write_misnamed(const struct proposal *proposal, size_t place)
+{
+    bool counted = proposal->named_count == proposal->count - 3;
+    json_begin("no");
+    json_object("misnamed");
+    json_bound("index", counted ? (int64_t)place : UTVPI_NO_LEAST);
+    json_bound("named", counted ? proposal->named[place] : UTVPI_NO_LEAST);
+    json_bound("identifier", counted ? proposal->identifiers[place] : UTVPI_NO_LEAST);
+    json_close();
+}
+
 void print_broken(const struct list *list, const struct proposal *proposal, struct fault fault)
 {
+    if (json_wanted) {
+        write_broken(proposal, fault);
+        return;
+    }
     printf("No. The refutation shows nothing. It breaks at index %zu, ", fault.place);
     if (fault.place < proposal->count) {
         printf("the number %" PRIu32 ":\n\n", proposal->numbers[fault.place]);
@@ -109,7 +153,7 @@ void print_broken(const struct list *list, const struct proposal *proposal, stru
     } else if (fault.reason <= LAST_ENDS_WRONG) {
         print_walk_fault(list, proposal, fault);
     } else {
-        print_walks(list, proposal->numbers, proposal->identifiers);
+        print_walks(list, proposal->numbers);
         puts("  The sums are not low enough: the rules have to add up to something false.");
     }
     print_counting();
@@ -120,6 +164,10 @@ void print_broken(const struct list *list, const struct proposal *proposal, stru
 void print_misnamed(const struct list *list, const struct proposal *proposal, size_t place)
 {
     size_t steps = proposal->count - 3;
+    if (json_wanted) {
+        write_misnamed(proposal, place);
+        return;
+    }
     puts("No. The refutation is right, but the identifiers beside it are not those of its"
          " rules:\n");
     if (proposal->named_count != steps) {

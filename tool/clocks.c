@@ -5,8 +5,6 @@
 #include <stdlib.h>
 #include <string.h>
 
-static const char clock_word[] = "clock";
-
 static const char clock_advice[] =
     "write how many seconds a tick lasts, such as clock left = 0.00001 s per tick, or how many"
     " ticks a second has, such as clock left = 100000 ticks per s";
@@ -17,23 +15,9 @@ static const char *const units[][3] = {
     [UTVPI_TICKS_PER_SECOND] = {"ticks", "per", "s"},
 };
 
-/* Takes so many characters off the rest, and the blanks behind them. */
-static struct text take_off(struct text *rest, size_t length)
-{
-    struct text part = {rest->at, length};
-    *rest = trim((struct text){rest->at + length, rest->length - length});
-    return part;
-}
-
-/* Whether a line is a clock and no rule: the word, and a name behind it. So an event may
- * be called clock, too. */
 bool is_clock(struct text line)
 {
-    if (!begins_with_word(line, clock_word)) {
-        return false;
-    }
-    take_off(&line, strlen(clock_word));
-    return line.length > 0 && is_letter(line.at[0]);
+    return is_definition(line, "clock");
 }
 
 static struct text take_part(struct text *rest)
@@ -43,11 +27,6 @@ static struct text take_part(struct text *rest)
         length++;
     }
     return take_off(rest, length);
-}
-
-static bool is_same(struct text one, struct text other)
-{
-    return one.length == other.length && memcmp(one.at, other.at, one.length) == 0;
 }
 
 /* Reads what the number counts, all that is left of the line. */
@@ -117,13 +96,8 @@ static bool read_rate(struct text part, double *rate)
 static bool read_name(const struct list *list, struct origin origin, struct text *rest,
                       struct text *name)
 {
-    *rest = origin.rule;
-    take_off(rest, strlen(clock_word));
-    *name = take_off(rest, name_length(*rest));
-    if (name->length > MOST_NAME) {
-        return wrong(list, origin, *name,
-                     "is a name of more than " AS_TEXT(MOST_NAME) " characters",
-                     "choose a shorter name");
+    if (!read_defined(list, origin, clock_advice, rest, name)) {
+        return false;
     }
     for (size_t at = 0; at < list->clock_count; at++) {
         if (is_same(list->clocks[at].name, *name)) {
@@ -131,10 +105,6 @@ static bool read_name(const struct list *list, struct origin origin, struct text
                          "give each recorder one clock");
         }
     }
-    if (rest->length == 0 || rest->at[0] != '=') {
-        return wrong(list, origin, *name, "has no = behind it", clock_advice);
-    }
-    take_off(rest, 1);
     return true;
 }
 
@@ -173,9 +143,8 @@ size_t clock_of(const struct list *list, uint64_t variable)
 {
     size_t found = list->clock_count, longest = 0;
     for (size_t at = 0; at < list->clock_count; at++) {
-        struct text name = list->clocks[at].name, event = list->names[variable];
-        if (event.length > name.length && event.at[name.length] == '.' &&
-            memcmp(event.at, name.at, name.length) == 0 && name.length > longest) {
+        struct text name = list->clocks[at].name;
+        if (belongs_to(list->names[variable], name) && name.length > longest) {
             longest = name.length;
             found = at;
         }

@@ -25,6 +25,28 @@ static int64_t left_side(const int32_t *line, const int32_t *values)
     return sum;
 }
 
+/* Writes that the values break a line of the rule asked about. */
+static void write_broken_line(const struct list *list, const int32_t *line, int64_t value)
+{
+    json_begin("no");
+    json_text("rule", list->at_hand.rule);
+    json_values(list, model);
+    json_object("broken");
+    json_array("terms");
+    for (int at = 0; at < BOUND; at += 2) {
+        if (line[at] != 0) {
+            json_object(NULL);
+            json_event("event", list, (uint64_t)line[at + 1]);
+            json_integer("sign", line[at]);
+            json_close();
+        }
+    }
+    json_close();
+    json_integer("at_most", bound_of(list, line));
+    json_integer("value", value);
+    json_close();
+}
+
 /* Whether deciding agrees that a line is implied: with its opposite, the rules clash. */
 static bool is_implied(struct list *list, const int32_t *line)
 {
@@ -36,6 +58,12 @@ static bool is_implied(struct list *list, const int32_t *line)
 /* Prints the values, and that they break a line of the rule asked about. */
 static void print_broken_line(const struct list *list, const int32_t *line)
 {
+    int64_t bound = bound_of(list, line);
+    int64_t value = left_side(line, model) + (bound - line[BOUND]);
+    if (json_wanted) {
+        write_broken_line(list, line, value);
+        return;
+    }
     if (list->variables == 0) {
         fputs("No. There are no events, and no rule is false but ", stdout);
         show(stdout, list->at_hand.rule);
@@ -48,8 +76,7 @@ static void print_broken_line(const struct list *list, const int32_t *line)
     print_values(list, model);
     fputs("\nThe rule says ", stdout);
     print_terms(list, line, 1);
-    printf(" <= %" PRId32 ", but there it is %" PRId64 ".\n", line[BOUND],
-           left_side(line, model));
+    printf(" <= %" PRId64 ", but there it is %" PRId64 ".\n", bound, value);
 }
 
 /* Says that a line of the rule asked about is not implied, once the values are found to
@@ -107,10 +134,11 @@ static bool read_at_hand(struct list *list)
 {
     struct origin origin = list->at_hand;
     uint64_t events = list->variables;
-    bool in_words = has_relation(origin.rule) && !is_clock(origin.rule);
+    bool in_words =
+        has_relation(origin.rule) && !is_clock(origin.rule) && !is_origin(origin.rule);
     if (!in_words && (list->form == FORM_NAMES || origin.rule.length == 0 ||
                       is_letter(origin.rule.at[0]))) {
-        return wrong(list, (struct origin){0, {"", 0}}, origin.rule,
+        return wrong(list, nowhere, origin.rule,
                      origin.rule.length > 0 ? "is no rule in words" : "the rule is empty",
                      "write one such as \"door - lamp <= -5\" or, where the rules of the file are"
                      " numbers, such as \"1 0 -1 1 -5 0\"");
@@ -129,7 +157,8 @@ static bool read_asked(struct list *list, const char *rule, struct asked *asked)
 {
     const char *file = list->file;
     size_t count = list->count;
-    list->at_hand = (struct origin){0, trim((struct text){rule, strlen(rule)})};
+    list->at_hand = nowhere;
+    list->at_hand.rule = trim(text_of(rule));
     list->file = asked_for;
     bool read = read_at_hand(list);
     asked->count = list->count - count;
@@ -154,7 +183,10 @@ int answer_implies(struct list *list, const char *rule)
     for (size_t at = 0; status == STATUS_YES && at < asked.count; at++) {
         status = ask_line(list, asked.lines[at]);
     }
-    if (status == STATUS_YES) {
+    if (status == STATUS_YES && json_wanted) {
+        json_begin("yes");
+        json_text("rule", list->at_hand.rule);
+    } else if (status == STATUS_YES) {
         fputs("Yes. All values that meet the rules meet ", stdout);
         show(stdout, list->at_hand.rule);
         puts(", too.");

@@ -13,8 +13,8 @@ const char identifier_advice[] =
     "give the message's own number, from 0 to " AS_TEXT(UTVPI_MOST_IDENTIFIER)
     ", without a flag that a tool may have added to it, such as 0x80000000";
 
-/* Takes digits off the rest. The value stops growing only where 32 bits hold it
- * with neither sign, so that a number that is too large stays too large. False
+/* Takes digits off the rest. The value stops growing only where it is larger than all
+ * that may stand anywhere, so that a number that is too large stays too large. False
  * where no digit stands. */
 bool scan_magnitude(struct text *rest, int64_t *value)
 {
@@ -23,9 +23,7 @@ bool scan_magnitude(struct text *rest, int64_t *value)
     }
     *value = 0;
     while (rest->length > 0 && is_digit(rest->at[0])) {
-        if (*value <= UINT32_MAX) {
-            *value = 10 * *value + (rest->at[0] - '0');
-        }
+        *value = *value > MOST_NUMBER / 10 ? MOST_NUMBER + 1 : 10 * *value + (rest->at[0] - '0');
         rest->at++;
         rest->length--;
     }

@@ -116,7 +116,7 @@ static bool read_identifiers(struct proposal *proposal, struct origin origin)
 bool read_proposal(struct proposal *proposal)
 {
     struct text rest = skip_mark(proposal->input);
-    struct origin origin = {0, nothing};
+    struct origin origin = nowhere;
     bool after_comma = false;
     while (rest.length > 0 && proposal->count <= UTVPI_MOST_REFUTATION) {
         if (!next_line(proposal->file, &rest, &origin)) {

@@ -1,30 +1,17 @@
 /* What the questions about all the ways to meet the rules share: a list that the library
- * takes, the names of its events, and deciding and its checkers, to which every answer is
- * held before it is printed. */
+ * takes, and deciding and its checkers, to which every answer is held before it is
+ * printed. */
 #include "list.h"
-
-static const struct text nothing = {"", 0};
 
 const char no_event[] = "is no event of the rules";
 const char event_advice[] =
     "name events as utvpi prints them for the same rules; those of numbers and records are"
     " called x0, x1 and so on";
 
-/* The names of events: in numbers and records those by which they are printed. The list
- * is one that the library takes. */
-static void name_events(struct list *list)
-{
-    static char named[UTVPI_MOST_VARIABLES][MOST_NAME + 1];
-    for (size_t v = 0; list->form != FORM_NAMES && v < list->variables; v++) {
-        int length = snprintf(named[v], sizeof named[v], "x%zu", v);
-        list->names[v] = (struct text){named[v], (size_t)length};
-    }
-}
-
-/* Makes the list ready to be asked about: gives its events names. Says what is wrong
- * where the library refuses it, and gives back a status. No numbers of a refutation are
- * too many, so that nothing but the list is refused. */
-int take_questions(struct list *list)
+/* Makes sure that the list can be asked about. Says what is wrong where the library refuses
+ * it, and gives back a status. No numbers of a refutation are too many, so that nothing but
+ * the list is refused. */
+int take_questions(const struct list *list)
 {
     int64_t result = utvpi_refutation_end(utvpi_refutation_begin(), list->variables,
                                           numbers_of(list), length_of(list));
@@ -33,11 +20,8 @@ int take_questions(struct list *list)
                       (size_t)UTVPI_REFUSAL_PLACE(result));
         return STATUS_BAD;
     }
-    if (!within_limits(list)) {
-        return disagree("the library took a list that is beyond its limits");
-    }
-    name_events(list);
-    return STATUS_YES;
+    return within_limits(list) ? STATUS_YES
+                               : disagree("the library took a list that is beyond its limits");
 }
 
 /* Whether the answer on the list with a line more is as expected, a yes or a no. It is
@@ -53,7 +37,7 @@ bool is_answered(struct list *list, const int64_t line[UTVPI_LINE_NUMBERS], int 
     for (size_t at = 0; at < UTVPI_LINE_NUMBERS; at++) {
         numbers[at] = (int32_t)line[at];
     }
-    if (!add_line(list, (struct origin){0, nothing}, numbers)) {
+    if (!add_line(list, nowhere, numbers)) {
         return false;
     }
     int status = answer(list, UNPRINTED);

@@ -4,6 +4,7 @@
  * without it, and one of kind 3, without a body, is the end. */
 #include "list.h"
 
+#include <stdlib.h>
 #include <string.h>
 
 /* The length of the body for each kind. */
@@ -107,24 +108,28 @@ static struct damage first_damage(struct text input)
     return fault;
 }
 
-/* Where the record is that --text prints as this line, counted from 1. */
-size_t record_of(const struct list *list, size_t line)
+/* Makes room for the text of all lines, and of how many variables there are. */
+static bool make_shown(struct source *source)
 {
-    size_t at = 0;
-    for (size_t before = 1; before < line; before++) {
-        at = next_record(list->input, at);
+    size_t lines = 1;
+    for (size_t at = 0; at < source->input.length; at = next_record(source->input, at)) {
+        lines++;
     }
-    return at;
+    source->shown = malloc(lines * sizeof source->shown[0]);
+    return source->shown != NULL;
 }
 
-static void read_count(struct list *list)
+static void read_count(struct list *list, struct source *source)
 {
-    char *shown = list->shown[0];
-    list->form = FORM_NUMBERS;
     list->declared = true;
-    list->variables = number_at(list->input, 0, 0);
-    int length = snprintf(shown, MOST_SHOWN_LINE, "variables %" PRIu64, list->variables);
-    list->variables_from = (struct origin){1, {shown, (size_t)length}};
+    list->variables = number_at(source->input, 0, 0);
+    int length = snprintf(source->shown[0], MOST_SHOWN_LINE, "variables %" PRIu64,
+                          list->variables);
+    list->variables_from = (struct origin){.line = 1,
+                                           .rule = {source->shown[0], (size_t)length},
+                                           .comment = nowhere.comment,
+                                           .file = source->file,
+                                           .record = 1};
 }
 
 /* Writes a line as text, its numbers with a blank between them, and says how many
@@ -139,36 +144,42 @@ size_t show_line(char shown[MOST_SHOWN_LINE], const int32_t line[UTVPI_LINE_NUMB
     return length;
 }
 
-/* Adds the line in the record at an offset, and makes the text that it has none of.
- * What the record leaves out, the identifier, is 0. */
-static bool read_line(struct list *list, size_t at)
+/* Adds the line in the record at an offset, and makes the text that it has none of: that
+ * of so many lines before it and one. What the record leaves out, the identifier, is 0. */
+static bool read_line(struct list *list, struct source *source, size_t at, size_t before)
 {
-    char *shown = list->shown[1 + list->count];
+    char *shown = source->shown[before];
     int32_t line[UTVPI_LINE_NUMBERS] = {0};
-    for (size_t place = 0; 4 * place < body_of[kind_at(list->input, at)]; place++) {
-        line[place] = with_sign(number_at(list->input, at, place));
+    for (size_t place = 0; 4 * place < body_of[kind_at(source->input, at)]; place++) {
+        line[place] = with_sign(number_at(source->input, at, place));
     }
-    size_t length = show_line(shown, line);
-    return add_line(list, (struct origin){2 + list->count, {shown, length}}, line);
+    struct origin origin = {.line = before + 1,
+                            .rule = {shown, show_line(shown, line)},
+                            .comment = nowhere.comment,
+                            .file = source->file,
+                            .record = at + 1};
+    return add_line(list, origin, line);
 }
 
-/* Reads the input, which is records. Of too many lines one is enough to be
- * refused, so that the rest is left out. */
-bool read_records(struct list *list)
+/* Reads a file that is records, behind others that have no rules in words. */
+void read_records(struct list *list, struct source *source)
 {
-    struct damage fault = first_damage(list->input);
-    list->records = true;
+    struct damage fault = first_damage(source->input);
     if (fault.number != 0) {
-        print_fault(list, fault.number, fault.at);
-        return false;
+        print_fault(source->file, fault.number, fault.at);
+        return;
     }
-    size_t end = fault.at - UTVPI_RECORD_HEAD;
-    read_count(list);
-    for (size_t at = next_record(list->input, 0); at < end && list->count <= UTVPI_MOST_LINES;
-         at = next_record(list->input, at)) {
-        if (!read_line(list, at)) {
-            return false;
-        }
+    if (!settle_form(list, (struct origin){.line = 1, .file = source->file, .record = 1},
+                     FORM_NUMBERS) ||
+        (!make_shown(source) && !no_memory(list))) {
+        return;
     }
-    return true;
+    size_t end = fault.at - UTVPI_RECORD_HEAD, before = 1;
+    bool added = true;
+    read_count(list, source);
+    for (size_t at = next_record(source->input, 0); at < end && added;
+         at = next_record(source->input, at)) {
+        added = read_line(list, source, at, before);
+        before++;
+    }
 }

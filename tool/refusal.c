@@ -18,13 +18,20 @@ struct words {
     enum about about;
 };
 
+static const char fault[] = "this is a fault of this program, not of the file: report it";
+
+/* The words on a refusal that no file can bring about: the library's. */
+static struct words words_of_fault(enum utvpi_refusal number)
+{
+    return (struct words){utvpi_refusal_text((int)number), fault, NOTHING};
+}
+
 /* The table of refusals. What a file can't bring about is said in the library's words. A
  * number of the library's header that has no row here is an error, whatever the compiler's
  * options are. */
 #pragma GCC diagnostic error "-Wswitch"
 static struct words words_of(enum utvpi_refusal number)
 {
-    static const char fault[] = "this is a fault of this program, not of the file: report it";
     static const char again[] = "look for a damaged part, or get the file again";
     static char length[160];
     switch (number) {
@@ -32,12 +39,12 @@ static struct words words_of(enum utvpi_refusal number)
         return (struct words){"there are more than " AS_TEXT(UTVPI_MOST_VARIABLES) " events",
                               "use fewer, or decide parts that share no event one by one",
                               VARIABLES};
-    case UTVPI_BROKEN_LIST_LENGTH:
-        return (struct words){utvpi_refusal_text(number), fault, NOTHING};
     case UTVPI_TOO_MANY_LINES:
         return (struct words){"there are more than " AS_TEXT(UTVPI_MOST_LINES)
                               " rules; one with = counts twice",
-                              "leave out rules that add nothing", RULE_TOO_MANY};
+                              "leave out rules that add nothing, or decide parts that share no"
+                              " event one by one",
+                              RULE_TOO_MANY};
     case UTVPI_BAD_COEFFICIENT:
         return (struct words){"a coefficient, the first or third number, is not -1, 0 or 1",
                               "correct it, or write the rule in another way", RULE_AT_PLACE};
@@ -49,16 +56,8 @@ static struct words words_of(enum utvpi_refusal number)
                               RULE_AT_PLACE};
     case UTVPI_BAD_BOUND:
         return (struct words){"the bound is below -1,000,000 or above 1,000,000",
-                              "choose a coarser unit, or an origin nearer to the values",
+                              "choose a coarser unit",
                               RULE_AT_PLACE};
-    case UTVPI_SHORT_OUTPUT:
-        return (struct words){utvpi_refusal_text(number), fault, NOTHING};
-    case UTVPI_SHORT_WORK_AREA:
-        return (struct words){utvpi_refusal_text(number), fault, NOTHING};
-    case UTVPI_BAD_MODEL_LENGTH:
-        return (struct words){utvpi_refusal_text(number), fault, NOTHING};
-    case UTVPI_BAD_MODEL_VALUE:
-        return (struct words){utvpi_refusal_text(number), fault, NOTHING};
     case UTVPI_LONG_REFUTATION:
         return (struct words){"the refutation has more than " AS_TEXT(UTVPI_MOST_REFUTATION)
                               " numbers",
@@ -95,8 +94,6 @@ static struct words words_of(enum utvpi_refusal number)
     case UTVPI_RECORD_AFTER_END:
         return (struct words){"something follows the record that ends the list",
                               "cut the file off at this byte, or get it again", NOTHING};
-    case UTVPI_NO_ROOM:
-        return (struct words){utvpi_refusal_text(number), fault, NOTHING};
     case UTVPI_RECORD_NO_IDENTIFIER:
         return (struct words){"this record is a line of kind 4, and its identifier is 0",
                               "write the line as kind 2, which has no identifier, or look for a"
@@ -122,49 +119,57 @@ static struct words words_of(enum utvpi_refusal number)
                               " eithers stand inside each other",
                               "write the alternatives of an inner either as some of the outer",
                               NODE_AT_PLACE};
-    case UTVPI_NO_SUCH_CHOICE:
-        return (struct words){utvpi_refusal_text(number), fault, NOTHING};
     case UTVPI_BAD_CLOCK:
         return (struct words){"the clock's number is not above 0, or a float can't hold it",
                               "say how many seconds a tick lasts, or how many ticks a second has",
                               LAST_CLOCK};
-    case UTVPI_BAD_COUNT:
-        return (struct words){utvpi_refusal_text(number), fault, NOTHING};
-    case UTVPI_SHORT_SECONDS:
-        return (struct words){utvpi_refusal_text(number), fault, NOTHING};
-    case UTVPI_BAD_RECORDER:
-        return (struct words){utvpi_refusal_text(number), fault, NOTHING};
     case UTVPI_BAD_TABLE:
         return (struct words){"there are more than " AS_TEXT(UTVPI_MOST_RECORDERS) " clocks",
                               "leave out clocks that no event has, or decide parts that share no"
                               " event one by one",
                               LAST_CLOCK};
+    case UTVPI_BROKEN_LIST_LENGTH:
+    case UTVPI_SHORT_OUTPUT:
+    case UTVPI_SHORT_WORK_AREA:
+    case UTVPI_BAD_MODEL_LENGTH:
+    case UTVPI_BAD_MODEL_VALUE:
+    case UTVPI_NO_ROOM:
+    case UTVPI_NO_SUCH_CHOICE:
+    case UTVPI_BAD_COUNT:
+    case UTVPI_SHORT_SECONDS:
+    case UTVPI_BAD_RECORDER:
+        return words_of_fault(number);
     }
     return (struct words){"this number is not known", fault, NOTHING};
 }
 
 /* Prints a refusal of records, and the byte where the record begins. */
-void print_fault(const struct list *list, int number, size_t at)
+void print_fault(const char *file, int number, size_t at)
 {
-    struct words words = words_of(number);
-    fprintf(stderr, "utvpi: %s, byte %zu: refused with number %d, place %zu: %s.\n", list->file,
-            at, number, at, words.what);
-    fprintf(stderr, "  What to do: %s.\n", words.advice);
+    struct words words = words_of((enum utvpi_refusal)number);
+    struct origin origin = nowhere;
+    origin.record = at + 1;
+    report((struct problem){.file = file,
+                            .origin = origin,
+                            .number = number,
+                            .place = at,
+                            .what = words.what,
+                            .advice = words.advice});
 }
 
-/* The line of the tree that a refusal is about. */
-static size_t line_in_tree(const struct tree *tree, enum about about, size_t place)
+/* Where the part of the tree stands that a refusal is about. */
+static struct origin origin_in_tree(const struct tree *tree, enum about about, size_t place)
 {
     if (about == EITHER_TOO_MANY) {
-        return tree->too_many_line;
+        return origin_of_node(tree, tree->too_many);
     }
-    return about == NODE_AT_PLACE && place / 2 < tree->count ? tree->nodes[place / 2].line : 0;
+    return about == NODE_AT_PLACE && place / 2 < tree->count ? origin_of_node(tree, place / 2)
+                                                             : nowhere;
 }
 
 /* The rule that a refusal is about; line 0 where it is about none. */
 static struct origin offender(const struct list *list, enum about about, size_t place)
 {
-    struct origin none = {line_in_tree(&list->tree, about, place), {"", 0}};
     if (about == VARIABLES) {
         return list->variables_from;
     }
@@ -180,24 +185,24 @@ static struct origin offender(const struct list *list, enum about about, size_t 
     if (about == RULE_AT_PLACE) {
         return place < list->count ? list->origins[place] : list->at_hand;
     }
-    return none;
+    return origin_in_tree(&list->tree, about, place);
 }
 
 /* Prints a refusal of what stands in this file: the list, or a refutation of it. */
 void print_refusal(const struct list *list, const char *file, int number, size_t place)
 {
-    struct words words = words_of(number);
+    struct words words = words_of((enum utvpi_refusal)number);
     struct origin origin = offender(list, words.about, place);
-    fprintf(stderr, "utvpi: %s", file);
-    if (origin.line > 0) {
-        fprintf(stderr, list->records ? ", byte %zu" : ", line %zu",
-                list->records ? record_of(list, origin.line) : origin.line);
+    struct problem problem = {.file = origin.line > 0 ? origin.file : file,
+                              .origin = origin,
+                              .number = number,
+                              .place = place,
+                              .what = words.what,
+                              .advice = words.advice};
+    const int32_t *line = list->numbers + UTVPI_LINE_NUMBERS * place;
+    if (number == UTVPI_BAD_BOUND && list->form == FORM_NAMES && place < list->count &&
+        line[0] != 0) {
+        advise_origin(&problem, list->names[line[1]], line[0] * bound_of(list, line));
     }
-    fprintf(stderr, ": refused with number %d, place %zu: %s.\n", number, place, words.what);
-    if (origin.rule.length > 0) {
-        fputs("  The rule: ", stderr);
-        show(stderr, origin.rule);
-        fputc('\n', stderr);
-    }
-    fprintf(stderr, "  What to do: %s.\n", words.advice);
+    report(problem);
 }

@@ -6,6 +6,11 @@
 #include <stdlib.h>
 #include <string.h>
 
+/* The most digits that a float needs; C99 does not name them. */
+#ifndef DBL_DECIMAL_DIG
+#define DBL_DECIMAL_DIG (DBL_DIG + 2)
+#endif
+
 /* The most characters of a float, with a zero: a sign, the digits, a point, an exponent. */
 #define MOST_FLOAT 32
 
@@ -144,4 +149,32 @@ void print_seconds(const struct list *list, enum column column, uint64_t variabl
     if (list->clock_count > 0) {
         printf("  %*s", widths[column], texts[column][variable]);
     }
+}
+
+/* The seconds of an event as they are written for programs: NULL where there are none, and
+ * beyond all floats, which is read as an infinity, where they are infinite. */
+const char *seconds_text(enum column column, uint64_t variable)
+{
+    const char *text = texts[column][variable];
+    if (strcmp(text, "-") == 0 || strcmp(text, "none") == 0) {
+        return NULL;
+    }
+    return strcmp(text, "inf") == 0 ? "1e999" : strcmp(text, "-inf") == 0 ? "-1e999" : text;
+}
+
+/* Writes an event's seconds, of as many columns, as the member seconds: null where it has
+ * no clock. */
+void json_seconds(const struct list *list, uint64_t variable, int columns)
+{
+    static const char *const keys[COLUMNS] = {"value", "least", "greatest"};
+    if (clock_of(list, variable) == list->clock_count) {
+        json_null("seconds");
+        return;
+    }
+    json_object("seconds");
+    for (int column = VALUE; column < columns; column++) {
+        const char *text = seconds_text((enum column)column, variable);
+        json_number(keys[column], text == NULL ? "null" : text);
+    }
+    json_close();
 }

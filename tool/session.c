@@ -10,19 +10,20 @@
 
 static const struct text nothing = {"", 0};
 
-/* What a list was before a line of the input was read. What that brings, lines, names
- * and a clock, stands behind the others: how many there were is enough to go back. */
+/* What a list was before a line of the input was read. What that brings, lines, names, a
+ * clock or an origin, stands behind the others: how many there were is enough to go back. */
 struct before {
     size_t count;
     size_t clock_count;
+    size_t base_count;
     uint64_t variables;
     struct origin variables_from;
     bool declared;
     enum form form;
-    size_t form_line;
+    struct origin form_from;
 };
 
-/* A line of the input that was taken: a rule, a clock, or how many variables there are.
+/* A line of the input that was taken: a rule, a clock, an origin, or how many variables.
  * The list points into its text. */
 struct entry {
     struct text input;
@@ -52,20 +53,22 @@ struct session {
 
 static struct before before_now(const struct list *list)
 {
-    return (struct before){list->count,          list->clock_count, list->variables,
-                           list->variables_from, list->declared,    list->form,
-                           list->form_line};
+    return (struct before){list->count,          list->clock_count, list->base_count,
+                           list->variables,      list->variables_from, list->declared,
+                           list->form,           list->form_from};
 }
 
 static void go_back(struct list *list, struct before before)
 {
     list->count = before.count;
     list->clock_count = before.clock_count;
+    list->base_count = before.base_count;
     list->variables = before.variables;
     list->variables_from = before.variables_from;
     list->declared = before.declared;
     list->form = before.form;
-    list->form_line = before.form_line;
+    list->form_from = before.form_from;
+    list->form_broken = false;
 }
 
 /* Starts the library's session for as many variables as the list asks for, where that
@@ -132,9 +135,7 @@ static bool has_room(struct session *session)
         size_t longer = session->room == 0 ? 64 : 2 * session->room;
         struct entry *entries = realloc(session->entries, longer * sizeof *entries);
         if (entries == NULL) {
-            return wrong(&session->list, session->list.at_hand, nothing,
-                         "there is not enough memory for so many rules",
-                         "leave out rules that add nothing");
+            return no_memory(&session->list);
         }
         session->entries = entries;
         session->room = longer;
@@ -148,10 +149,10 @@ static bool may_be_rule(const struct session *session, struct origin origin)
 {
     const struct list *list = &session->list;
     struct text line = origin.rule;
-    if (session->clash && is_clock(line)) {
+    if (session->clash && (is_clock(line) || is_origin(line))) {
         origin.rule = nothing;
         return wrong(list, origin, line, "comes after rules that can't all be met",
-                     "withdraw the last of them with undo, and give the clock then");
+                     "withdraw the last of them with undo, and give the clock or origin then");
     }
     if (has_relation(line) || !is_letter(line.at[0]) || line.length > MOST_RULE) {
         return true;
@@ -163,7 +164,7 @@ static bool may_be_rule(const struct session *session, struct origin origin)
     }
     if (!begins_with_word(line, "variables")) {
         return wrong(list, origin, line,
-                     "is no rule, and none of the words show, list, undo and help",
+                     "is no rule, and none of the words show, order, list, undo and help",
                      "write a rule, such as door - lamp <= -5, or one of these words");
     }
     return list->count == 0 ||
@@ -198,14 +199,26 @@ static int take(struct session *session, struct text input)
     session->result = result;
     session->current = answered;
     session->clash = status == STATUS_NO;
-    if (session->clash) {
+    if (json_wanted && !answered) {
+        json_begin("taken");
+    } else if (session->clash && !json_wanted) {
         printf("\nTo go on, write undo: it withdraws line %zu.\n", origin.line);
     }
     return status;
 }
 
-static void print_entry(const char *before, struct origin origin)
+/* Prints a line of the input, behind something; of JSON it is a member, or, without a key,
+ * an element. */
+static void print_entry(const char *before, const char *key, struct origin origin)
 {
+    if (json_wanted) {
+        json_object(key);
+        json_integer("line", (int64_t)origin.line);
+        json_text("rule", origin.rule);
+        json_text_or_null("comment", origin.comment);
+        json_close();
+        return;
+    }
     printf("%sline %zu:  ", before, origin.line);
     show(stdout, origin.rule);
     putchar('\n');
@@ -227,14 +240,17 @@ static int undo(struct session *session)
     if (status == STATUS_YES) {
         session->count--;
         session->clash = false;
-        print_entry("Withdrawn: ", last.origin);
+        if (json_wanted) {
+            json_begin("withdrawn");
+        }
+        print_entry("Withdrawn: ", "withdrawn", last.origin);
         free((void *)last.input.at);
     }
     return status;
 }
 
-/* Prints the answer so far: the last one, or, where its last rule was withdrawn, one
- * that is found afresh. Gives back a status. */
+/* Prints the answer so far: the last one, or, where its last rule was withdrawn or it was
+ * put in order, one that is found afresh. Gives back a status. */
 static int show_answer(const struct session *session)
 {
     return session->current
@@ -244,11 +260,24 @@ static int show_answer(const struct session *session)
 
 static void print_entries(const struct session *session)
 {
-    if (session->count == 0) {
+    if (json_wanted) {
+        json_begin("list");
+        json_array("list");
+    } else if (session->count == 0) {
         puts("There are no rules.");
     }
     for (size_t at = 0; at < session->count; at++) {
-        print_entry("  ", session->entries[at].origin);
+        print_entry("  ", NULL, session->entries[at].origin);
+    }
+}
+
+static void print_help(void)
+{
+    if (json_wanted) {
+        json_begin("help");
+        json_string("help", help_of_session);
+    } else {
+        fputs(help_of_session, stdout);
     }
 }
 
@@ -262,10 +291,14 @@ static int obey(struct session *session, struct text input)
     if (is_word(rule, "show")) {
         return show_answer(session);
     }
+    if (is_word(rule, "order")) {
+        session->current = false;
+        return answer_order(&session->list);
+    }
     if (is_word(rule, "list")) {
         print_entries(session);
     } else if (is_word(rule, "help")) {
-        fputs(help_of_session, stdout);
+        print_help();
     } else if (rule.length > 0) {
         return take(session, input);
     }
@@ -278,7 +311,10 @@ static int read_input(struct session *session, struct text input)
 {
     struct list *list = &session->list;
     struct text rest = list->at_hand.line == 0 ? skip_mark(input) : input;
-    return next_line(list->file, &rest, &list->at_hand) ? obey(session, input) : STATUS_BAD;
+    json_line = list->at_hand.line + 1;
+    int status = next_line(list->file, &rest, &list->at_hand) ? obey(session, input) : STATUS_BAD;
+    json_end();
+    return status;
 }
 
 /* Reads lines up to the end of the input, or up to an answer that can't be trusted, and
@@ -315,14 +351,14 @@ static int converse(struct session *session, bool at_terminal)
 int run_session(const char *file)
 {
     static struct session session = {.n = UINT64_MAX};
-    bool at_terminal = isatty(STDIN_FILENO) && isatty(STDOUT_FILENO);
+    bool at_terminal = isatty(STDIN_FILENO) && isatty(STDOUT_FILENO) && !json_wanted;
     session.list.file = file;
     session.work = take_work_area(file, UTVPI_MOST_VARIABLES);
     if (session.work == NULL) {
         return STATUS_BAD;
     }
     if (at_terminal) {
-        puts("Write a rule, or one of the words show, list, undo and help. Ctrl-D ends it.");
+        puts("Write a rule, or one of the words show, order, list, undo and help. Ctrl-D ends it.");
     }
     int status = UTVPI_IS_YES(start(&session)) ? converse(&session, at_terminal)
                                                : disagree("the library did not start a session");

@@ -13,11 +13,30 @@ uint32_t identifier_of(const struct list *list, uint32_t step)
     return (uint32_t)line_of(list, step)[IDENTIFIER];
 }
 
+/* How often a step counts its line: a line on one variable counts twice, so that
+ * every step takes in two terms. */
+int times(const int32_t *line)
+{
+    return (line[0] == 0) != (line[2] == 0) ? 2 : 1;
+}
+
+/* The weight of its steps. */
+int64_t weight_of(const int32_t *line)
+{
+    return (int64_t)times(line) * line[BOUND];
+}
+
 /* The point with the other sign. */
 struct point opposite(struct point point)
 {
     point.sign = -point.sign;
     return point;
+}
+
+/* Its number among all points: those of an event follow each other. */
+size_t number_of_point(struct point point)
+{
+    return 2 * (size_t)point.variable + (point.sign < 0 ? 1 : 0);
 }
 
 bool same_point(struct point one, struct point other)

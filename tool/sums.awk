@@ -1,8 +1,8 @@
-# Reads a file of rules, then what the tool printed about it, and checks a no, or a
-# yes on a refutation: each quoted rule stands in the line named, with the identifier
-# beside it, the rules add up to the sums printed, and these to something false; with
-# can_hold, to something that is not. Takes line_numbers, the numbers of a line, of
-# which the last is the identifier. Prints what is wrong, if anything.
+# Reads a file of rules, then what the tool printed about it, and checks a no on a
+# refutation whose sums are not low enough: each quoted rule stands in the line named, with
+# the identifier beside it, the rules add up to the sums printed, and these to something
+# that can hold. Takes line_numbers, the numbers of a line, of which the last is the
+# identifier. Prints what is wrong, if anything.
 
 # Adds a combination such as "x - 2*y <= 3" to sum[], and its bound to sum["<="].
 function add(text, sum,    part, count, at, sign, factor) {
@@ -66,10 +66,10 @@ FNR == NR {
     next
 }
 
-/^  line +[0-9]+:  / {
-    number = $2 + 0
-    text = $0
-    sub(/^  line +[0-9]+:  /, "", text)
+/^  [^ ]*:[0-9]+: / {
+    match($0, /:[0-9]+: */)
+    number = substr($0, RSTART + 1) + 0
+    text = substr($0, RSTART + RLENGTH)
     if (rule[number] == "" || index(text, rule[number] " ") != 1) {
         print "not in line " number ": " text
     }
@@ -81,7 +81,6 @@ FNR == NR {
     }
     sub(/^.* (says: |twice:)  /, "", text)
     add(text, walk)
-    false_alone = walk["<="] < 0
     steps++
 }
 
@@ -104,21 +103,21 @@ FNR == NR {
             both[key] += printed[key]
         }
         walks++
-    } else if ((bound >= 0) != can_hold) {
-        print "not as it says, false or not: " text
+    } else if (bound < 0) {
+        print "false, though it says that it can hold: " text
     }
     sums++
     split("", walk)
 }
 
 /^  Together: / {
-    if ($4 + 0 != halves || (halves >= 0) != can_hold || walks != 2) print "not so together: " $0
+    if ($4 + 0 != halves || halves < 0 || walks != 2) print "not so together: " $0
     for (key in both) if (both[key] != 0) print "does not cancel: " key
     together = 1
 }
 
 END {
     if (steps == 0) print "no rule is named"
-    if (sums == 0 && !(steps == 1 && false_alone)) print "nothing is false"
+    if (sums == 0) print "nothing is added up"
     if (walks > 0 && !together) print "nothing is put together"
 }

@@ -1,5 +1,5 @@
 /* The bytes of an input: loading them, the kinds of characters, showing a part of
- * them, in an error too, and cutting them into lines. */
+ * them, and cutting them into lines. */
 #include "list.h"
 
 #include <errno.h>
@@ -9,13 +9,14 @@
 /* The most characters of a text that are shown: a rule in full. */
 #define MOST_SHOWN MOST_RULE
 
+const struct origin nowhere = {0, {"", 0}, {"", 0}, NULL, 0};
+
 /* Says why the input could not be loaded, and drops what there is of it. Gives
  * back false. */
 static bool not_loaded(const char *file, char *bytes, const char *why)
 {
-    fprintf(stderr, "utvpi: %s: %s\n", file, why);
     free(bytes);
-    return false;
+    return wrong_in(file, nowhere, nowhere.rule, why, NULL);
 }
 
 /* Makes room for more bytes behind so many, from so many the first time. */
@@ -75,6 +76,33 @@ bool load_line(FILE *from, const char *file, struct text *line)
     return load_to(from, file, true, line);
 }
 
+struct text text_of(const char *string)
+{
+    return (struct text){string, strlen(string)};
+}
+
+/* How many bytes the character has with which a text begins, in UTF-8; 0 where it is
+ * none, or one that only controls. */
+size_t character_length(struct text text)
+{
+    unsigned char first = (unsigned char)text.at[0];
+    size_t length = first < 0x80 ? 1 : first < 0xE0 ? 2 : first < 0xF0 ? 3 : 4;
+    uint32_t code = length == 1 ? first : (uint32_t)first & (0x7Fu >> length);
+    static const uint32_t least[] = {0, 0x20, 0xA0, 0x800, 0x10000};
+    if ((first >= 0x80 && first < 0xC2) || first > 0xF4 || text.length < length || code == 0x7F) {
+        return 0;
+    }
+    for (size_t at = 1; at < length; at++) {
+        unsigned char next = (unsigned char)text.at[at];
+        if (next < 0x80 || next > 0xBF) {
+            return 0;
+        }
+        code = code << 6 | (next & 0x3Fu);
+    }
+    return code < least[length] || code > 0x10FFFF || (code >= 0xD800 && code < 0xE000) ? 0
+                                                                                       : length;
+}
+
 bool is_blank(char c)
 {
     return c == ' ' || c == '\t';
@@ -105,27 +133,24 @@ bool is_word(struct text text, const char *word)
     return text.length == strlen(word) && begins_with_word(text, word);
 }
 
+/* The place of the first of these characters that stands outside names in quotes; the
+ * length of the text where there is none. */
+size_t find_unquoted(struct text text, const char *characters)
+{
+    bool quoted = false;
+    for (size_t at = 0; at < text.length; at++) {
+        if (!quoted && strchr(characters, text.at[at]) != NULL) {
+            return at;
+        }
+        quoted = quoted != (text.at[at] == '"');
+    }
+    return text.length;
+}
+
 /* Whether a text has a sign that every rule in words has. */
 bool has_relation(struct text text)
 {
-    for (size_t at = 0; at < text.length; at++) {
-        if (text.at[at] == '<' || text.at[at] == '>' || text.at[at] == '=') {
-            return true;
-        }
-    }
-    return false;
-}
-
-/* How many characters the name has with which a text begins. */
-size_t name_length(struct text text)
-{
-    size_t length = 0;
-    while (length < text.length && (is_letter(text.at[length]) ||
-                                    (length > 0 && (is_digit(text.at[length]) ||
-                                                    text.at[length] == '.')))) {
-        length++;
-    }
-    return length;
+    return find_unquoted(text, "<>=") < text.length;
 }
 
 /* The text without the blanks around it. */
@@ -159,36 +184,20 @@ void show(FILE *to, struct text text)
     }
 }
 
-/* Says what is wrong in a line of a file, in none where that is 0, and what to do. The
- * part, where it is not empty, begins the sentence. Gives back false. */
-bool wrong_in(const char *file, struct origin origin, struct text part, const char *what,
-              const char *advice)
+/* Shows a comment, whose characters need not be plain ASCII. */
+void show_comment(FILE *to, struct text comment)
 {
-    fprintf(stderr, "utvpi: %s", file);
-    if (origin.line > 0) {
-        fprintf(stderr, ", line %zu", origin.line);
+    for (size_t at = 0; at < comment.length && at < MOST_SHOWN;) {
+        struct text rest = {comment.at + at, comment.length - at};
+        size_t length = character_length(rest);
+        if (length > 1) {
+            fwrite(rest.at, 1, length, to);
+        } else {
+            show(to, (struct text){rest.at, 1});
+        }
+        at += length > 1 ? length : 1;
     }
-    fputs(": ", stderr);
-    if (part.length > 0) {
-        fputc('"', stderr);
-        show(stderr, part);
-        fputs("\" ", stderr);
-    }
-    fprintf(stderr, "%s.\n", what);
-    if (origin.rule.length > 0) {
-        fputs("  The rule: ", stderr);
-        show(stderr, origin.rule);
-        fputc('\n', stderr);
-    }
-    fprintf(stderr, "  What to do: %s.\n", advice);
-    return false;
-}
-
-/* The same with a rule of the list. */
-bool wrong(const struct list *list, struct origin origin, struct text part, const char *what,
-           const char *advice)
-{
-    return wrong_in(list->file, origin, part, what, advice);
+    fputs(comment.length > MOST_SHOWN ? "..." : "", to);
 }
 
 /* The input without the mark that some editors put before a text. */
@@ -205,7 +214,8 @@ struct text skip_mark(struct text input)
  * look like one long comment. */
 static bool is_plain(const char *file, size_t number, struct text line)
 {
-    struct origin origin = {number, {"", 0}};
+    struct origin origin = nowhere;
+    origin.line = number;
     for (size_t at = 0; at < line.length; at++) {
         unsigned char c = (unsigned char)line.at[at];
         if ((c < 32 && c != '\t') || c == 127) {
@@ -218,8 +228,8 @@ static bool is_plain(const char *file, size_t number, struct text line)
     return true;
 }
 
-/* Takes the next line off the rest of the input: its number, one above the last,
- * and what stands there but for comment and blanks. False where it is no text. */
+/* Takes the next line off the rest of the input: its number, one above the last, what
+ * stands there but for blanks, and the comment apart. False where it is no text. */
 bool next_line(const char *file, struct text *rest, struct origin *origin)
 {
     const char *end = memchr(rest->at, '\n', rest->length);
@@ -234,10 +244,9 @@ bool next_line(const char *file, struct text *rest, struct origin *origin)
     if (!is_plain(file, origin->line, line)) {
         return false;
     }
-    const char *comment = memchr(line.at, '#', line.length);
-    if (comment != NULL) {
-        line.length = (size_t)(comment - line.at);
-    }
-    origin->rule = trim(line);
+    size_t length = find_unquoted(line, "#");
+    origin->file = file;
+    origin->comment = trim((struct text){line.at + length, line.length - length});
+    origin->rule = trim((struct text){line.at, length});
     return true;
 }

@@ -29,27 +29,37 @@ static int level_of(const struct tree *tree, size_t node)
     return level;
 }
 
-/* Prints what a yes says of a node that is taken, where it is an alternative or the first
- * line of a rule in one: the line of the file, and it, further in the more alternatives it
+/* Whether a yes names a node: one that is taken, and an alternative or the first line of a
+ * rule in one. */
+static bool is_named(const struct tree *tree, size_t at)
+{
+    const struct node *node = &tree->nodes[at];
+    bool rule = tree->numbers[2 * at] == UTVPI_LEAF && node->parent > 0 &&
+                tree->nodes[at - 1].line != node->line;
+    return node->taken && (is_alternative(tree, at) || rule);
+}
+
+/* How many characters the file and the line of a node take. */
+static int width_of(const struct node *node)
+{
+    return snprintf(NULL, 0, "%s:%zu", node->file, node->line);
+}
+
+/* Prints such a node: the line of the file, and it, further in the more alternatives it
  * stands in. */
 static void print_taken(const struct list *list, size_t at, int widest)
 {
     const struct tree *tree = &list->tree;
     const struct node *node = &tree->nodes[at];
     bool alternative = is_alternative(tree, at);
-    bool rule = tree->numbers[2 * at] == UTVPI_LEAF && node->parent > 0 &&
-                tree->nodes[at - 1].line != node->line;
-    if (alternative || rule) {
-        int digits = snprintf(NULL, 0, "%zu", node->line);
-        int blanks = 2 * level_of(tree, at) - (alternative ? 2 : 0);
-        printf("  %s:%zu: %*s", list->file, node->line, widest - digits + blanks, "");
-        if (alternative) {
-            print_alternative(tree, at);
-        } else {
-            show(stdout, list->origins[tree->numbers[2 * at + 1]].rule);
-        }
-        putchar('\n');
+    int blanks = 2 * level_of(tree, at) - (alternative ? 2 : 0);
+    printf("  %s:%zu: %*s", node->file, node->line, widest - width_of(node) + blanks, "");
+    if (alternative) {
+        print_alternative(tree, at);
+    } else {
+        show(stdout, list->origins[tree->numbers[2 * at + 1]].rule);
     }
+    putchar('\n');
 }
 
 /* Prints the first sentence of a yes, with the alternatives of the choice at hand and their
@@ -57,15 +67,63 @@ static void print_taken(const struct list *list, size_t at, int widest)
 void print_alternatives(const struct list *list)
 {
     const struct tree *tree = &list->tree;
-    int widest = snprintf(NULL, 0, "%zu", tree->nodes[tree->count - 1].line);
+    int widest = 0;
+    for (size_t at = 1; at < tree->count; at++) {
+        int width = is_named(tree, at) ? width_of(&tree->nodes[at]) : 0;
+        widest = width > widest ? width : widest;
+    }
     puts("Yes. Whole numbers meet all the rules with these alternatives, the first that can"
          " hold:\n");
     for (size_t at = 1; at < tree->count; at++) {
-        if (tree->nodes[at].taken) {
+        if (is_named(tree, at)) {
             print_taken(list, at, widest);
         }
     }
     fputs(list->variables > 0 ? "\n" : "", stdout);
+}
+
+/* Writes which alternative of its either a node is, as members of an object. */
+void json_alternative(const struct tree *tree, size_t at)
+{
+    const struct node *node = &tree->nodes[at];
+    json_string("file", node->file);
+    json_integer("line", (int64_t)node->line);
+    json_integer("alternative", (int64_t)node->ordinal + 1);
+    json_integer("of", tree->numbers[2 * node->parent + 1]);
+}
+
+/* Writes the rules of an alternative, those of eithers in it left out. */
+static void write_rules(const struct list *list, size_t parent)
+{
+    const struct tree *tree = &list->tree;
+    json_array("rules");
+    for (size_t at = parent + 1; at < tree->count; at++) {
+        bool rule = tree->numbers[2 * at] == UTVPI_LEAF && tree->nodes[at].parent == parent;
+        if (rule && tree->nodes[at - 1].line != tree->nodes[at].line) {
+            uint32_t line = tree->numbers[2 * at + 1];
+            json_rule(NULL, list->origins[line], identifier_of(list, 2 * line));
+        }
+    }
+    json_close();
+}
+
+/* Writes the alternatives of the choice at hand, where there are alternatives. */
+void json_alternatives(const struct list *list)
+{
+    const struct tree *tree = &list->tree;
+    if (tree->either == 0) {
+        return;
+    }
+    json_array("alternatives");
+    for (size_t at = 1; at < tree->count; at++) {
+        if (tree->nodes[at].taken && is_alternative(tree, at)) {
+            json_object(NULL);
+            json_alternative(tree, at);
+            write_rules(list, at);
+            json_close();
+        }
+    }
+    json_close();
 }
 
 /* Puts 0 <= 0 in the place of the lines that are not picked. Gives back the list's own
@@ -132,12 +190,13 @@ static int answer_no(struct list *list, struct clashes *clashes, int64_t *work)
     int status = decide_outside(list);
     if (status == STATUS_NO) {
         copy_last_no(outside.refutation, outside.identifiers);
-        print_no(list, outside.refutation, outside.identifiers,
-                 "No. No whole numbers meet all the rules, whichever alternatives are taken.");
-    } else if (status == STATUS_YES) {
-        print_clashes(list, clashes);
+        return print_no(list, outside.refutation, outside.identifiers,
+                        "No. No whole numbers meet all the rules, whichever alternatives are"
+                        " taken.")
+                   ? STATUS_NO
+                   : disagree_on_argument();
     }
-    return status == STATUS_YES ? STATUS_NO : status;
+    return status == STATUS_YES ? print_clashes(list, clashes) : status;
 }
 
 /* Has the choices decided up to the first that can be met, or all, and prints the answer. */
@@ -147,7 +206,7 @@ static int give_first(struct list *list, utvpi_choice first, int64_t *work)
     struct clashes clashes = {NULL, yes ? (size_t)first.choice : list->tree.nodes[0].choices};
     clashes.each = calloc(clashes.count + 1, sizeof *clashes.each);
     if (clashes.each == NULL) {
-        wrong(list, (struct origin){list->tree.either_line, nothing}, nothing,
+        wrong(list, origin_of_node(&list->tree, list->tree.either), nothing,
               "there is not enough memory for so many alternatives",
               "free memory, or decide a file for each alternative of one either");
         return STATUS_BAD;
@@ -200,7 +259,7 @@ int refuse_alternatives(const struct list *list, const char *option)
 {
     char what[80];
     snprintf(what, sizeof what, "here begin alternatives, which %s does not take", option);
-    wrong(list, (struct origin){list->tree.either_line, nothing}, nothing, what,
+    wrong(list, origin_of_node(&list->tree, list->tree.either), nothing, what,
           "decide the file without this option, or give it a file for each alternative");
     return STATUS_BAD;
 }

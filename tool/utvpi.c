@@ -4,166 +4,153 @@
 #include "list.h"
 
 #include <errno.h>
-#include <stdlib.h>
 #include <string.h>
-
-/* Prints the answer on a proposed refutation that is right: yes, unless it names
- * identifiers that are not those of its rules. */
-static int answer_right(const struct list *list, const struct proposal *proposal)
-{
-    size_t place;
-    if (is_misnamed(proposal, &place)) {
-        print_misnamed(list, proposal, place);
-        return STATUS_NO;
-    }
-    print_no(list, proposal->numbers, proposal->identifiers,
-             "Yes. This shows that no whole numbers meet all the rules.");
-    return STATUS_YES;
-}
-
-/* Checks a proposed refutation, number by number, so that neither it nor the list
- * need be packed. The answer is printed only if this program finds the same. */
-static int answer_check(const struct list *list, struct proposal *proposal)
-{
-    utvpi_progress kept = utvpi_refutation_begin();
-    for (size_t at = 0; at < proposal->count; at++) {
-        kept = utvpi_refutation_take(kept, numbers_of(list), length_of(list),
-                                     proposal->numbers[at]);
-    }
-    int64_t result =
-        utvpi_refutation_end(kept, list->variables, numbers_of(list), length_of(list));
-    if (UTVPI_IS_REFUSAL(result)) {
-        int number = UTVPI_REFUSAL_NUMBER(result);
-        print_refusal(list, number == UTVPI_LONG_REFUTATION ? proposal->file : list->file, number,
-                      (size_t)UTVPI_REFUSAL_PLACE(result));
-        return STATUS_BAD;
-    }
-    if (!within_limits(list) || proposal->count > UTVPI_MOST_REFUTATION) {
-        return disagree("the library answered what is beyond its limits");
-    }
-    struct fault fault = first_fault(list, proposal);
-    note_identifiers(list, proposal);
-    if (UTVPI_IS_YES(result) && fault.reason == NO_FAULT) {
-        return answer_right(list, proposal);
-    }
-    if (UTVPI_IS_NO(result) && fault.reason != NO_FAULT &&
-        (size_t)UTVPI_NO_PLACE(result) == fault.place) {
-        print_broken(list, proposal, fault);
-        return STATUS_NO;
-    }
-    return disagree("the library's answer on the refutation is not what this program finds");
-}
-
-static bool is_standard_input(const char *file)
-{
-    return strcmp(file, "-") == 0;
-}
-
-/* How a file is called in what is printed. */
-static const char *called(const char *file)
-{
-    return is_standard_input(file) ? "standard input" : file;
-}
-
-/* Loads a file, or standard input. Says what is wrong where it can't. */
-static bool load_file(const char *file, struct text *input)
-{
-    if (is_standard_input(file)) {
-        return load(stdin, called(file), input);
-    }
-    FILE *from = fopen(file, "rb");
-    if (from == NULL) {
-        fprintf(stderr, "utvpi: %s: %s\n", file, strerror(errno));
-        return false;
-    }
-    bool loaded = load(from, file, input);
-    fclose(from);
-    return loaded;
-}
-
-/* Reads the proposed refutation and checks it. */
-static int run_check(const struct list *list, const char *file)
-{
-    static struct proposal proposal;
-    proposal.file = called(file);
-    if (!load_file(file, &proposal.input)) {
-        return STATUS_BAD;
-    }
-    int status = read_proposal(&proposal) ? answer_check(list, &proposal) : STATUS_BAD;
-    free((void *)proposal.input.at);
-    return status;
-}
 
 /* What is asked for. Where nothing else is, the list is decided. */
 struct command {
     bool help;
+    bool version;
     bool in_numbers;
     bool session;
     bool to_text;
+    bool json;
+    bool csv;
+    bool in_order;
+    bool quiet;
     const char *to_records;
     const char *proposed;
     const char *between[2];
     const char *implied;
-    const char *file;
+    const char *picture;
+    char **files;
+    size_t file_count;
 };
 
-/* The option that is given besides FILE, of which there is one at most; NULL where the list
- * is decided in words. */
-static const char *option_of(const struct command *command)
+/* How a list that is decided is answered. */
+static enum manner manner_of(const struct command *command)
 {
-    if (command->proposed != NULL) {
-        return "--check";
+    if (command->picture != NULL && is_standard_input(command->picture)) {
+        return UNPRINTED;
     }
-    if (command->to_text || command->to_records != NULL) {
-        return command->to_text ? "--text" : "--write";
-    }
-    if (command->between[0] != NULL || command->implied != NULL) {
-        return command->implied == NULL ? "--between" : "--implies";
-    }
-    return command->in_numbers ? "--numbers" : NULL;
+    return command->in_numbers ? IN_NUMBERS : command->csv ? IN_CSV : IN_WORDS;
 }
 
-/* Reads the list and does what is asked for. */
+/* The option that a file with alternatives does not go with; NULL where there is none. */
+static const char *option_of(const struct command *command)
+{
+    const struct {
+        bool given;
+        const char *name;
+    } options[] = {
+        {command->proposed != NULL, "--check"},   {command->to_text, "--text"},
+        {command->to_records != NULL, "--write"}, {command->between[0] != NULL, "--between"},
+        {command->implied != NULL, "--implies"},  {command->in_numbers, "--numbers"},
+        {command->csv, "--csv"},                  {command->in_order, "--order"},
+        {command->picture != NULL, "--svg"},
+    };
+    for (size_t at = 0; at < sizeof options / sizeof options[0]; at++) {
+        if (options[at].given) {
+            return options[at].name;
+        }
+    }
+    return NULL;
+}
+
+/* Does what is asked for with rules that have alternatives. */
+static int obey_with_alternatives(struct list *list, const struct command *command)
+{
+    const char *option = option_of(command);
+    if (option != NULL) {
+        return refuse_alternatives(list, option);
+    }
+    if (!command->quiet) {
+        find_notes(list);
+    }
+    count_rules(list, NULL);
+    return answer_alternatives(list);
+}
+
+/* Does what is asked for with the rules that were read. */
+static int obey(struct list *list, const struct command *command)
+{
+    if (list->tree.either > 0) {
+        return obey_with_alternatives(list, command);
+    }
+    if (command->proposed != NULL) {
+        return run_check(list, command->proposed);
+    }
+    if (command->to_text || command->to_records != NULL) {
+        return convert(list, command->to_records);
+    }
+    if (!command->quiet) {
+        find_notes(list);
+    }
+    if (!leave_out(list)) {
+        return STATUS_BAD;
+    }
+    if (command->between[0] != NULL) {
+        return answer_between(list, command->between);
+    }
+    if (command->implied != NULL) {
+        return answer_implies(list, command->implied);
+    }
+    if (command->picture != NULL) {
+        int status = answer_drawn(list, command->picture);
+        if (status == STATUS_BAD || status == STATUS_DISAGREE || manner_of(command) == UNPRINTED) {
+            return status;
+        }
+    }
+    return command->in_order ? answer_order(list) : answer(list, manner_of(command));
+}
+
+/* Reads the list, does what is asked for, and says what there is to say besides. */
 static int run(const struct command *command)
 {
     static struct list list;
+    bool asks = command->between[0] != NULL || command->implied != NULL || command->in_order;
+    bool decides = command->proposed == NULL && !command->to_text && command->to_records == NULL;
     int status = STATUS_BAD;
-    list.file = called(command->file);
-    if (!load_file(command->file, &list.input)) {
-        return STATUS_BAD;
-    }
-    if (is_records(list.input) ? read_records(&list) : read_list(&list)) {
-        if (list.tree.either_line > 0) {
-            status = option_of(command) == NULL
-                         ? answer_alternatives(&list)
-                         : refuse_alternatives(&list, option_of(command));
-        } else if (command->proposed != NULL) {
-            status = run_check(&list, command->proposed);
-        } else if (command->to_text || command->to_records != NULL) {
-            status = convert(&list, command->to_records);
-        } else if (command->between[0] != NULL) {
-            status = answer_between(&list, command->between);
-        } else if (command->implied != NULL) {
-            status = answer_implies(&list, command->implied);
-        } else {
-            status = answer(&list, command->in_numbers ? IN_NUMBERS : IN_WORDS);
+    if (read_files(&list, (const char *const *)command->files, command->file_count)) {
+        status = obey(&list, command);
+        if (decides && (status == STATUS_YES || status == STATUS_NO)) {
+            bool in_short = asks || list.tree.either > 0;
+            print_rest(&list, in_short ? IN_SHORT : manner_of(command), status);
         }
     }
-    free(list.numbers);
-    free(list.origins);
-    free_tree(&list.tree);
-    free((void *)list.input.at);
+    free_list(&list);
     return status;
 }
 
 /* Ends with the status, unless what was printed did not get out. */
 static int finish(int status)
 {
+    json_end();
     if (fflush(stdout) != 0 || ferror(stdout)) {
         fprintf(stderr, "utvpi: the answer could not be written: %s\n", strerror(errno));
         return STATUS_BAD;
     }
     return status;
+}
+
+/* The option without arguments that has this name; NULL where there is none. */
+static bool *find_flag(const char *name, struct command *command)
+{
+    struct flag {
+        const char *name;
+        bool *set;
+    } flags[] = {
+        {"--help", &command->help},       {"-h", &command->help},
+        {"--version", &command->version}, {"--numbers", &command->in_numbers},
+        {"--session", &command->session}, {"--text", &command->to_text},
+        {"--json", &command->json},       {"--csv", &command->csv},
+        {"--order", &command->in_order},  {"--quiet", &command->quiet},
+    };
+    for (size_t at = 0; at < sizeof flags / sizeof flags[0]; at++) {
+        if (strcmp(name, flags[at].name) == 0) {
+            return flags[at].set;
+        }
+    }
+    return NULL;
 }
 
 /* An option that arguments follow: so many, and what to say where they do not, or where
@@ -196,6 +183,8 @@ static const char *read_option(int argc, char **argv, int *at, struct command *c
         {"--check", &command->proposed, 1,
          "--check takes one REFUTATION: a file, or - for standard input"},
         {"--implies", &command->implied, 1, "--implies takes one RULE, in quotes"},
+        {"--svg", &command->picture, 1,
+         "--svg takes one PICTURE, a file whose name ends with .svg, or - for standard output"},
         {"--write", &command->to_records, 1,
          "--write takes one NEW file, or - for standard output"},
     };
@@ -204,84 +193,127 @@ static const char *read_option(int argc, char **argv, int *at, struct command *c
             return take_arguments(argc, argv, at, options[one]) ? NULL : options[one].use;
         }
     }
-    return "there are only the options --between, --check, --implies, --numbers, --session,"
-           " --text, --write and --help";
+    return "there are only the options --between, --check, --csv, --help, --implies, --json,"
+           " --numbers, --order, --quiet, --session, --svg, --text, --version and --write, and --"
+           " before a FILE that looks like one";
 }
 
-/* Takes the arguments apart. Gives back what is wrong with them, or NULL. */
+/* Takes the arguments apart. FILEs are kept at the front. Gives back what is wrong with
+ * the arguments, or NULL. */
 static const char *read_arguments(int argc, char **argv, struct command *command)
 {
     const char *wrong_use = NULL;
+    bool only_files = false;
     for (int at = 1; at < argc && wrong_use == NULL; at++) {
-        if (strcmp(argv[at], "--help") == 0 || strcmp(argv[at], "-h") == 0) {
-            command->help = true;
-        } else if (strcmp(argv[at], "--numbers") == 0) {
-            command->in_numbers = true;
-        } else if (strcmp(argv[at], "--session") == 0) {
-            command->session = true;
-        } else if (strcmp(argv[at], "--text") == 0) {
-            command->to_text = true;
-        } else if (argv[at][0] == '-' && argv[at][1] != '\0') {
+        bool *flag = only_files ? NULL : find_flag(argv[at], command);
+        if (flag != NULL) {
+            *flag = true;
+        } else if (!only_files && strcmp(argv[at], "--") == 0) {
+            only_files = true;
+        } else if (!only_files && argv[at][0] == '-' && argv[at][1] != '\0') {
             wrong_use = read_option(argc, argv, &at, command);
-        } else if (command->file != NULL) {
-            wrong_use = "this takes one FILE, or none for standard input";
         } else {
-            command->file = argv[at];
+            command->files[command->file_count] = argv[at];
+            command->file_count++;
         }
     }
     return wrong_use;
 }
 
+/* Whether standard input is asked for twice, as FILE or as REFUTATION. */
+static bool reads_twice(const struct command *command)
+{
+    int times = command->proposed != NULL && is_standard_input(command->proposed);
+    for (size_t at = 0; at < command->file_count; at++) {
+        times += is_standard_input(command->files[at]);
+    }
+    return times > 1;
+}
+
+/* Whether a text ends with a word. */
+static bool ends_with(const char *text, const char *end)
+{
+    size_t length = strlen(text), own = strlen(end);
+    return length > own && strcmp(text + length - own, end) == 0;
+}
+
+/* Whether a picture goes with what is asked for. Gives back what does not, or NULL. */
+static const char *suits_picture(const struct command *command)
+{
+    bool to_output = is_standard_input(command->picture);
+    if (command->session || command->to_text || command->to_records != NULL ||
+        command->proposed != NULL || command->between[0] != NULL || command->implied != NULL) {
+        return "--svg goes with deciding, and with none of --between, --check, --implies,"
+               " --session, --text and --write";
+    }
+    if (to_output && (command->json || command->csv || command->in_order || command->in_numbers)) {
+        return "--svg - prints the picture alone: name a file, or leave out the other options";
+    }
+    return to_output || ends_with(command->picture, ".svg")
+               ? NULL
+               : "--svg takes a PICTURE whose name ends with .svg, so that no file of rules is"
+                 " written over";
+}
+
 /* Whether what is asked for fits together. Gives back what does not, or NULL. */
 static const char *suits(const struct command *command)
 {
-    int orders = command->in_numbers + command->session + command->to_text +
-                 (command->to_records != NULL) + (command->proposed != NULL) +
+    bool to_records = command->to_records != NULL;
+    int orders = command->in_numbers + command->session + command->to_text + command->csv +
+                 command->in_order + to_records + (command->proposed != NULL) +
                  (command->between[0] != NULL) + (command->implied != NULL);
     if (orders > 1) {
-        return "give only one of --between, --check, --implies, --numbers, --session, --text and"
-               " --write";
+        return "give only one of --between, --check, --csv, --implies, --numbers, --order,"
+               " --session, --text and --write";
     }
-    if (command->session && !is_standard_input(command->file)) {
+    if (command->json && (command->in_numbers || command->csv || command->to_text || to_records)) {
+        return "--json goes with none of --csv, --numbers, --text and --write";
+    }
+    if (command->session && !(command->file_count == 1 && is_standard_input(command->files[0]))) {
         return "--session reads standard input and takes no FILE";
     }
-    if (command->to_records != NULL && command->to_records[0] == '-' &&
-        command->to_records[1] != '\0') {
+    if (to_records && command->to_records[0] == '-' && command->to_records[1] != '\0') {
         return "--write takes a NEW file, and this is an option";
     }
-    return command->proposed != NULL && is_standard_input(command->proposed) &&
-                   is_standard_input(command->file)
-               ? "REFUTATION and FILE can't both be standard input: name one of them"
-               : NULL;
+    if (reads_twice(command)) {
+        return "standard input can't be read twice, as FILE and REFUTATION or both: name a file";
+    }
+    return command->picture == NULL ? NULL : suits_picture(command);
 }
 
 /* Reads the command line. Gives back what is wrong with it, or NULL. */
 static const char *read_command(int argc, char **argv, struct command *command)
 {
+    static char standard_input[] = "-";
     const char *wrong_use = read_arguments(argc, argv, command);
-    if (command->file == NULL) {
-        command->file = "-";
+    if (command->file_count == 0) {
+        command->files[0] = standard_input;
+        command->file_count = 1;
     }
     return wrong_use != NULL ? wrong_use : suits(command);
 }
 
+/* Whether --json is given, also where something is wrong before it. */
+static bool asks_for_json(int argc, char **argv)
+{
+    bool asks = false;
+    for (int at = 1; at < argc && !asks && strcmp(argv[at], "--") != 0; at++) {
+        asks = strcmp(argv[at], "--json") == 0;
+    }
+    return asks;
+}
+
 int main(int argc, char **argv)
 {
-    struct command command = {.file = NULL};
+    struct command command = {.files = argv};
+    json_wanted = asks_for_json(argc, argv);
     const char *wrong_use = read_command(argc, argv, &command);
-    if (command.help) {
-        fputs(help, stdout);
-        fputs(help_of_alternatives, stdout);
-        fputs(help_of_clocks, stdout);
-        fputs(help_of_questions, stdout);
-        fputs(help_of_session, stdout);
-        putchar('\n');
-        fputs(help_of_check, stdout);
+    if (command.help || command.version) {
+        fputs(command.help ? help : version, stdout);
         return finish(0);
     }
     if (wrong_use != NULL) {
-        fprintf(stderr, "utvpi: %s; utvpi --help explains\n", wrong_use);
-        return STATUS_BAD;
+        return finish(refuse_use(wrong_use));
     }
-    return finish(command.session ? run_session(called(command.file)) : run(&command));
+    return finish(command.session ? run_session(called(command.files[0])) : run(&command));
 }

@@ -1,16 +1,14 @@
-/* Rules in words: sums of names and numbers on both sides of <=, >= or =, and perhaps
- * the identifier of a message behind them. */
+/* Rules in words: sums of names and numbers on both sides of <=, >=, <, > or =, and
+ * perhaps the identifier of a message behind them. */
 #include "list.h"
 
 #include <string.h>
-
-static const struct text nothing = {"", 0};
 
 static const char message_advice[] =
     "write @ and the number of the message at the end of the rule, decimal or hexadecimal with"
     " 0x, such as @ 416944369 or @ 0x18DA10F1";
 
-enum kind { END, NAME, NUMBER, PLUS, MINUS, AT_MOST, AT_LEAST, EQUAL, MESSAGE };
+enum kind { END, NAME, NUMBER, PLUS, MINUS, AT_MOST, AT_LEAST, BELOW, ABOVE, EQUAL, MESSAGE };
 
 /* A name with its sign, after all is moved to the left. */
 struct term {
@@ -18,14 +16,16 @@ struct term {
     size_t variable;
 };
 
-/* A rule while it is read: what is left of it, the part that comes next, and
- * what was moved to the left (terms) and to the right (constant). */
+/* A rule while it is read: what is left of it, the part that comes next, without quotes
+ * where that is a name, and what was moved to the left (terms) and to the right
+ * (constant). */
 struct parser {
     struct list *list;
     struct origin origin;
     struct text rest;
     enum kind kind;
     struct text part;
+    struct text name;
     int64_t value;
     struct term terms[MOST_RULE];
     size_t count;
@@ -50,11 +50,11 @@ static void take(struct parser *p, enum kind kind, size_t length)
 
 static bool next_name(struct parser *p)
 {
-    take(p, NAME, name_length(p->rest));
-    return p->part.length <= MOST_NAME ||
-           fail(p, "is a name of more than " AS_TEXT(MOST_NAME) " characters",
-                "choose a shorter name");
+    struct text rest = p->rest;
+    take(p, NAME, scan_name(rest, &p->name));
+    return is_right_name(p->list, p->origin, rest, p->name, p->part.length);
 }
+
 
 static bool next_number(struct parser *p)
 {
@@ -69,13 +69,11 @@ static bool next_number(struct parser *p)
     if (after == '.' || after == ',') {
         return fail(p, "is followed by a point or a comma", "write whole numbers, digits only");
     }
-    /* One more than the highest number fits too, once it has a minus. */
-    return p->value <= (int64_t)INT32_MAX + 1 ||
-           fail(p, "is too large for 32 bits",
-                "choose a coarser unit; a bound is from -1,000,000 to 1,000,000");
+    return p->value <= MOST_NUMBER ||
+           fail(p, "is above " AS_TEXT(MOST_NUMBER), "choose a coarser unit");
 }
 
-/* Takes <=, >= or =, and says what to do about everything that looks like it. */
+/* Takes <=, >=, <, > or =, and says what to do about everything that looks like it. */
 static bool next_relation(struct parser *p)
 {
     size_t length = 1;
@@ -92,10 +90,11 @@ static bool next_relation(struct parser *p)
         return true;
     }
     if (length == 1 && first != '!') {
-        return fail(p, "is strict, and strict rules are not in scope",
-                    "with whole numbers, write x <= y - 1 for x < y, and x >= y + 1 for x > y");
+        p->kind = first == '<' ? BELOW : ABOVE;
+        return true;
     }
-    return fail(p, "is not in scope", "write <= for at most, >= for at least or = for equal");
+    return fail(p, "is not in scope",
+                "write <= for at most, >= for at least, < for less, > for more or = for equal");
 }
 
 /* Takes @ and the number behind it, up to the next blank or @. */
@@ -137,7 +136,7 @@ static bool next(struct parser *p)
         take(p, c == '+' ? PLUS : MINUS, 1);
         return true;
     }
-    if (is_letter(c)) {
+    if (is_letter(c) || c == '"') {
         return next_name(p);
     }
     if (is_digit(c)) {
@@ -151,23 +150,23 @@ static bool next(struct parser *p)
     }
     take(p, END, 1);
     return fail(p, "can't stand in a rule",
-                "use names, whole numbers, +, - and one of <=, >= and =; @ begins an identifier,"
-                " # a comment");
+                "use names, whole numbers, +, - and one of <=, >=, <, > and =; a name with other"
+                " characters stands in quotes, as \"ABS-Status\"; @ begins an identifier, # a"
+                " comment");
 }
 
 /* The number of a name; a new name gets the next one. */
 static size_t number_of(struct parser *p)
 {
     struct list *list = p->list;
-    for (size_t at = 0; at < list->variables; at++) {
-        if (list->names[at].length == p->part.length &&
-            memcmp(list->names[at].at, p->part.at, p->part.length) == 0) {
-            return at;
-        }
+    uint64_t variable;
+    if (!find_name(list, p->name, &variable)) {
+        list->names[variable] = p->name;
+        list->offsets[variable] = offset_of(list, p->name);
+        list->variables_from = p->origin;
+        list->variables++;
     }
-    list->names[list->variables] = p->part;
-    list->variables_from = p->origin;
-    return (size_t)list->variables++;
+    return (size_t)variable;
 }
 
 /* Reads one name or number, with the sign that it has once it is moved. */
@@ -179,6 +178,9 @@ static bool read_term(struct parser *p, int sign)
         p->count++;
     } else if (p->kind == NUMBER) {
         p->constant -= sign * p->value;
+        if (p->constant < -MOST_NUMBER || p->constant > MOST_NUMBER) {
+            return fail(p, "makes a sum above " AS_TEXT(MOST_NUMBER), "choose a coarser unit");
+        }
     } else if (p->kind == PLUS || p->kind == MINUS) {
         return fail(p, "follows another sign", "write one sign between two terms");
     } else {
@@ -209,6 +211,22 @@ static bool read_side(struct parser *p, int side)
     return true;
 }
 
+/* Says that a rule has too many terms, and whether a dash may have made two of one. */
+static bool too_many_terms(const struct parser *p)
+{
+    struct text word;
+    struct problem problem =
+        problem_at(p->list, p->origin, p->part,
+                   "more than two terms remain once all names are moved to the left",
+                   "give each rule at most two names, each with + or -; x + x counts as two");
+    if (find_dashed(p->origin.rule, &word)) {
+        snprintf(problem.example, sizeof problem.example,
+                 "; a name with a dash stands in quotes: \"%.*s\"",
+                 (int)(word.length < MOST_NAME ? word.length : MOST_NAME), word.at);
+    }
+    return report(problem);
+}
+
 /* Where more than two terms stand, leaves out those that cancel, as in
  * x + y <= x + 3. Of two terms none is left out: the list takes them as they are. */
 static bool reduce(struct parser *p)
@@ -229,9 +247,20 @@ static bool reduce(struct parser *p)
     if (p->count > 2) {
         p->count = kept;
     }
-    return p->count <= 2 ||
-           fail(p, "more than two terms remain once all names are moved to the left",
-                "give each rule at most two names, each with + or -; x + x counts as two");
+    return p->count <= 2 || too_many_terms(p);
+}
+
+/* Says that the bound of a rule is too large, and which origin would do. */
+static bool too_large(const struct parser *p)
+{
+    struct problem problem = problem_at(p->list, p->origin, nowhere.rule,
+                                        "the bound is too large for 32 bits",
+                                        "choose a coarser unit");
+    if (p->count > 0) {
+        advise_origin(&problem, p->list->names[p->terms[0].variable],
+                      p->terms[0].sign * p->constant);
+    }
+    return report(problem);
 }
 
 /* Adds the rule's line, or with sign -1 the line that turns it round. */
@@ -239,13 +268,13 @@ static bool add_turned(const struct parser *p, int sign)
 {
     int64_t d = sign * p->constant;
     int32_t line[UTVPI_LINE_NUMBERS] = {0};
-    if (d < INT32_MIN || d > INT32_MAX) {
-        return wrong(p->list, p->origin, nothing, "the bound is too large for 32 bits",
-                     "choose a coarser unit; a bound is from -1,000,000 to 1,000,000");
-    }
     for (size_t at = 0; at < p->count; at++) {
         line[2 * at] = sign * p->terms[at].sign;
         line[2 * at + 1] = (int32_t)p->terms[at].variable;
+        d -= line[2 * at] * p->list->offsets[p->terms[at].variable];
+    }
+    if (d < INT32_MIN || d > INT32_MAX) {
+        return too_large(p);
     }
     line[BOUND] = (int32_t)d;
     line[IDENTIFIER] = p->identifier;
@@ -270,6 +299,13 @@ static bool read_end(struct parser *p)
            fail(p, "is a second comparison", "write two rules, one to a line");
 }
 
+/* Makes a strict rule one that is not: less than a whole number is at most one less. */
+static enum kind loosen(struct parser *p, enum kind relation)
+{
+    p->constant += relation == BELOW ? -1 : relation == ABOVE ? 1 : 0;
+    return relation == BELOW ? AT_MOST : relation == ABOVE ? AT_LEAST : relation;
+}
+
 /* Reads a rule that has <, > or = in it. */
 bool read_words(struct list *list, struct origin origin)
 {
@@ -279,7 +315,8 @@ bool read_words(struct list *list, struct origin origin)
     }
     enum kind relation = p.kind;
     if (relation == END) {
-        return fail(&p, "the rule has no <=, >= or = between its sides", "write one of them");
+        return fail(&p, "the rule has no <=, >=, <, > or = between its sides",
+                    "write one of them");
     }
     if (relation == MESSAGE) {
         return fail(&p, "stands before the end of the rule", message_advice);
@@ -287,6 +324,7 @@ bool read_words(struct list *list, struct origin origin)
     if (!next(&p) || !read_side(&p, -1) || !read_end(&p) || !reduce(&p)) {
         return false;
     }
+    relation = loosen(&p, relation);
     return (relation == AT_LEAST || add_turned(&p, 1)) &&
            (relation == AT_MOST || add_turned(&p, -1));
 }

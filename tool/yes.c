@@ -7,14 +7,10 @@
 /* Room for a 64-bit number in digits. */
 #define DIGITS 24
 
-/* An event's name. In a file of numbers variable 3 is called x3. */
+/* An event's name. */
 void print_event(FILE *to, const struct list *list, uint64_t variable)
 {
-    if (list->form == FORM_NAMES) {
-        show(to, list->names[variable]);
-    } else {
-        fprintf(to, "x%" PRIu64, variable);
-    }
+    print_name(to, list->names[variable]);
 }
 
 /* Prints a point: an event, or its opposite with a minus. */
@@ -27,10 +23,7 @@ void print_point(const struct list *list, struct point point)
 /* How many characters an event's name has. */
 int event_width(const struct list *list, uint64_t variable)
 {
-    if (list->form == FORM_NAMES) {
-        return (int)list->names[variable].length;
-    }
-    return snprintf(NULL, 0, "x%" PRIu64, variable);
+    return name_width(list->names[variable]);
 }
 
 /* An event's group: the first event that it always equals, or its opposite. */
@@ -71,11 +64,15 @@ static void print_value(const struct list *list, uint64_t v, int width, int64_t 
 void print_values(const struct list *list, const int32_t *values)
 {
     int width = events_width(list);
+    if (json_wanted) {
+        json_values(list, values);
+        return;
+    }
     printf("  %-*s  %10s", width, "event", "value");
     print_seconds_head(list, VALUE);
     putchar('\n');
     for (uint64_t v = 0; v < list->variables; v++) {
-        print_value(list, v, width, values[v]);
+        print_value(list, v, width, with_offset(list, v, values[v]));
         putchar('\n');
     }
 }
@@ -134,15 +131,18 @@ static void print_head(const struct list *list, int width)
 static void print_legend(const struct list *list, bool some_low, bool some_high)
 {
     putchar('\n');
-    if (list->tree.either_line > 0) {
+    if (list->tree.either > 0) {
         puts("rules: those of the alternatives above, and those that stand in none. With other\n"
              "alternatives the table may be another.");
     }
-    puts("value: together, these values meet every rule; each is as near to 0 as the\n"
-         "ones above it allow. least, greatest: over all the ways to meet the rules.");
+    printf("value: together, these values meet every rule; each is as near to %s as the\n"
+           "ones above it allow. least, greatest: over all the ways to meet the rules.\n",
+           list->base_count > 0 ? "0, or its origin," : "0");
     if (list->clock_count > 0) {
         puts("seconds: of the number before them, by the clock NAME of the event NAME.rest; they\n"
              "read back as the same floats. - where the event has no clock.");
+        fputs(list->base_count > 0 ? "They count from the event's origin, where it has one.\n" : "",
+              stdout);
     }
     if (some_low) {
         puts("none under least: the rules let this event be as low as you like.");
@@ -172,10 +172,11 @@ static void print_groups(const struct list *list, const uint32_t *groups, bool s
     }
 }
 
-/* Prints the table of a yes, and what its columns are. */
-static void print_table(const struct list *list, const int32_t *model, const int64_t *bounds,
-                        const uint32_t *groups)
+/* Prints the table of a yes, and what stands in it. */
+static void print_table(const struct list *list, const struct table *table)
 {
+    const int64_t *bounds = table->bounds;
+    const uint32_t *groups = table->groups;
     bool some_low = false, some_high = false, some_shared = false, some_opposite = false;
     int width = events_width(list);
     for (uint64_t v = 0; v < list->variables; v++) {
@@ -186,22 +187,41 @@ static void print_table(const struct list *list, const int32_t *model, const int
     }
     print_head(list, width);
     for (uint64_t v = 0; v < list->variables; v++) {
-        print_row(list, v, width, model[v], bounds + 2 * v, group_of(groups, v));
+        print_row(list, v, width, table->values[v], bounds + 2 * v, group_of(groups, v));
     }
     print_legend(list, some_low, some_high);
     print_groups(list, groups, some_shared, some_opposite);
 }
 
+/* Prints the library's yes. */
 void print_yes(const struct list *list, const int32_t *model, const int64_t *bounds,
                const uint32_t *groups)
 {
-    if (list->tree.either_line > 0) {
+    static struct table table;
+    if (json_wanted) {
+        json_begin("yes");
+        json_alternatives(list);
+        json_events(list, model, bounds, groups);
+        return;
+    }
+    if (list->tree.either > 0) {
         print_alternatives(list);
     } else {
         puts(list->variables > 0 ? "Yes. Whole numbers meet all the rules:\n"
                                  : "Yes. There are no events, and no rule is false.");
     }
     if (list->variables > 0) {
-        print_table(list, model, bounds, groups);
+        make_table(list, model, bounds, groups, &table);
+        print_table(list, &table);
+    }
+}
+
+/* Prints a yes only as such. */
+void print_short(void)
+{
+    if (json_wanted) {
+        json_begin("yes");
+    } else {
+        puts("Yes. Whole numbers meet all the rules so far.");
     }
 }

@@ -2,7 +2,8 @@
  * altered_decide in place of utvpi_decide, and so on, has to find it. ALTERATION is a
  * statement for deciding and sessions, PAIR_ALTERATION and LINE_ALTERATION are for the
  * two questions, FIRST_ALTERATION and CHOICE_ALTERATION for the two calls on alternatives,
- * SECONDS_ALTERATION is for seconds; what is not given alters nothing. */
+ * SECONDS_ALTERATION is for seconds, CHECK_ALTERATION for the check of a
+ * refutation, of which calls is the number; what is not given alters nothing. */
 #define utvpi_decide altered_decide
 #define utvpi_session_add altered_session_add
 #define utvpi_implied_pair altered_implied_pair
@@ -10,6 +11,7 @@
 #define utvpi_tree_first altered_tree_first
 #define utvpi_tree_decide altered_tree_decide
 #define utvpi_events_seconds altered_events_seconds
+#define utvpi_check_refutation altered_check_refutation
 #include "utvpi.h"
 #undef utvpi_decide
 #undef utvpi_session_add
@@ -18,6 +20,7 @@
 #undef utvpi_tree_first
 #undef utvpi_tree_decide
 #undef utvpi_events_seconds
+#undef utvpi_check_refutation
 
 #ifndef ALTERATION
 #define ALTERATION (void)0
@@ -37,6 +40,9 @@
 #ifndef SECONDS_ALTERATION
 #define SECONDS_ALTERATION (void)0
 #endif
+#ifndef CHECK_ALTERATION
+#define CHECK_ALTERATION (void)0
+#endif
 
 /* The header declared those that the command calls; the library's are of their types. */
 extern __typeof__(altered_decide) utvpi_decide;
@@ -46,6 +52,7 @@ extern __typeof__(altered_implied_line) utvpi_implied_line;
 extern __typeof__(altered_tree_first) utvpi_tree_first;
 extern __typeof__(altered_tree_decide) utvpi_tree_decide;
 extern __typeof__(altered_events_seconds) utvpi_events_seconds;
+extern __typeof__(altered_check_refutation) utvpi_check_refutation;
 
 int64_t altered_decide(uint64_t n, const int32_t *list, size_t list_len,
                        int32_t *model, size_t model_len, int64_t *bounds, size_t bounds_len,
@@ -135,4 +142,14 @@ utvpi_seconds altered_events_seconds(const uint32_t *forms, size_t forms_len,
                                                  seconds_len);
     SECONDS_ALTERATION;
     return written;
+}
+
+int64_t altered_check_refutation(uint64_t n, const uint8_t *list, size_t list_len,
+                                 const uint8_t *refutation, size_t refutation_len)
+{
+    static int calls;
+    int64_t result = utvpi_check_refutation(n, list, list_len, refutation, refutation_len);
+    calls++;
+    CHECK_ALTERATION;
+    return result;
 }

@@ -12,7 +12,7 @@ use Rattle.tree_deciding.specs.declared.ConditionRefusal.{ConditionRefusal}
 use Rattle.tree_deciding.specs.declared.TreeAnswer.{TreeAnswer}
 use Rattle.tree_deciding.specs.declared.TreeAnswer.the-variants.{Yes, No, Refused}
 use Rattle.tree_deciding.specs.Refusal.{conditionNumber, conditionPlace, condition-some, one-condition}
-use Rattle.tree_deciding.specs.Answer.{choiceAnswerFor, firstAnswerFor, DecidesChoice, AnswersFirst}
+use Rattle.tree_deciding.specs.Answer.{DecidesChoice, AnswersFirst}
 use Rattle.c_trees.specs.declared.CChoice.{CChoice}
 use Rattle.c_trees.specs.Calls.{refusedResult, choiceReturned, FirstReturns, ChoiceReturns}
 

@@ -3,7 +3,7 @@ use c_codes::NO;
 use tree_deciding::TreeAnswer;
 use tree_deciding::condition_number_and_place;
 use tree_deciding::decide_choice;
-use tree_deciding::first_choice;
+use tree_first::first_choice;
 ghost use mathlib.Core.Path.{_≡_};
 ghost use Rattle.c_trees.specs.Calls.{choiceReturned, FirstReturns, ChoiceReturns};
 

@@ -16,7 +16,7 @@ use Rattle.lines.specs.Line.{linesOf}
 use Rattle.lines.specs.Limits.{maxVariables}
 use Rattle.decide_rows.specs.Table.{tableStart}
 use Rattle.lines.specs.Refusal.{validityOf}
-use Rattle.lines.specs.Valid.{Workable, or-valid, workable}
+use Rattle.lines.specs.Valid.{LinesOk, Workable, or-valid, workable}
 use Rattle.theory_bounds.specs.Table.{tableModel}
 use Rattle.decide_stored_table.specs.Table.{tableOf}
 use Rattle.decide_yes.specs.Table.{tableFor, short-table, model-agrees, bounds-agree, groups-agree, table-closed, model-ready}
@@ -25,9 +25,9 @@ use Rattle.theory_bounds.specs.Verdict.{verdictOf}
 use Rattle.theory_bounds.specs.Answers.{modelOf, boundsOf, groupsOf, boundAt, groupAt}
 use Rattle.theory_answers.specs.Refuted.{Due}
 use Rattle.check_soundness.specs.Head.{stepsIn}
-use Rattle.check_soundness.specs.Refutes.{Refutes, stated-length}
+use Rattle.check_soundness.specs.Refutes.{stated-length}
 use Rattle.decide_identifiers.specs.Identifiers.{identifiersOf, StepsNamed, steps-named, identifiers-front, counts-front}
-use Rattle.decide_buffers.specs.Room.{Lent, Lengths, lengthsOf, modelRoom, boundsRoom, groupsRoom, workRoom, lentRooms, HaveRoom, roomsValidity, decideValidity, valid-room, room-valid, model-room, bounds-room, groups-room, refutation-room, identifiers-room, work-room, work-small}
+use Rattle.decide_buffers.specs.Room.{Lent, Lengths, lengthsOf, modelRoom, boundsRoom, groupsRoom, identifiersRoom, workRoom, lentRooms, HaveRoom, roomsValidity, decideValidity, valid-room, room-valid, model-room, bounds-room, groups-room, refutation-room, identifiers-room, work-room, work-small}
 use Rattle.decide.specs.declared.Answer.{Answer}
 use Rattle.decide.specs.declared.Answer.the-variants.{Yes, No, Refused}
 use Rattle.decide.specs.Searched.{usedRoom, SearchReady, Searched, tableIn}
@@ -45,21 +45,21 @@ NotRefused a = (r : Refusal) → a ≡ Refused r → ⊥
 unfoldable pub decideAnswer : ℕ → List ℤ → Lengths → Answer
 decideAnswer n L s = unlessRefused (decideValidity n L s) (cond (verdictOf n (linesOf L)) Yes No)
 
--- ---- what the lent buffers hold
+-- ---- what the lent buffers hold, whichever engine decides: by the room of its work area
 -- the work area with zeros in its named part
-abbrev pub cleared : ℕ → List ℤ → List ℤ
-cleared n w = replicate (workRoom n) (pos 0) ++ drop (workRoom n) w
+abbrev pub clearedTo : ℕ → List ℤ → List ℤ
+clearedTo room w = replicate room (pos 0) ++ drop room w
 
-pub record OnYes (n : ℕ) (L : List ℤ) (b a : Lent) : Type 0 where
+pub record YesLeft (room n : ℕ) (L : List ℤ) (b a : Lent) : Type 0 where
   pub model : a .model ≡ modelOf n (linesOf L) ++ drop (modelRoom n) (b .model)
   pub bounds : a .bounds ≡ boundsOf n (linesOf L) ++ drop (boundsRoom n) (b .bounds)
   pub groups : a .groups ≡ groupsOf n (linesOf L) ++ drop (groupsRoom n) (b .groups)
   pub refutation : a .refutation ≡ b .refutation
   pub identifiers : a .identifiers ≡ b .identifiers
-  pub work : a .work ≡ cleared n (b .work)
+  pub work : a .work ≡ clearedTo room (b .work)
 
 -- of a refutation of kind 1 or 2 only the walks are free
-pub record OnNo (n : ℕ) (L : List ℤ) (b a : Lent) : Type 0 where
+pub record NoLeft (room n : ℕ) (L : List ℤ) (b a : Lent) : Type 0 where
   pub numbers : List ℕ
   pub due : Due n L numbers
   pub refutation : a .refutation ≡ numbers ++ drop (length numbers) (b .refutation)
@@ -67,13 +67,26 @@ pub record OnNo (n : ℕ) (L : List ℤ) (b a : Lent) : Type 0 where
   pub model : a .model ≡ b .model
   pub bounds : a .bounds ≡ b .bounds
   pub groups : a .groups ≡ b .groups
-  pub work : a .work ≡ cleared n (b .work)
+  pub work : a .work ≡ clearedTo room (b .work)
 
 -- b is what the buffers held before, a what they hold after
+abbrev pub LeavesIn : ℕ → ℕ → List ℤ → Answer → Lent → Lent → Type 0
+LeavesIn room n L Yes b a = YesLeft room n L b a
+LeavesIn room n L No b a = NoLeft room n L b a
+LeavesIn room n L (Refused r) b a = a ≡ b
+
+-- the first engine's
+abbrev pub cleared : ℕ → List ℤ → List ℤ
+cleared n w = clearedTo (workRoom n) w
+
+abbrev pub OnYes : ℕ → List ℤ → Lent → Lent → Type 0
+OnYes n L b a = YesLeft (workRoom n) n L b a
+
+abbrev pub OnNo : ℕ → List ℤ → Lent → Lent → Type 0
+OnNo n L b a = NoLeft (workRoom n) n L b a
+
 abbrev pub Leaves : ℕ → List ℤ → Answer → Lent → Lent → Type 0
-Leaves n L Yes b a = OnYes n L b a
-Leaves n L No b a = OnNo n L b a
-Leaves n L (Refused r) b a = a ≡ b
+Leaves n L x b a = LeavesIn (workRoom n) n L x b a
 
 -- the answer, by what is lent
 abbrev pub answerFor : ℕ → List ℤ → Lent → Answer
@@ -83,19 +96,49 @@ pub record Decided (n : ℕ) (L : List ℤ) (answer : Answer) (b a : Lent) : Typ
   pub is : answer ≡ answerFor n L b
   pub leaves : Leaves n L answer b a
 
+-- ---- a refutation that was found
+-- R holds a refutation of the due kind in front of what it held before
+abbrev pub Shows : ℕ → List ℤ → List ℕ → List ℕ → Type 0
+Shows n L R R₁ = (N : List ℕ) × Due n L N × (R₁ ≡ N ++ drop (length N) R)
+
+module _ (n : ℕ) (L : List ℤ) (lines : LinesOk n L) (R R₁ : List ℕ) (r : Shows n L R R₁) where
+  abbrev rest : List ℕ
+  rest = drop (length (r .0)) R
+
+  -- each step of it names a line, and there is room for the identifiers
+  pub shown-named : (I : List ℕ) → identifiersRoom n ≤ length I → StepsNamed L R₁ × (stepsIn R₁ ≤ length I)
+  shown-named I room =
+      let u = r .1 .refutes in
+      (rw (r .2) (steps-named n L (r .0) rest u lines), rw (r .2) (omega (arith, stated-length L (r .0) u rest, r .1 .size, room)))
+
+  -- the identifiers that are written are those of the refutation
+  shown-identifiers : (I : List ℕ) → identifiersOf L R₁ ++ drop (stepsIn R₁) I ≡ identifiersOf L (r .0) ++ drop (stepsIn (r .0)) I
+  shown-identifiers I =
+      let u = r .1 .refutes in
+      rw (r .2, identifiers-front n L (r .0) rest u, counts-front n L (r .0) rest u)
+
+  pub no-left : (room : ℕ) (b : Lent) → b .refutation ≡ R → (I : List ℕ) → I ≡ identifiersOf L R₁ ++ drop (stepsIn R₁) (b .identifiers) → (w : List ℤ) → w ≡ clearedTo room (b .work)
+      → NoLeft room n L b (record { model = b .model; bounds = b .bounds; groups = b .groups; refutation = R₁; identifiers = I; work = w })
+  no-left room b e I i w z =
+      record { numbers = r .0; due = r .1; refutation = r .2 ∙ ap (λ (x : List ℕ). r .0 ++ drop (length (r .0)) x) (sym e); identifiers = i ∙ shown-identifiers (b .identifiers); model = refl; bounds = refl; groups = refl; work = z }
+
+-- what was kept behind a used room is kept behind a wider one, and the rest is cleared
+pub cleared-behind : (used room : ℕ) → used ≤ room → (w w₁ w₂ : List ℤ) → drop used w₁ ≡ drop used w → w₂ ≡ clearedTo room w₁ → w₂ ≡ clearedTo room w
+cleared-behind used room h w w₁ w₂ k z = z ∙ ap (λ (x : List ℤ). replicate room (pos 0) ++ x) behind-room
+  where
+    behind-room : drop room w₁ ≡ drop room w
+    behind-room =
+        let i : room ≡ used + (room - used) = omega arith in
+        ap (λ (j : ℕ). drop j w₁) i ∙ sym (drop-drop (room - used) used w₁) ∙ ap (drop (room - used)) k
+        ∙ drop-drop (room - used) used w ∙ ap (λ (j : ℕ). drop j w) (sym i)
+
 -- ---- the room is enough
 pub used-room : (n : ℕ) → usedRoom n ≤ workRoom n
 used-room n = omega arith
 
 -- what was kept behind the used room is kept behind the named part, and the rest is cleared
-pub cleared-is : (n : ℕ) (w w₁ w₂ : List ℤ) → drop (usedRoom n) w₁ ≡ drop (usedRoom n) w → w₂ ≡ replicate (workRoom n) (pos 0) ++ drop (workRoom n) w₁ → w₂ ≡ cleared n w
-cleared-is n w w₁ w₂ k z = z ∙ ap (λ (x : List ℤ). replicate (workRoom n) (pos 0) ++ x) behind-room
-  where
-    behind-room : drop (workRoom n) w₁ ≡ drop (workRoom n) w
-    behind-room =
-        let i : workRoom n ≡ usedRoom n + (workRoom n - usedRoom n) = omega (arith, used-room n) in
-        ap (λ (j : ℕ). drop j w₁) i ∙ sym (drop-drop (workRoom n - usedRoom n) (usedRoom n) w₁) ∙ ap (drop (workRoom n - usedRoom n)) k
-        ∙ drop-drop (workRoom n - usedRoom n) (usedRoom n) w ∙ ap (λ (j : ℕ). drop j w) (sym i)
+pub cleared-is : (n : ℕ) (w w₁ w₂ : List ℤ) → drop (usedRoom n) w₁ ≡ drop (usedRoom n) w → w₂ ≡ cleared n w₁ → w₂ ≡ cleared n w
+cleared-is n w w₁ w₂ k z = cleared-behind (usedRoom n) (workRoom n) (used-room n) w w₁ w₂ k z
 
 -- ---- nothing is refused
 pub record DecideOk (n : ℕ) (L : List ℤ) (b : Lent) : Type 0 where
@@ -128,10 +171,10 @@ module _ (n : ℕ) (L : List ℤ) (b : Lent) where
     answer-no v = sym (rw (e, v))
 
     pub search-ready : SearchReady n L (b .refutation) (b .work)
-    search-ready = let o = decide-ok n L b e in record { valid = workable n L (o .list); room = refutation-room (o .rooms); work-room = omega (arith, used-room n, work-room (o .rooms)) }
+    search-ready = let o = decide-ok n L b e in record { valid = workable n L (o .list); room = refutation-room workRoom (o .rooms); work-room = omega (arith, used-room n, work-room workRoom (o .rooms)) }
 
     pub room-left : {R₁ : List ℕ} {w₁ : List ℤ} {r : Bool} → Searched n L (b .refutation) (b .work) R₁ w₁ r → workRoom n ≤ length w₁
-    room-left k = omega (arith, k .same-length, work-room (decide-ok n L b e .rooms))
+    room-left k = omega (arith, k .same-length, work-room workRoom (decide-ok n L b e .rooms))
 
     ok : Workable n L
     ok = workable n L (decide-ok n L b e .list)
@@ -147,29 +190,12 @@ module _ (n : ℕ) (L : List ℤ) (b : Lent) where
     start-small = omega (arith, used-room n, work-small n few)
 
     module _ (R₁ : List ℕ) (w₁ : List ℤ) where
-      -- each step of the refutation that was found names a line, and there is room for the identifiers
       pub identifiers-ready : {t : Bool} → Searched n L (b .refutation) (b .work) R₁ w₁ t → t ≡ true → StepsNamed L R₁ × (stepsIn R₁ ≤ length (b .identifiers))
-      identifiers-ready k z =
-          let o = decide-ok n L b e in
-          let r = k .on-no z in
-          let rest = drop (length (r .0)) (b .refutation) in
-          let u = r .1 .refutes in
-          (rw (r .2) (steps-named n L (r .0) rest u (ok .lines)), rw (r .2) (omega (arith, stated-length L (r .0) u rest, r .1 .size, identifiers-room (o .rooms))))
+      identifiers-ready k z = shown-named n L (ok .lines) (b .refutation) R₁ (k .on-no z) (b .identifiers) (identifiers-room workRoom (decide-ok n L b e .rooms))
 
-      pub decided-no : {t : Bool} → Searched n L (b .refutation) (b .work) R₁ w₁ t → t ≡ true → (I : List ℕ) → I ≡ identifiersOf L R₁ ++ drop (stepsIn R₁) (b .identifiers) → (w₂ : List ℤ) → w₂ ≡ replicate (workRoom n) (pos 0) ++ drop (workRoom n) w₁
+      pub decided-no : {t : Bool} → Searched n L (b .refutation) (b .work) R₁ w₁ t → t ≡ true → (I : List ℕ) → I ≡ identifiersOf L R₁ ++ drop (stepsIn R₁) (b .identifiers) → (w₂ : List ℤ) → w₂ ≡ cleared n w₁
           → Decided n L No b (record { model = b .model; bounds = b .bounds; groups = b .groups; refutation = R₁; identifiers = I; work = w₂ })
-      decided-no k y I i w₂ z =
-          let r = k .on-no y in
-          record {
-            is = answer-no (k .verdict ∙ ap not y);
-            leaves = record { numbers = r .0; due = r .1; refutation = r .2; identifiers = i ∙ written (r .0) (r .1 .refutes) (r .2); model = refl; bounds = refl; groups = refl; work = cleared-is n (b .work) w₁ w₂ (k .behind) z };
-          }
-        where
-          written : (R : List ℕ) → Refutes L R → R₁ ≡ R ++ drop (length R) (b .refutation)
-              → identifiersOf L R₁ ++ drop (stepsIn R₁) (b .identifiers) ≡ identifiersOf L R ++ drop (stepsIn R) (b .identifiers)
-          written R u e =
-              let rest = drop (length R) (b .refutation) in
-              rw (e, identifiers-front n L R rest u, counts-front n L R rest u)
+      decided-no k y I i w₂ z = record { is = answer-no (k .verdict ∙ ap not y); leaves = no-left n L (ok .lines) (b .refutation) R₁ (k .on-no y) (workRoom n) b refl I i w₂ (cleared-is n (b .work) w₁ w₂ (k .behind) z) }
 
       module _ (k : Searched n L (b .refutation) (b .work) R₁ w₁ false) where
         table-is : tableIn n w₁ ≡ tableFor n L
@@ -179,7 +205,7 @@ module _ (n : ℕ) (L : List ℤ) (b : Lent) where
         answers-ready =
             let o = decide-ok n L b e in
             subst (λ (t : List ℤ). AnswersReady n t (b .model) (b .bounds) (b .groups)) (sym table-is)
-            (record { table = short-table n L (ok .variables) (ok .lines); closed = table-closed n L ok (k .verdict); small = model-ready n L ok (k .verdict); model-room = model-room (o .rooms); bounds-room = bounds-room (o .rooms); groups-room = groups-room (o .rooms) })
+            (record { table = short-table n L (ok .variables) (ok .lines); closed = table-closed n L ok (k .verdict); small = model-ready n L ok (k .verdict); model-room = model-room workRoom (o .rooms); bounds-room = bounds-room workRoom (o .rooms); groups-room = groups-room workRoom (o .rooms) })
 
         pub decided-yes : (m bs : List ℤ) (g : List ℕ)
             → (m ≡ tabulate n (tableModel n (tableOf (2 * n) (tableIn n w₁))) ++ drop (modelRoom n) (b .model))

@@ -19,7 +19,7 @@ use Rattle.theory_bounds.specs.Answers.{modelOf, boundsOf, groupsOf}
 use Rattle.decide_identifiers.specs.Identifiers.{identifiersOf, length-identifiers, counts-front}
 use Rattle.decide_buffers.specs.Room.{Lent, modelRoom, boundsRoom, groupsRoom}
 use Rattle.decide.specs.declared.Answer.the-variants.{Yes, No}
-use Rattle.decide.specs.Decided.{NotRefused, unlessRefused, decideAnswer, answerFor, validityFor, OnYes, OnNo}
+use Rattle.decide.specs.Decided.{NotRefused, unlessRefused, decideAnswer, answerFor, validityFor, YesLeft, NoLeft}
 
 -- The parts that are written: of a refutation, the 3 + p + q numbers that its counts tell.
 abbrev pub modelIn : ℕ → Lent → List ℤ
@@ -74,28 +74,28 @@ module _ (n : ℕ) (L : List ℤ) (b : Lent) where
       go (validity.Refused r) t e = never (cc)
 
 -- ---- the written part is the refutation
-module _ {n : ℕ} {L : List ℤ} {b a : Lent} where
-  pub model-in : OnYes n L b a → modelIn n a ≡ modelOf n (linesOf L)
+module _ {room n : ℕ} {L : List ℤ} {b a : Lent} where
+  pub model-in : YesLeft room n L b a → modelIn n a ≡ modelOf n (linesOf L)
   unfolding modelOf
   model-in w = ap (take (modelRoom n)) (w .model) ∙ take-at (modelOf n (linesOf L)) _ (modelRoom n) (length-tabulate (modelRoom n) _)
 
-  pub bounds-in : OnYes n L b a → boundsIn n a ≡ boundsOf n (linesOf L)
+  pub bounds-in : YesLeft room n L b a → boundsIn n a ≡ boundsOf n (linesOf L)
   unfolding boundsOf
   bounds-in w = ap (take (boundsRoom n)) (w .bounds) ∙ take-at (boundsOf n (linesOf L)) _ (boundsRoom n) (length-tabulate (boundsRoom n) _)
 
-  pub groups-in : OnYes n L b a → groupsIn n a ≡ groupsOf n (linesOf L)
+  pub groups-in : YesLeft room n L b a → groupsIn n a ≡ groupsOf n (linesOf L)
   unfolding groupsOf
   groups-in w = ap (take (groupsRoom n)) (w .groups) ∙ take-at (groupsOf n (linesOf L)) _ (groupsRoom n) (length-tabulate (groupsRoom n) _)
 
-  pub refutation-in : (w : OnNo n L b a) → refutationIn a ≡ w .numbers
+  pub refutation-in : (w : NoLeft room n L b a) → refutationIn a ≡ w .numbers
   refutation-in w =
       let size = stated-length L (w .numbers) (w .due .refutes) (drop (length (w .numbers)) (b .refutation)) in
       ap stated (w .refutation) ∙ take-at (w .numbers) _ _ size
 
   -- the counts that the buffer states are those of the refutation
-  pub steps-in : (w : OnNo n L b a) → stepsIn (a .refutation) ≡ stepsIn (w .numbers)
+  pub steps-in : (w : NoLeft room n L b a) → stepsIn (a .refutation) ≡ stepsIn (w .numbers)
   steps-in w = ap stepsIn (w .refutation) ∙ counts-front n L (w .numbers) (drop (length (w .numbers)) (b .refutation)) (w .due .refutes)
 
-  pub identifiers-in : (w : OnNo n L b a) → identifiersIn a ≡ identifiersOf L (w .numbers)
+  pub identifiers-in : (w : NoLeft room n L b a) → identifiersIn a ≡ identifiersOf L (w .numbers)
   identifiers-in w =
       rw (steps-in w) (ap (take (stepsIn (w .numbers))) (w .identifiers) ∙ take-at (identifiersOf L (w .numbers)) _ _ (length-identifiers L (w .numbers)))

@@ -19,7 +19,7 @@ ghost use Rattle.decide_stored_table.specs.Table.{tableOf, ShortTable};
 ghost use Rattle.decide_bounds_groups.specs.Grouping.{halfIn, tightIn, HalfReady, GroupsReady};
 
 // Written for a least value that is absent.
-const ABSENT_LEAST: i64 = -9223372036854775808;
+pub const ABSENT_LEAST: i64 = -9223372036854775808;
 
 // The greatest value of x. An absent one is written as the number that stands for no walk.
 fn greatest_at(table: &[i64], n: usize, x: usize) -> i64

@@ -70,6 +70,10 @@ identifiersRoom n = 4 + 4 * n
 abbrev pub workRoom : ℕ → ℕ
 workRoom n = 16 * n * n + 64 * n + 64
 
+-- of the engine for differences: it has one point for each variable
+abbrev pub differencesWorkRoom : ℕ → ℕ
+differencesWorkRoom n = 2 * n * n + 16 * n + 16
+
 -- ---- the table of rooms
 -- the room of a buffer, how long it is, and the refusal where it is shorter than its room
 pub record Room : Type 0 where
@@ -87,13 +91,19 @@ outputRooms =
     ∷ record { room = identifiersRoom; size = λ s. s .identifiers; refusal = ShortOutput 5 }
     ∷ []
 
--- 8: the work area
+-- 8: the work area, of the room that an engine needs there
+abbrev pub workRoomsBy : (ℕ → ℕ) → List Room
+workRoomsBy work = record { room = work; size = λ s. s .work; refusal = ShortWorkArea } ∷ []
+
 abbrev pub workRooms : List Room
-workRooms = record { room = workRoom; size = λ s. s .work; refusal = ShortWorkArea } ∷ []
+workRooms = workRoomsBy workRoom
 
 -- 7, then 8
+abbrev pub lentRoomsBy : (ℕ → ℕ) → List Room
+lentRoomsBy work = outputRooms ++ workRoomsBy work
+
 abbrev pub lentRooms : List Room
-lentRooms = outputRooms ++ workRooms
+lentRooms = lentRoomsBy workRoom
 
 -- of these the model, which is the first, and the work area
 abbrev pub modelRooms : List Room
@@ -126,7 +136,7 @@ none-short (r ∷ rs) n s e =
     let p = or-valid (refuseIf (ltb (r .size s) (r .room n)) (r .refusal)) (firstShort rs n s) e in
     (ltb-false (r .size s) (r .room n) (not-refused (ltb (r .size s) (r .room n)) (r .refusal) (p .0)), none-short rs n s (p .1))
 
-short-none : (rs : List Room) (n : ℕ) (s : Lengths) → HaveRoom rs n s → firstShort rs n s ≡ Valid
+pub short-none : (rs : List Room) (n : ℕ) (s : Lengths) → HaveRoom rs n s → firstShort rs n s ≡ Valid
 short-none [] n s h = refl
 short-none (r ∷ rs) n s h = rw (le-ltb (r .size s) (r .room n) (h .0)) (short-none rs n s (h .1))
 
@@ -139,7 +149,7 @@ unfolding roomsValidity
 room-valid n s h = short-none lentRooms n s h
 
 -- each by its name
-module _ {n : ℕ} {s : Lengths} (h : HaveRoom lentRooms n s) where
+module _ (work : ℕ → ℕ) {n : ℕ} {s : Lengths} (h : HaveRoom (lentRoomsBy work) n s) where
   pub model-room : modelRoom n ≤ s .model
   model-room = h .0
 
@@ -155,7 +165,7 @@ module _ {n : ℕ} {s : Lengths} (h : HaveRoom lentRooms n s) where
   pub identifiers-room : identifiersRoom n ≤ s .identifiers
   identifiers-room = h .1 .1 .1 .1 .0
 
-  pub work-room : workRoom n ≤ s .work
+  pub work-room : work n ≤ s .work
   work-room = h .1 .1 .1 .1 .1 .0
 
 -- ---- the places are small
@@ -168,9 +178,12 @@ placed-short m [] p n s = valid
 placed-short m (r ∷ rs) p n s =
     placed-or m (refuseIf (ltb (r .size s) (r .room n)) (r .refusal)) (firstShort rs n s) (placed-if m (ltb (r .size s) (r .room n)) (r .refusal) (p .0)) (placed-short m rs (p .1) n s)
 
+pub placed-rooms-by : (work : ℕ → ℕ) (m : ℕ) → mostPlace < m → (n : ℕ) (s : Lengths) → Placed m (firstShort (lentRoomsBy work) n s)
+placed-rooms-by work m h n s = placed-short m (lentRoomsBy work) (omega arith, (omega arith, (omega arith, (omega arith, (omega arith, (omega arith, tt)))))) n s
+
 pub placed-rooms : (m : ℕ) → mostPlace < m → (n : ℕ) (s : Lengths) → Placed m (roomsValidity n s)
 unfolding roomsValidity
-placed-rooms m h n s = placed-short m lentRooms (omega arith, (omega arith, (omega arith, (omega arith, (omega arith, (omega arith, tt)))))) n s
+placed-rooms m h n s = placed-rooms-by workRoom m h n s
 
 -- ---- more variables need no less
 work-more : (n k : ℕ) → n ≤ k → workRoom n ≤ workRoom k
@@ -181,13 +194,16 @@ work-more n k h =
 
 pub fewer-room : (n k : ℕ) → n ≤ k → (s : Lengths) → HaveRoom lentRooms k s → HaveRoom lentRooms n s
 fewer-room n k h s r = (
-  omega (arith, h, model-room r),
-  (omega (arith, h, bounds-room r), (omega (arith, h, groups-room r), (omega (arith, h, refutation-room r), (omega (arith, h, identifiers-room r), (omega (arith, work-more n k h, work-room r), tt))))),
+  omega (arith, h, model-room workRoom r),
+  (omega (arith, h, bounds-room workRoom r), (omega (arith, h, groups-room workRoom r), (omega (arith, h, refutation-room workRoom r), (omega (arith, h, identifiers-room workRoom r), (omega (arith, work-more n k h, work-room workRoom r), tt))))),
 )
 
 -- no number of the sum comes near 64 bits
 pub work-small : (n : ℕ) → n ≤ maxVariables → workRoom n ≤ workRoom maxVariables
 work-small n h = work-more n maxVariables h
+
+pub differences-small : (n : ℕ) → n ≤ maxVariables → differencesWorkRoom n ≤ workRoom maxVariables
+differences-small n h = omega (arith, work-small n h)
 
 -- ---- zeros
 pub fill-more : (i : ℕ) (v : ℤ) (w : List ℤ) → i < length w → set (replicate i v ++ drop i w) i v ≡ replicate (i + 1) v ++ drop (i + 1) w

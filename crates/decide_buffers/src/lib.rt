@@ -9,7 +9,7 @@ ghost use Prim.Native.Nat.{_+_, _*_, _≤_};
 ghost use lib.IntN.{pos};
 ghost use lib.ListN.{length, drop, replicate};
 ghost use Rattle.lines.specs.Limits.{maxVariables};
-ghost use Rattle.decide_buffers.specs.Room.{modelRoom, boundsRoom, groupsRoom, refutationRoom, identifiersRoom, workRoom, modelLengths, modelRooms, firstShort, roomsValidity, decideValidity};
+ghost use Rattle.decide_buffers.specs.Room.{modelRoom, boundsRoom, groupsRoom, refutationRoom, identifiersRoom, workRoom, differencesWorkRoom, modelLengths, modelRooms, lentRoomsBy, firstShort, decideValidity};
 
 // The numbers of a room for each variable, for each pair of variables, and besides.
 const MODEL_EACH: usize = 1;
@@ -31,6 +31,12 @@ const WORK_PAIR: usize = 16;
 const WORK_EACH: usize = 64;
 
 const WORK_MORE: usize = 64;
+
+const DIFFERENCES_PAIR: usize = 2;
+
+const DIFFERENCES_EACH: usize = 16;
+
+const DIFFERENCES_MORE: usize = 16;
 // The rooms as constants, for arrays that are lent for so few variables: no function gives an array's length.
 pub const FEW_VARIABLES: usize = 16;
 
@@ -99,8 +105,16 @@ pub fn work_room(n: usize) -> usize
     WORK_PAIR * n * n + WORK_EACH * n + WORK_MORE
 }
 
-// Refusals 7 and 8: the first buffer that is too short, of those for output with its place.
-fn rooms_validity(
+// The same of the engine for differences.
+pub fn differences_work_room(n: usize) -> usize
+    requires { ⌜ n ≤ maxVariables ⌝ }
+    ensures { λ r. ⌜ r ≡ differencesWorkRoom n ⌝ }
+{
+    DIFFERENCES_PAIR * n * n + DIFFERENCES_EACH * n + DIFFERENCES_MORE
+}
+
+// Refusals 7 and 8: the first buffer that is too short, of those for output with its place. The work area needs `room`.
+pub fn rooms_validity(
     n: usize,
     model: usize,
     bounds: usize,
@@ -108,9 +122,10 @@ fn rooms_validity(
     refutation: usize,
     identifiers: usize,
     work: usize,
+    room: usize,
 ) -> Validity
     requires { ⌜ n ≤ maxVariables ⌝ }
-    ensures { λ r. ⌜ r ≡ roomsValidity n (record { model = model; bounds = bounds; groups = groups; refutation = refutation; identifiers = identifiers; work = work }) ⌝ }
+    ensures { λ r. ⌜ r ≡ firstShort (lentRoomsBy (λ _. room)) n (record { model = model; bounds = bounds; groups = groups; refutation = refutation; identifiers = identifiers; work = work }) ⌝ }
 {
     if model < model_room(n) {
         return Validity::Refused(Refusal::ShortOutput(1));
@@ -127,7 +142,7 @@ fn rooms_validity(
     if identifiers < identifiers_room(n) {
         return Validity::Refused(Refusal::ShortOutput(5));
     }
-    if work < work_room(n) {
+    if work < room {
         return Validity::Refused(Refusal::ShortWorkArea);
     }
     Validity::Valid
@@ -164,7 +179,16 @@ pub fn decide_validity(
     if let Validity::Refused(r) = found {
         return Validity::Refused(r);
     }
-    rooms_validity(n, model, bounds, groups, refutation, identifiers, work)
+    rooms_validity(
+        n,
+        model,
+        bounds,
+        groups,
+        refutation,
+        identifiers,
+        work,
+        work_room(n),
+    )
 }
 
 // Zeros in the first room numbers.

@@ -55,7 +55,7 @@ module _ (T : Table) (h : ℕ → Distance) where
   pick-cong s t k f =
       ap₂ near (limit-cong T h s t (below k) (point k 0) (λ x i. f x (below-lt x k i))) (limit-cong T h s t (below k) (point k 1) (λ x i. f x (below-lt x k i)))
 
-  next-is : (n k : ℕ) → k < n → (s : Assignment) → ((x : ℕ) → x < k → s x ≡ model T h n x) → pick T h s (below k) k ≡ model T h n k
+  pub next-is : (n k : ℕ) → k < n → (s : Assignment) → ((x : ℕ) → x < k → s x ≡ model T h n x) → pick T h s (below k) k ≡ model T h n k
   next-is n k l s f =
       pick-cong s (model T h k) k (λ x i. f x i ∙ model-stays n x (omega arith) ∙ sym (model-stays k x i)) ∙ sym (model-picks n k l)
 

@@ -54,7 +54,7 @@ fn limit_at(table: &[i64], n: usize, p: usize, values: &[i32]) -> i64
 }
 
 // The number nearest zero that is at most `up`, and whose opposite is at most `low`. NO_WALK is no end.
-fn nearest_value(up: i64, low: i64) -> i64
+pub fn nearest_value(up: i64, low: i64) -> i64
     requires { ⌜ Short maxSum (distanceOf low) ⌝ }
     ensures { λ r. ⌜ r ≡ near (distanceOf up) (distanceOf low) ⌝ }
 {

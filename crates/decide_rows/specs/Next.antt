@@ -72,13 +72,13 @@ pub record RowDone (m : ℕ) (E : List Step) (w : List ℤ) (from : ℕ) (w′ :
   pub is : w′ ≡ take from w ++ (withNext E (rowIn m w from) ++ drop (from + 2 * m) w)
   pub settled : same ≡ sameRows m (withNext E (rowIn m w from))
 
-next-length : (E : List Step) (row : List ℤ) → length (storedRow (relaxRow E (rowOf row))) ≡ length row
+pub next-length : (E : List Step) (row : List ℤ) → length (storedRow (relaxRow E (rowOf row))) ≡ length row
 next-length E row = length-map (relaxRow E (rowOf row)) stored ∙ relax-length E (rowOf row) ∙ length-map row distanceOf
 
-in-length : (m : ℕ) (w : List ℤ) (from : ℕ) → from + m ≤ length w → length (rowIn m w from) ≡ m
+pub in-length : (m : ℕ) (w : List ℤ) (from : ℕ) → from + m ≤ length w → length (rowIn m w from) ≡ m
 in-length m w from h = simp (length-take, length-drop) (omega arith)
 
-with-length : (E : List Step) (m : ℕ) (row : List ℤ) → length row ≡ m → length (withNext E row) ≡ 2 * m
+pub with-length : (E : List Step) (m : ℕ) (row : List ℤ) → length row ≡ m → length (withNext E row) ≡ 2 * m
 with-length E m row e = length-append row (storedRow (relaxRow E (rowOf row))) ∙ omega (arith, e, next-length E row)
 
 pub row-ready : (n c : ℕ) (L w : List ℤ) (from k : ℕ) → k ≡ 2 * (2 * n * c) → RowReady n c L w from → Ready n c L (take k (drop from w))
@@ -106,11 +106,17 @@ module _ (m from k : ℕ) (E : List Step) (w part : List ℤ) (ek : k ≡ 2 * m)
       ap (take k) (drop-at (take from w) (part ++ drop k (drop from w)) from (length-take-le from w (omega arith)))
       ∙ take-at part (drop k (drop from w)) k part-length
 
+  pub part-next : take k (drop from after) ≡ withNext E (rowIn m w from)
+  part-next = part-again ∙ part-is
+
+  pub after-is : after ≡ take from w ++ (withNext E (rowIn m w from) ++ drop (from + 2 * m) w)
+  after-is = ap₂ (λ (x y : List ℤ). take from w ++ (x ++ y)) part-is (drop-drop k from w ∙ ap (λ (j : ℕ). drop (from + j) w) ek)
+
   pub row-done : (same : Bool) → same ≡ sameRows m (take k (drop from after)) → RowDone m E w from after same
   row-done same es =
       record {
-        is = ap₂ (λ (x y : List ℤ). take from w ++ (x ++ y)) part-is (drop-drop k from w ∙ ap (λ (j : ℕ). drop (from + j) w) ek);
-        settled = es ∙ ap (sameRows m) (part-again ∙ part-is);
+        is = after-is;
+        settled = es ∙ ap (sameRows m) part-next;
       }
 
 -- ---- a single column

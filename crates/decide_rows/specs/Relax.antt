@@ -214,24 +214,29 @@ module _ (n c : ℕ) (L rows₀ : List ℤ) (r : Ready n c L rows₀) where
     pub round-end : k ≡ 2 * lineCount L → rows ≡ relaxedBy m rows₀ (wide c (stepsOf (linesOf L)))
     round-end q = t .is ∙ ap (λ (E : List Step). relaxedBy m rows₀ (wide c E)) (ap (stepsBefore L) q ∙ before-all L)
 
--- ---- the old row copied behind itself
-module _ (n c : ℕ) (L rows rows₀ : List ℤ) (r : Ready n c L rows) (e : rows₀ ≡ copied rows 0 (2 * n * c) (2 * n * c)) where
+-- ---- the old row, of m numbers, copied behind itself
+module _ (m : ℕ) (rows rows₀ : List ℤ) (long : length rows ≡ 2 * m) (e : rows₀ ≡ copied rows 0 m m) where
   abbrev row : List ℤ
-  row = take (2 * n * c) rows
+  row = take m rows
 
-  row-length : length row ≡ 2 * n * c
-  row-length = length-take-le (2 * n * c) rows (omega (arith, r .long))
+  row-length : length row ≡ m
+  row-length = length-take-le m rows (omega arith)
 
   twice : rows₀ ≡ row ++ row
   twice =
-      let h : length rows ≤ 2 * n * c + 2 * n * c = omega (arith, r .long) in
+      let h : length rows ≤ m + m = omega arith in
       e ∙ ap (λ (x : List ℤ). row ++ row ++ x) (drop-of-length-le rows h) ∙ append-nil (row ++ row)
 
-  pub copy-ready : Ready n c L rows₀
-  copy-ready = record { few = r .few; valid = r .valid; long = ap length twice ∙ length-append row row ∙ omega (arith, row-length); short = rw (ap (take (2 * n * c)) twice ∙ take-at row row (2 * n * c) row-length) (r .short) }
+  pub copy-long : length rows₀ ≡ 2 * m
+  copy-long = ap length twice ∙ length-append row row ∙ omega (arith, row-length)
+
+  pub copy-first : take m rows₀ ≡ take m rows
+  copy-first = ap (take m) twice ∙ take-at row row m row-length
 
   -- relaxed from the copy, it is the row that a round makes
-  pub copy-end : (E : List Step) → relaxedBy (2 * n * c) rows₀ E ≡ row ++ storedRow (relaxRow E (rowOf row))
+  pub copy-end : (E : List Step) → relaxedBy m rows₀ E ≡ row ++ storedRow (relaxRow E (rowOf row))
   unfolding relaxRow
-  copy-end E =
-      ap₂ (λ (x y : List ℤ). x ++ storedRow (relaxFrom (rowOf x) (rowOf y) E)) (ap (take (2 * n * c)) twice ∙ take-at row row (2 * n * c) row-length) (ap (drop (2 * n * c)) twice ∙ drop-at row row (2 * n * c) row-length)
+  copy-end E = ap₂ (λ (x y : List ℤ). x ++ storedRow (relaxFrom (rowOf x) (rowOf y) E)) copy-first (ap (drop m) twice ∙ drop-at row row m row-length)
+
+pub copy-ready : (n c : ℕ) (L rows rows₀ : List ℤ) → Ready n c L rows → rows₀ ≡ copied rows 0 (2 * n * c) (2 * n * c) → Ready n c L rows₀
+copy-ready n c L rows rows₀ r e = record { few = r .few; valid = r .valid; long = copy-long (2 * n * c) rows rows₀ (r .long) e; short = rw (copy-first (2 * n * c) rows rows₀ (r .long) e) (r .short) }

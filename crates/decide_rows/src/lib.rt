@@ -36,7 +36,7 @@ pub fn copy_row(work: &mut [i64], from: usize, to: usize, size: usize)
 }
 
 // One step, from a point of the old row to one of the new row behind it.
-fn relax_at(rows: &mut [i64], size: usize, from: usize, to: usize, weight: i64)
+pub fn relax_at(rows: &mut [i64], size: usize, from: usize, to: usize, weight: i64)
     requires { ⌜ (length (now rows) ≡ 2 * size) × (from < size) × (to < size) × Within maxWeight weight × Short maxDistance (distanceOf (number (now rows) from)) ⌝ }
     ensures { λ _. ⌜ now (rows .exit) ≡ relaxIn (now (rows .entry)) size from to weight ⌝ }
 {

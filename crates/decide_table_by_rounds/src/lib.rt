@@ -18,7 +18,7 @@ ghost use Rattle.decide_stored_table.specs.Table.{tableOf, ShortTable};
 ghost use Rattle.decide_table_by_rounds.specs.Made.{TableMade};
 
 // The table before the first round: each point's distance to itself is 0, and there is no other.
-fn start_table(work: &mut [i64], place: usize, size: usize)
+pub fn start_table(work: &mut [i64], place: usize, size: usize)
     requires { ⌜ place + size * size ≤ length (now work) ⌝ }
     ensures { λ _. ⌜ now (work .exit) ≡ take place (now (work .entry)) ++ storedRow (startTable size size) ++ drop (place + size * size) (now (work .entry)) ⌝ }
 {

@@ -120,38 +120,44 @@ numbered-start n L k t ok e =
     let l = from-line L k t e in
     line-step-known n (lineAt L (k / 2)) (k % 2) t (ok (k / 2) (l .0)) (omega arith) (l .1) .from-lt
 
--- ---- what the test says where it holds
-pub record Made (L old : List ℤ) (v : ℕ) (z : ℤ) (number : ℕ) : Type 0 where
-  pub step : Step
-  pub named : stepNumbered L number ≡ Found step
-  pub ends : step .to ≡ v
-  pub known : entry old (step .from) ≡ absentGreatest → ⊥
-  pub sum : entry old (step .from) +ℤ step .weight ≡ z
+-- ---- what the test says of a step where it holds
+pub record StepMade (old : List ℤ) (v : ℕ) (z : ℤ) (t : Step) : Type 0 where
+  pub ends : t .to ≡ v
+  pub known : entry old (t .from) ≡ absentGreatest → ⊥
+  pub sum : entry old (t .from) +ℤ t .weight ≡ z
 
-pub made : (L old : List ℤ) (v : ℕ) (z : ℤ) (number : ℕ) → makesValue L old v z number ≡ true → Made L old v z number
+pub step-made : (old : List ℤ) (v : ℕ) (z : ℤ) (t : Step) → stepMakes old v z t ≡ true → StepMade old v z t
 unfolding stepMakes
-made L old v z number = go (stepNumbered L number) refl
+step-made old v z t = by (eqb (t .to) v) (eqZ (entry old (t .from)) absentGreatest) (eqZ (entry old (t .from) +ℤ t .weight) z) refl refl refl
   where
-    by : (t : Step) → stepNumbered L number ≡ Found t → (a b c : Bool) → eqb (t .to) v ≡ a → eqZ (entry old (t .from)) absentGreatest ≡ b
-        → eqZ (entry old (t .from) +ℤ t .weight) z ≡ c → cond a (cond b false c) false ≡ true → Made L old v z number
-    by t n false b c ea eb ec e = never (cc)
-    by t n true true c ea eb ec e = never (cc)
-    by t n true false c ea eb ec e =
+    by : (a b c : Bool) → eqb (t .to) v ≡ a → eqZ (entry old (t .from)) absentGreatest ≡ b → eqZ (entry old (t .from) +ℤ t .weight) z ≡ c
+        → cond a (cond b false c) false ≡ true → StepMade old v z t
+    by false b c ea eb ec e = never (cc)
+    by true true c ea eb ec e = never (cc)
+    by true false c ea eb ec e =
         record {
-          step = t;
-          named = n;
           ends = eqb-true (t .to) v ea;
           known = λ f. let clash : true ≡ false = sym (eq-eqZ (entry old (t .from)) absentGreatest f) ∙ eb in never (cc);
           sum = eqZ-true (entry old (t .from) +ℤ t .weight) z (ec ∙ e);
         }
 
+-- and back
+pub step-makes : (old : List ℤ) (v : ℕ) (z : ℤ) (t : Step) → StepMade old v z t → stepMakes old v z t ≡ true
+unfolding stepMakes
+step-makes old v z t m = rw (eq-eqb (t .to) v (m .ends), ne-eqZ (entry old (t .from)) absentGreatest (m .known)) (eq-eqZ (entry old (t .from) +ℤ t .weight) z (m .sum))
+
+-- the same of a number
+pub record Made (L old : List ℤ) (v : ℕ) (z : ℤ) (number : ℕ) : Type 0 where
+  pub step : Step
+  pub named : stepNumbered L number ≡ Found step
+  pub is : StepMade old v z step
+
+pub made : (L old : List ℤ) (v : ℕ) (z : ℤ) (number : ℕ) → makesValue L old v z number ≡ true → Made L old v z number
+made L old v z number = go (stepNumbered L number) refl
+  where
     go : (s : NamedStep) → stepNumbered L number ≡ s → namedMakes old v z s ≡ true → Made L old v z number
-    go (Found t) n e = by t n (eqb (t .to) v) (eqZ (entry old (t .from)) absentGreatest) (eqZ (entry old (t .from) +ℤ t .weight) z) refl refl refl e
+    go (Found t) n e = record { step = t; named = n; is = step-made old v z t e }
     go Nothing n e = never (cc)
 
--- and back
 pub makes : (L old : List ℤ) (v : ℕ) (z : ℤ) (number : ℕ) → Made L old v z number → makesValue L old v z number ≡ true
-unfolding stepMakes
-makes L old v z number m =
-    let t = m .step in
-    rw (m .named, eq-eqb (t .to) v (m .ends), ne-eqZ (entry old (t .from)) absentGreatest (m .known)) (eq-eqZ (entry old (t .from) +ℤ t .weight) z (m .sum))
+makes L old v z number m = rw (m .named) (step-makes old v z (m .step) (m .is))

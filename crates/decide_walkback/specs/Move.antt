@@ -20,7 +20,7 @@ use Rattle.theory_walks.specs.Distance.{Distance, none, some, ⊕-some}
 use Rattle.theory_walks.specs.Row.{at, relaxRow, Along, at-lt, relax-one}
 use Rattle.lines.specs.Limits.{absentGreatest}
 use Rattle.theory_walks.specs.Graph.{numbered}
-use Rattle.decide_rows.specs.Stored.{stored, storedRow}
+use Rattle.decide_rows.specs.Stored.{stored, storedRow, stored-at}
 use Rattle.decide_walkback.specs.declared.Move.{Move}
 use Rattle.decide_walkback.specs.Makes.{entry, maxEntry, Near, startOf, Maker, SearchOk, IsMaker, makes}
 use Rattle.steps.specs.Laws.{number-below}
@@ -74,11 +74,6 @@ at-most-one (inr g) = omega (arith, g .count)
 pub entry-in : (N : ℕ) (w : List ℤ) (from p : ℕ) → p < N → entry (rowIn N w from) p ≡ entry w (from + p)
 entry-in N w from p h = getD-take N (drop from w) p (pos 0) h ∙ getD-drop from w p (pos 0)
 
-pub stored-at : (row : List Distance) (p : ℕ) → p < length row → entry (storedRow row) p ≡ stored (at row p)
-stored-at [] p h = absurd (omega arith)
-stored-at (d ∷ row) zero h = refl
-stored-at (d ∷ row) (suc p) h = stored-at row p (omega arith)
-
 -- a small number is not the one that stands for no walk
 pub not-absent : (z : ℤ) → Within maxEntry z → z ≡ absentGreatest → ⊥
 not-absent z w e = go z (w .high) e
@@ -117,9 +112,11 @@ module _ (L : List ℤ) (row : List Distance) (small : SmallRow row) (p : ℕ) (
               (record {
                 step = t;
                 named = k .1;
-                ends = sym (a .ends);
-                known = λ q. not-absent (x .0) (small (t .from) (x .0) (x .1)) (sym e ∙ q);
-                sum = ap (λ (y : ℤ). y +ℤ t .weight) e ∙ x .2;
+                is = record {
+                  ends = sym (a .ends);
+                  known = λ q. not-absent (x .0) (small (t .from) (x .0) (x .1)) (sym e ∙ q);
+                  sum = ap (λ (y : ℤ). y +ℤ t .weight) e ∙ x .2;
+                };
               });
         };
       }

@@ -21,10 +21,10 @@ use Rattle.theory_walks.specs.Row.{at, relaxRow, rowAt, at-lt, start-some, row-
 use Rattle.theory_walks.specs.Size.{within-more, row-within}
 use Rattle.lines.specs.Limits.{absentGreatest}
 use Rattle.theory_walks.specs.Graph.{weights-small}
-use Rattle.decide_rows.specs.Stored.{stored, storedRow, storedRows}
+use Rattle.decide_rows.specs.Stored.{stored, storedRow, stored-at, storedRows}
 use Rattle.decide_walkback.specs.declared.Move.{Move}
 use Rattle.decide_walkback.specs.Makes.{entry, startOf, made, numbered-start}
-use Rattle.decide_walkback.specs.Move.{rowIn, SmallRow, MoveOk, Stays, Goes, Moved, entry-in, stored-at, stored-some, not-absent}
+use Rattle.decide_walkback.specs.Move.{rowIn, SmallRow, MoveOk, Stays, Goes, Moved, entry-in, stored-some, not-absent}
 
 -- ---- what the function asks and promises
 -- rows 0 to top of the source u stand at the front, the last one's entry at v is a number, and behind them, from a place on, there is room for
@@ -265,7 +265,7 @@ module _ (n : ℕ) (L : List ℤ) (u : ℕ) (w₀ : List ℤ) (top v place : ℕ
             let x = entry (rowIn (2 * n) w (before - 2 * n)) (t .from) in
             let e : slot - r .count ≡ slot - 1 = omega (arith, g .count) in
             let f : slot - 1 + 1 ≡ slot = omega (arith, b .free) in
-            let y : x +ℤ t .weight ≡ b .value = m .sum ∙ here-is in
+            let y : x +ℤ t .weight ≡ b .value = m .is .sum ∙ here-is in
             let from : r .point ≡ t .from = g .point ∙ ap startOf (m .named) in
             rw (e, from)
             (record {
@@ -279,9 +279,9 @@ module _ (n : ℕ) (L : List ℤ) (u : ℕ) (w₀ : List ℤ) (top v place : ℕ
                   ∙ set-last w₀ (map pos (b .numbers) ++ drop (place + top) w₀) (slot - 1) (pos j) (omega (arith, slot-in, b .free));
               steps = t ∷ b .steps;
               named = (m .named, b .named);
-              path = (refl, rw (m .ends) (b .path));
+              path = (refl, rw (m .is .ends) (b .path));
               value = x;
-              reached = old-some (t .from) (numbered-start n L j t (a .lines) (m .named)) (m .known);
+              reached = old-some (t .from) (numbered-start n L j t (a .lines) (m .named)) (m .is .known);
               sum = b .sum ∙ ap some (regroup x (t .weight) (b .value) (total (b .steps)) y);
             })
 

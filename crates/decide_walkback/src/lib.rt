@@ -22,7 +22,7 @@ pub struct Move {
 }
 
 // Whether a step makes the value z at v from the old row. The highest number stands for no walk: nothing is added to it.
-fn step_makes(old: &[i64], t: Step, v: usize, z: i64) -> bool
+pub fn step_makes(old: &[i64], t: Step, v: usize, z: i64) -> bool
     requires { ⌜ (t .from < length (now old)) × Near (entry (now old) (t .from)) × Within maxWeight (t .weight) ⌝ }
     ensures { λ r. ⌜ r ≡ stepMakes (now (old .entry)) v z t ⌝ }
 {

@@ -16,8 +16,7 @@ use Rattle.steps.specs.Point.{opposite}
 use Rattle.steps.specs.Step.{stepsOf}
 use Rattle.theory_walks.specs.Row.{best}
 use Rattle.theory_bounds.specs.Points.{opposite-below}
-use Rattle.theory_bounds.specs.Tight.{Table, halves, tight}
-use Rattle.theory_bounds.specs.Range.{model-same}
+use Rattle.theory_bounds.specs.Tight.{Table}
 use Rattle.theory_bounds.specs.Table.{ClosedTable, tableModel}
 use Rattle.theory_bounds.specs.Answers.{modelOf, boundAt, boundsOf, groupAt, groupsOf}
 use Rattle.theory_bounds.specs.Verdict.{distances, verdictOf}
@@ -29,14 +28,10 @@ use Rattle.decide_rows.specs.Table.{storedTable, table-length, stored-at, best-
 use Rattle.decide_stored_table.specs.Sum.{read-back}
 use Rattle.decide_stored_table.specs.Table.{tableOf, ShortTable}
 use Rattle.decide_model.specs.Limit.{maxModel}
-use Rattle.theory_bounds.specs.Agree.{Agree, halves-same, tight-same, bounds-same, groups-same}
+use Rattle.theory_bounds.specs.Agree.{Agree, halves-same, table-model-same, bounds-same, groups-same}
 
--- ---- two tables with the same distances between the points of n variables have the same model, and are closed alike
+-- ---- two tables with the same distances between the points of n variables are closed alike
 module _ (n : ℕ) (D E : Table) (same : Agree (2 * n) D E) where
-  pub table-model-same : (x : ℕ) → tableModel n D x ≡ tableModel n E x
-  unfolding tableModel
-  table-model-same = model-same n (tight D) (tight E) (halves D) (halves E) (tight-same n D E same) (halves-same n D E same) n (omega arith)
-
   closed-same : ClosedTable n E → ClosedTable n D
   closed-same c =
       record {

@@ -1,6 +1,7 @@
 -- What was asked of sizes, in the words of docs/SPECIFICATION.md, each statement proved by citing the rest. On a list of n variables, with M the limit on d:
 -- every value of a model lies within ±n·M, and so does every bound that is there; every implied sum or difference lies within twice that; the model that shows
--- that a line is not implied lies within ±n·(M + 1). All values of models fit 32 bits. These sizes are reached: `chainList` has a value, and a bound, of n·M.
+-- that a line is not implied lies within ±n·(M + 1). Both are within the ±2·n·M that was asked for. All values of models fit 32 bits. These sizes are reached:
+-- `chainList` has a value, and a bound, of n·M.
 use mathlib.Core.Path.{_≡_, refl, sym, ap, _∙_}
 use mathlib.Core.Logic.{_⊎_, inl, inr}
 use mathlib.Core.Bool.{Bool, true, false, cond, _&&_}

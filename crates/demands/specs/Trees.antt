@@ -16,10 +16,11 @@ use native.Mathlib.Omega.{arith}
 use lib.IntN.{ℤ, pos}
 use lib.ListN.{length, getD, take, drop}
 use lib.Seq.{take-at, drop-at, ext-getD}
-use Rattle.integers.specs.Integer.{_⩽_}
+use Rattle.integers.specs.Integer.{_⩽_, Within}
 use Rattle.integers.specs.Laws.{never}
 use Rattle.integers.specs.Sequence.{length-tabulate}
 use Rattle.lines.specs.declared.Line.{Line}
+use Rattle.lines.specs.Limits.{maxConstant}
 use Rattle.lines.specs.declared.Refusal.{Refusal}
 use Rattle.lines.specs.declared.Validity.{Validity}
 use Rattle.lines.specs.declared.Validity.the-variants as validity
@@ -57,6 +58,7 @@ use Rattle.tree_choices.specs.Choosing.{choiceOf}
 use Rattle.tree_choices.specs.Missing.{ChoiceRefused, choice-refused-exactly}
 use Rattle.tree_lists.specs.Condition.{choiceList, Condition, choice-meets, choice-valid}
 use Rattle.tree_answers.specs.First.{choiceVerdict, firstChoice, FirstSolvable, only-first}
+use Rattle.tree_answers.specs.Small.{choice-model-small}
 use Rattle.tree_answers.specs.Order.{earlier-first, later-behind, last-fastest}
 use Rattle.tree_answers.specs.Picked.{choiceAt, Picks, pickedLines, pickedList, list-picked, StepOf, PickedKind, LowestFalsePicked, choice-solutions, choice-solvable, choice-refutes, choice-accepted, kind-picked, picked-false, lowest-picked}
 use Rattle.tree_answers.specs.Longer.{PicksThese, Added, choice-entails, counts-too, meets-added}
@@ -499,6 +501,15 @@ right-first n L t c =
       beyond-model = beyond-first c;
       work = first-work c;
     }
+
+-- Every value of a model lies within n times the limit on d, of a choice that was asked for and of the first.
+pub choice-model-within : (n : ℕ) (L : List ℤ) (t : Tree) (k : ℕ) (c : ChoiceCall n L t k) → c .answer ≡ Yes k
+    → (x : ℕ) → x < n → Within (n * maxConstant) (getD (modelIn n (c .after)) x (pos 0))
+choice-model-within n L t k c e x h = rw (model-at (choice-left c true (choice-yes c e))) (choice-model-small n L t (choice-list c) k (choice-yes c e) x h)
+
+pub first-model-within : (n : ℕ) (L : List ℤ) (t : Tree) (c : FirstCall n L t) (k : ℕ) → c .answer ≡ Yes k
+    → (x : ℕ) → x < n → Within (n * maxConstant) (getD (take (modelRoom n) (c .after .model)) x (pos 0))
+first-model-within n L t c k e x h = rw (model-in c k e) (choice-model-small n L t (first-list c) k (yes-at c k e) x h)
 
 -- ---- the exported calls
 

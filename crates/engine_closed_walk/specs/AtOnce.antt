@@ -1,7 +1,7 @@
 -- A refutation at once: what is asked and promised, and the refutation that a walk followed back makes.
-use mathlib.Core.Path.{_≡_, refl, sym, ap, ap₂, subst, _∙_}
+use mathlib.Core.Path.{_≡_, refl, subst, _∙_}
 use mathlib.Core.Bool.{Bool, true, false}
-use mathlib.Core.List.{List, _∷_, _++_}
+use mathlib.Core.List.{List, _∷_}
 use Prim.Native.Nat.{ℕ, _+_, _*_, _-_, _<_, _≤_}
 use native.Mathlib.Omega.{arith}
 use lib.IntN.{ℤ, pos}
@@ -23,16 +23,15 @@ use Rattle.theory_walks.specs.Least.{best-short}
 use Rattle.theory_walks.specs.Negative.{notBelow0, noNegative, is-below, no-negative-false}
 use Rattle.theory_walks.specs.Graph.{ends-points, named-steps}
 use Rattle.check_refutation.specs.Progress.{headSize}
-use Rattle.check_soundness.specs.Refutes.{kind-1}
 use Rattle.engine_packed_steps.specs.Steps.{StepsReady}
 use Rattle.engine_packed_steps.specs.Scratch.{Scratch, scratch-at, scratch-ready, scratch-wider, scratch-trans, scratch-behind}
 use Rattle.engine_packed_steps.specs.Layout.{walksAt, rowAt, placesAt}
 use Rattle.decide_written_walks.specs.Copy.{StepNumbers, copiedTo}
 use Rattle.decide_written_walks.specs.Refutation.{RefutationWritten}
+use Rattle.decide_written_walks.specs.Stretch.{Stretch, closed-numbers, closed-shown}
 use Rattle.engine_closed_walk.specs.Filled.{Filled}
 use Rattle.engine_closed_walk.specs.Passes.{maxMark, SmallRow, Passed, PassReady}
 use Rattle.engine_closed_walk.specs.declared.Followed.{Followed}
-use Rattle.engine_closed_walk.specs.Stretch.{Stretch, stand-numbers, stand-behind}
 use Rattle.engine_closed_walk.specs.Follow.{FollowReady, FollowedBack}
 
 -- what is asked where marks stand: they end at `placesAt`
@@ -184,8 +183,11 @@ module _ (n : ℕ) (L : List ℤ) (R : List ℕ) (w : List ℤ) (a : FromReady n
       in-area : r .start + size ≤ length w′
       in-area = omega (arith, is, a .work-room, followed-scratch .same-length, f .walk .high)
 
+      row-inside : row ≤ length w′
+      row-inside = omega (arith, is, a .work-room, followed-scratch .same-length)
+
       pub copy-fits : (r .start + size ≤ length w′) × (headSize + size ≤ length R) × StepNumbers w′ (r .start) size
-      copy-fits = (in-area, omega (arith, a .room, at-most), stand-numbers w′ (r .start) (walk .numbers) (walk .stand) size size-is)
+      copy-fits = (in-area, omega (arith, a .room, at-most), closed-numbers walk row-inside)
 
       -- and its sum is below 0
       module _ (low : r .sum ⋖ pos 0) where
@@ -200,21 +202,17 @@ module _ (n : ℕ) (L : List ℤ) (R : List ℕ) (w : List ℤ) (a : FromReady n
 
         written : (R₁ : List ℕ) → R₁ ≡ copiedTo R headSize w′ (r .start) size → (R′ : List ℕ) → R′ ≡ 1 ∷ size ∷ 0 ∷ drop headSize R₁ → RefutationWritten n L 1 R w R′ w′
         written R₁ c R′ e =
+            let s = closed-shown walk row-inside (omega (arith, found, f .walk .high)) low R (omega (arith, a .room)) R₁ c R′ e in
             record {
-              numbers = 1 ∷ length (walk .numbers) ∷ 0 ∷ walk .numbers;
-              refutes = kind-1 (record { numbers = walk .numbers; point = p; is = refl; walk = record { steps = walk .steps; some = omega (arith, walk .count, found, f .walk .high); named = walk .named; path = walk .path }; low = negative });
-              kind-is = refl;
-              few = omega (arith, size-is, at-most);
-              size = omega (arith, size-is, at-most);
-              is =
-                  e ∙ ap₂ (λ (i : ℕ) (l : List ℕ). 1 ∷ i ∷ 0 ∷ l) (sym size-is) (stand-behind w′ (r .start) (walk .numbers) (omega (arith, size-is, in-area)) (walk .stand) size size-is R R₁ (omega (arith, a .room)) c)
-                  ∙ ap (λ (i : ℕ). 1 ∷ length (walk .numbers) ∷ 0 ∷ (walk .numbers ++ drop i R)) last;
+              numbers = s .numbers;
+              refutes = s .refutes;
+              kind-is = s .kind-is;
+              few = omega (arith, s .steps, at-most);
+              size = omega (arith, s .length-is, at-most);
+              is = s .is;
               same-length = followed-scratch .same-length;
               behind = followed-scratch .behind;
             }
-          where
-            last : headSize + size ≡ length (1 ∷ length (walk .numbers) ∷ 0 ∷ walk .numbers)
-            last = omega (arith, size-is)
 
         pub at-once-from : (R₁ : List ℕ) → R₁ ≡ copiedTo R headSize w′ (r .start) size → (R′ : List ℕ) → R′ ≡ 1 ∷ size ∷ 0 ∷ drop headSize R₁ → AtOnceFrom n L R w R′ w′ true
         at-once-from R₁ c R′ e =

@@ -23,7 +23,7 @@ use Rattle.steps.specs.Laws.{number-below}
 use Rattle.engine_packed_steps.specs.Scratch.{Scratch, scratch-none, scratch-set, scratch-trans}
 use Rattle.engine_packed_steps.specs.Layout.{rowAt, placesAt}
 use Rattle.engine_closed_walk.specs.declared.Followed.{Followed}
-use Rattle.engine_closed_walk.specs.Stretch.{Stretch, stand-before}
+use Rattle.decide_written_walks.specs.Stretch.{Stretch, stand-before}
 
 pub record FollowReady (n : ℕ) (L w : List ℤ) (v end : ℕ) : Type 0 where
   pub few : n ≤ maxVariables

@@ -2,6 +2,5 @@ pub mod Filled
 pub mod Passes
 pub mod Potential
 pub mod Back
-pub mod Stretch
 pub mod Follow
 pub mod AtOnce

@@ -24,7 +24,7 @@ use Rattle.engine_packed_steps.specs.Laid.{Laid}
 use Rattle.decide_written_walks.specs.Copy.{StepNumbers, copiedTo}
 use Rattle.decide_written_walks.specs.Refutation.{HalvesReady, RefutationWritten}
 use Rattle.engine_closed_walk.specs.declared.Followed.{Followed}
-use Rattle.engine_closed_walk.specs.Stretch.{Stand, Stretch, stretch-kept, stand-append, stand-numbers, stand-behind}
+use Rattle.decide_written_walks.specs.Stretch.{Stand, Stretch, stretch-kept, stand-append, stand-numbers, stand-behind}
 use Rattle.engine_halves_walks.specs.Between.{stepsEnd, BetweenReady, WalkedBetween}
 
 -- halves of two small sums have a sum

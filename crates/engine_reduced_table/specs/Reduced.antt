@@ -54,7 +54,7 @@ entry-far E a b i j = record { low = simp ints (omega arith); high = simp ints (
     never = simp ints (omega arith)
 
 -- walks join
-entry-join : {E : List Step} {a b c : ℤ} {i k j : ℕ} {x y : ℤ} → Entry E a b i k x → Entry E b c k j y → x +ℤ y ⋖ pos far → Entry E a c i j (x +ℤ y)
+pub entry-join : {E : List Step} {a b c : ℤ} {i k j : ℕ} {x y : ℤ} → Entry E a b i k x → Entry E b c k j y → x +ℤ y ⋖ pos far → Entry E a c i j (x +ℤ y)
 entry-join {E} {a} {b} {c} {i} {k} {j} {x} {y} p q h = record {
   low = sum-low x y (p .low) (q .low);
   high = below (x +ℤ y) h;
@@ -245,7 +245,7 @@ entry-sum-fits {x} {y} p q = fits x y (p .low) (p .high) (q .low) (q .high)
     fits x y = simp ints (omega zs)
 
 -- the smaller of an entry and a sum of two
-entry-least : {E : List Step} {a b c : ℤ} {i k j : ℕ} {x y z r : ℤ} → Entry E a c i j x → Entry E a b i k y → Entry E b c k j z → Least x (y +ℤ z) r → Entry E a c i j r
+pub entry-least : {E : List Step} {a b c : ℤ} {i k j : ℕ} {x y z r : ℤ} → Entry E a c i j x → Entry E a b i k y → Entry E b c k j z → Least x (y +ℤ z) r → Entry E a c i j r
 entry-least p q s (inl e) = rw e p
 entry-least {x} {y} {z} p q s (inr (e, l)) = rw e (entry-join q s (below x (y +ℤ z) l (p .high)))
   where

@@ -1,30 +1,28 @@
 -- A table whose entries no step from the front lowers, 0 on the diagonal, holds the distances: an entry turned back by
 -- the numbers of its two points is one.
-use mathlib.Core.Path.{_≡_, refl, sym, ap, subst, _∙_}
-use mathlib.Core.Bool.{Bool, true, false}
+use mathlib.Core.Path.{_≡_, sym, ap, subst}
+use mathlib.Core.Bool.{true}
 use mathlib.Core.List.{List, [], _∷_}
 use Prim.Native.Nat.{ℕ, _+_, _<_}
-use native.Mathlib.Nat.{mul-le-mul-right}
 use native.Mathlib.Omega.{arith}
-use lib.IntN.{ℤ, pos, negℤ, _+ℤ_, _-ℤ_}
-use lib.Signed.{ltZ}
-use Rattle.integers.specs.Integer.{_⩽_, _⋖_, half, Within}
+use lib.IntN.{ℤ, pos, _+ℤ_, _-ℤ_}
+use Rattle.integers.specs.Integer.{_⩽_}
 use Rattle.integers.specs.Linear.{ints}
 use Rattle.lines.specs.Line.{number}
 use Rattle.steps.specs.declared.Step.{Step}
 use Rattle.steps.specs.Step.{maxWeight}
 use Rattle.steps.specs.Walk.{total}
-use Rattle.theory_walks.specs.Distance.{Distance, none, some, _⊑_, le-some}
 use Rattle.theory_walks.specs.Row.{In, WithinPoints, best}
 use Rattle.theory_walks.specs.Reach.{Walk, walk-rest}
-use Rattle.theory_walks.specs.Least.{NoneNegative, best-attained, best-least}
+use Rattle.theory_walks.specs.Least.{NoneNegative}
 use Rattle.theory_walks.specs.Negative.{noNegative, no-negative-yes}
-use Rattle.theory_walks.specs.Size.{WithinWeights, best-within, within-more}
+use Rattle.theory_walks.specs.Size.{WithinWeights}
 use Rattle.decide_rows.specs.Stored.{stored}
 use Rattle.engine_packed_steps.specs.Steps.{stepIn, stepsIn, within-steps, light-steps, tabulate-all}
-use Rattle.engine_reduced_table.specs.Reduced.{far, maxPotential, cell, Entry, Reduced}
+use Rattle.engine_reduced_table.specs.Reduced.{cell, Reduced}
 use Rattle.engine_settled_table.specs.Settled.{AllSettled}
-use Rattle.engine_settled_table.specs.Out.{outOf, out-near, out-far, OutReady}
+use Rattle.engine_settled_table.specs.Out.{outOf, OutReady}
+use Rattle.engine_settled_table.specs.Least.{least-exact}
 
 module _ {count pot size : ℕ} {w : List ℤ} (r : Reduced count pot size w) (clear : noNegative (stepsIn count w) size ≡ true) (a : AllSettled count pot size w) where
   abbrev E : List Step
@@ -61,50 +59,9 @@ module _ {count pot size : ℕ} {w : List ℤ} (r : Reduced count pot size w) (c
       chain : (x y v n a b c : ℤ) → x ⩽ y +ℤ (((v +ℤ v) +ℤ a) -ℤ b) → y +ℤ c ⩽ (n +ℤ n) +ℤ b → x +ℤ c ⩽ ((v +ℤ n) +ℤ (v +ℤ n)) +ℤ a
       chain x y v n a b c = simp ints (omega arith)
 
-  exact : (i t : ℕ) → i < size → t < size → outOf (q i) (q t) (T i t) ≡ best E size i t
-  exact i t hi ht = go (best E size i t) refl (ltZ (T i t) (pos far)) refl
-    where
-      e : Entry E (q i) (q t) i t (T i t)
-      e = r .entry i t hi ht
-
-      near : (x : ℤ) → ltZ x (pos far) ≡ true → x ⋖ pos far
-      near x = simp ints (omega arith)
-
-      not-near : (x : ℤ) → ltZ x (pos far) ≡ false → pos far ⩽ x
-      not-near x = simp ints (omega arith)
-
-      least : (ss : List Step) → Walk E i ss t → best E size i t ⊑ some (total ss)
-      least ss p = best-least E size within nonneg i t hi ss p
-
-      halved : (x a b n : ℤ) → x +ℤ b ≡ (n +ℤ n) +ℤ a → half ((x +ℤ b) -ℤ a) ≡ n
-      halved x a b n = simp ints (omega arith)
-
-      same : (x a b n z : ℤ) → x +ℤ b ≡ (n +ℤ n) +ℤ a → x +ℤ b ⩽ (z +ℤ z) +ℤ a → z ⩽ n → n ≡ z
-      same x a b n z = simp ints (omega arith)
-
-      too-far : (x a b z : ℤ) → pos far ⩽ x → x +ℤ b ⩽ (z +ℤ z) +ℤ a → z ⩽ pos maxPotential → a ⩽ pos maxPotential → negℤ (pos maxPotential) ⩽ b → ⊥
-      too-far x a b z = simp ints (omega arith)
-
-      go : (d : Distance) → best E size i t ≡ d → (f : Bool) → ltZ (T i t) (pos far) ≡ f → outOf (q i) (q t) (T i t) ≡ best E size i t
-      go none n false f = out-far (q i) (q t) (T i t) f ∙ sym n
-      go none n true f =
-          let s = e .reached (near (T i t) f) in
-          absurd ((rw n at (least (s .path) (s .walk))) .le)
-      go (some z) n true f =
-          let s = e .reached (near (T i t) f) in
-          let w = best-attained E size i t z n in
-          let b : T i t +ℤ q t ⩽ (z +ℤ z) +ℤ q i = rw (w .sum) at (by-walk i t ht (w .steps) (w .walk)) in
-          let k : total (s .path) ≡ z = same (T i t) (q i) (q t) (total (s .path)) z (s .sum) b (le-some (rw n at (least (s .path) (s .walk)))) in
-          out-near (q i) (q t) (T i t) f ∙ ap some (halved (T i t) (q i) (q t) (total (s .path)) (s .sum) ∙ k) ∙ sym n
-      go (some z) n false f =
-          let w = best-attained E size i t z n in
-          let b : T i t +ℤ q t ⩽ (z +ℤ z) +ℤ q i = rw (w .sum) at (by-walk i t ht (w .steps) (w .walk)) in
-          let m : Within maxPotential z = within-more (omega (arith, mul-le-mul-right maxWeight (r .points))) (best-within maxWeight E weights size i t z n) in
-          absurd (too-far (T i t) (q i) (q t) z (not-near (T i t) f) b (m .high) (r .small i hi .high) (r .small t ht .low))
-
   -- an entry turned back is stored as the distance
   pub exact-entry : (i j : ℕ) → i < size → j < size → stored (outOf (number w (pot + i)) (number w (pot + j)) (number w (cell pot size i j))) ≡ stored (best (stepsIn count w) size i j)
-  exact-entry i j hi hj = ap stored (exact i j hi hj)
+  exact-entry i j hi hj = ap stored (least-exact E size within weights (r .points) nonneg i j hi (q i) (q j) (r .small i hi) (r .small j hj) (T i j) (r .entry i j hi hj) (by-walk i j hj))
 
 -- what turning back an entry asks
 pub out-ready : {count pot size : ℕ} {w : List ℤ} → Reduced count pot size w → (i j : ℕ) → i < size → j < size → OutReady (number w (cell pot size i j)) (number w (pot + i)) (number w (pot + j))

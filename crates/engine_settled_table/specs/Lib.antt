@@ -1,3 +1,4 @@
 pub mod Settled
 pub mod Out
+pub mod Least
 pub mod Exact

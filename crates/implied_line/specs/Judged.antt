@@ -4,8 +4,6 @@ use mathlib.Core.Bool.{Bool, true, false, not}
 use mathlib.Core.List.{List, [], _∷_, _++_}
 use Prim.Native.Nat.{ℕ, _+_, _*_, _<_, _≤_}
 use native.Mathlib.Omega.{arith}
-use borrow.Author.Tests.{ltb-false}
-use lib.Dec.{ltb}
 use lib.IntN.{ℤ, pos}
 use lib.ListN.{length, drop, replicate, length-append, length-replicate}
 use Rattle.integers.specs.Integer.{Within}
@@ -17,8 +15,8 @@ use Rattle.lines.specs.declared.Validity.the-variants as validity
 use Rattle.lines.specs.Limits.{lineSize, maxVariables, maxLines, maxConstant}
 use Rattle.lines.specs.Line.{lineCount, linesOf, lineNumbers}
 use Rattle.lines.specs.LineNumbers.{length-numbers}
-use Rattle.lines.specs.Refusal.{refuseIf, lineValidity, validityOf}
-use Rattle.lines.specs.Valid.{ListOk, or-valid, not-refused, line-ok, valid-list, workable}
+use Rattle.lines.specs.Refusal.{lineValidity, validityOf}
+use Rattle.lines.specs.Valid.{ListOk, or-valid, line-ok, valid-list, workable}
 use Rattle.theory_bounds.specs.Verdict.{verdictOf}
 use Rattle.decide_buffers.specs.Room.{ModelLent, modelLengthsOf, modelRoom, refutationRoom, workRoom, modelRooms, none-short}
 use Rattle.longer_list.specs.Written.{mostNumbers}

@@ -46,7 +46,7 @@ module _ (n : ℕ) (D E : Table) (same : Agree (2 * n) D E) where
       (tight-same n D E same p (opposite (point y 0)) h (opposite-below n (point y 0) (plus-below n y k)))
       (tight-same n D E same p (opposite (point y 1)) h (opposite-below n (point y 1) (minus-below n y k)))
 
-  pair-same : (x y : ℕ) → x < n → y < n → pairIn D x y ≡ pairIn E x y
+  pub pair-same : (x y : ℕ) → x < n → y < n → pairIn D x y ≡ pairIn E x y
   pair-same x y h k = ap₂ both (row-same (point x 0) y (plus-below n x h) k) (row-same (point x 1) y (minus-below n x h) k)
     where
       both : List ℤ → List ℤ → Pair

@@ -7,7 +7,7 @@ use borrow.Author.Tests.{ltb-true}
 use lib.Dec.{eqb, ltb}
 use Rattle.integers.specs.Laws.{and-true}
 use Rattle.lines.specs.declared.Refusal.{Refusal}
-use Rattle.lines.specs.declared.Refusal.the-variants.{TooManyVariables, BrokenLength, TooManyLines, BadCoefficient, BadVariable, BadConstant, ShortOutput, ShortWorkArea, WrongModelLength, BadValue, LongRefutation, MisplacedCoefficient, BadIdentifier, AfterNo, NoLines}
+use Rattle.lines.specs.declared.Refusal.the-variants.{TooManyVariables, BrokenLength, TooManyLines, BadCoefficient, BadVariable, BadConstant, ShortOutput, ShortWorkArea, WrongModelLength, BadValue, LongRefutation, MisplacedCoefficient, BadIdentifier, AfterNo, NoLines, NotDifference}
 use Rattle.lines.specs.Refusal.{numberOf, placeOf}
 
 -- every refusal, at place k
@@ -28,6 +28,7 @@ allAt k =
     ∷ BadIdentifier k
     ∷ AfterNo
     ∷ NoLines
+    ∷ NotDifference k
     ∷ []
 
 -- the first of some that has this number
@@ -58,6 +59,7 @@ known (MisplacedCoefficient k) = (refl, refl)
 known (BadIdentifier k) = (refl, refl)
 known AfterNo = (refl, refl)
 known NoLines = (refl, refl)
+known (NotDifference k) = (refl, refl)
 
 pub number-some : (r : Refusal) → 0 < numberOf r
 number-some r = ltb-true _ _ (and-true (ltb 0 (numberOf r)) (ltb (numberOf r) 100) (known r .1) .0)

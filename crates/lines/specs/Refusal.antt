@@ -10,7 +10,7 @@ use Rattle.integers.specs.Integer.{eqZ, isBetween, isWithin}
 use Rattle.lines.specs.declared.Line.{Line}
 use Rattle.lines.specs.declared.Numbered.{Numbered}
 use Rattle.lines.specs.declared.Refusal.{Refusal}
-use Rattle.lines.specs.declared.Refusal.the-variants.{TooManyVariables, BrokenLength, TooManyLines, BadCoefficient, BadVariable, BadConstant, ShortOutput, ShortWorkArea, WrongModelLength, BadValue, LongRefutation, MisplacedCoefficient, BadIdentifier, AfterNo, NoLines}
+use Rattle.lines.specs.declared.Refusal.the-variants.{TooManyVariables, BrokenLength, TooManyLines, BadCoefficient, BadVariable, BadConstant, ShortOutput, ShortWorkArea, WrongModelLength, BadValue, LongRefutation, MisplacedCoefficient, BadIdentifier, AfterNo, NoLines, NotDifference}
 use Rattle.lines.specs.declared.Validity.{Validity}
 use Rattle.lines.specs.declared.Validity.the-variants.{Valid, Refused}
 use Rattle.lines.specs.Limits.{lineSize, maxVariables, maxLines, maxConstant, maxIdentifier}
@@ -36,6 +36,7 @@ numberAndPlace (MisplacedCoefficient k) = numberedAt 12 k
 numberAndPlace (BadIdentifier k) = numberedAt 13 k
 numberAndPlace AfterNo = numberedAt 30 0
 numberAndPlace NoLines = numberedAt 31 0
+numberAndPlace (NotDifference k) = numberedAt 60 k
 
 abbrev pub numberOf : Refusal → ℕ
 numberOf r = numberAndPlace r .number

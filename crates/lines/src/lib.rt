@@ -44,6 +44,7 @@ pub enum Refusal {
     BadIdentifier(usize),
     AfterNo,
     NoLines,
+    NotDifference(usize),
 }
 
 // Whether something is refused, and by what.
@@ -85,6 +86,7 @@ pub fn number_and_place(r: Refusal) -> Numbered
         Refusal::BadIdentifier(k) => numbered_at(13, k),
         Refusal::AfterNo => numbered_at(30, 0),
         Refusal::NoLines => numbered_at(31, 0),
+        Refusal::NotDifference(k) => numbered_at(60, k),
     }
 }
 

@@ -1,4 +1,4 @@
--- Two tables with the same distances between the points of n variables have the same bounds, groups and first bad point.
+-- Two tables with the same distances between the points of n variables have the same model, bounds, groups and first bad point.
 -- So what is read off the stored table is what the definitions say of the distances themselves.
 use mathlib.Core.Path.{_≡_, refl, ap, ap₂}
 use mathlib.Core.Bool.{Bool, cond, _&&_}
@@ -12,6 +12,8 @@ use Rattle.theory_walks.specs.Distance.{Distance, minD, _⊞_, halfD}
 use Rattle.theory_walks.specs.Negative.{notBelow0}
 use Rattle.theory_bounds.specs.Points.{plus-below, minus-below, opposite-below}
 use Rattle.theory_bounds.specs.Tight.{Table, halves, tight}
+use Rattle.theory_bounds.specs.Range.{model-same}
+use Rattle.theory_bounds.specs.Table.{tableModel}
 use Rattle.theory_bounds.specs.Answers.{leastOf, greatestOf, boundAt, notAbove0, samePoints, groupAt}
 use Rattle.theory_bounds.specs.Verdict.{halvesOk}
 use Rattle.integers.specs.Lowest.{lowest-cong}
@@ -28,6 +30,10 @@ module _ (n : ℕ) (D E : Table) (same : Agree (2 * n) D E) where
   pub tight-same : (i j : ℕ) → i < 2 * n → j < 2 * n → tight D i j ≡ tight E i j
   unfolding tight
   tight-same i j h k = ap₂ minD (same i j h k) (ap₂ (λ (a b : Distance). a ⊞ b) (halves-same i h) (halves-same (opposite j) (opposite-below n j k)))
+
+  pub table-model-same : (x : ℕ) → tableModel n D x ≡ tableModel n E x
+  unfolding tableModel
+  table-model-same = model-same n (tight D) (tight E) (halves D) (halves E) tight-same halves-same n (omega arith)
 
   bound-same : (i : ℕ) → i < 2 * n → boundAt D i ≡ boundAt E i
   bound-same i h =

@@ -44,12 +44,12 @@ loosen : {E : List Step} {N u v : ℕ} {y z : ℤ} → y ⩽ z → Short E N u v
 loosen h r = record { steps = r .steps; walk = r .walk; count = r .count; less = le-trans (r .less) h }
 
 -- a walk with its closed part taken out has fewer steps
-cut-length : {E : List Step} {N u v : ℕ} {ss : List Step} (s : Split E N u v ss) → length (s .before ++ s .after) < length ss
+pub cut-length : {E : List Step} {N u v : ℕ} {ss : List Step} (s : Split E N u v ss) → length (s .before ++ s .after) < length ss
 cut-length s =
     omega (arith, s .nonempty, length-append (s .before) (s .after), length-append (s .before) (s .closed ++ s .after), length-append (s .closed) (s .after), ap length (s .joined))
 
 -- and a sum that is no larger, if the closed part is not negative
-cut-sum : {E : List Step} {N u v : ℕ} {ss : List Step} (s : Split E N u v ss) → pos 0 ⩽ total (s .closed) → total (s .before ++ s .after) ⩽ total ss
+pub cut-sum : {E : List Step} {N u v : ℕ} {ss : List Step} (s : Split E N u v ss) → pos 0 ⩽ total (s .closed) → total (s .before ++ s .after) ⩽ total ss
 cut-sum {ss} s h = rw (total-append (s .before) (s .after), parts) (leave-out (total (s .before)) (total (s .closed)) (total (s .after)) h)
   where
     leave-out : (a c b : ℤ) → pos 0 ⩽ c → a +ℤ b ⩽ a +ℤ (c +ℤ b)

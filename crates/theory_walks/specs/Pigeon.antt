@@ -128,7 +128,7 @@ after-drop u ss zero d = ap (pointAfter u ss) (sym (zero-add d))
 after-drop u [] (suc i) d = after-none u d ∙ sym (after-none u (suc i + d))
 after-drop u (s ∷ ss) (suc i) d = after-drop (s .to) ss i d ∙ ap (pointAfter u (s ∷ ss)) (sym (suc-add i d))
 
-after-lt : (E : List Step) (N : ℕ) → WithinPoints N E → (u v : ℕ) (ss : List Step) (i : ℕ) → u < N → Walk E u ss v → pointAfter u ss i < N
+pub after-lt : (E : List Step) (N : ℕ) → WithinPoints N E → (u v : ℕ) (ss : List Step) (i : ℕ) → u < N → Walk E u ss v → pointAfter u ss i < N
 after-lt E N within u v ss zero h w = h
 after-lt E N within u v [] (suc i) h w = h
 after-lt E N within u v (s ∷ ss) (suc i) h w = after-lt E N within (s .to) v ss i (within s (w .steps .0) .1) (walk-rest s ss w)
@@ -146,27 +146,36 @@ pub record Split (E : List Step) (N u v : ℕ) (ss : List Step) : Type 0 where
   pub nonempty : 0 < length closed
   pub few : length closed ≤ N
 
+-- a walk that is at one point after i steps and after j has such a part between them
+pub split-at : (E : List Step) (N : ℕ) (u v : ℕ) (ss : List Step) → Walk E u ss v → (m : ℕ) → m ≤ length ss → m ≤ N → Twice (pointAfter u ss) m → Split E N u v ss
+split-at E N u v ss w m h k t =
+    let d : ℕ = t .j - t .i in
+    let rest = drop (t .i) ss in
+    let q = walk-drop ss (t .i) w in
+    let f : t .i + d ≡ t .j = omega (arith, t .order) in
+    let e : pointAfter (pointAfter u ss (t .i)) rest d ≡ pointAfter u ss (t .i) =
+    after-drop u ss (t .i) d ∙ ap (pointAfter u ss) f ∙ sym (t .same) in
+    record {
+      point = pointAfter u ss (t .i);
+      before = take (t .i) ss;
+      closed = take d rest;
+      after = drop d rest;
+      walk-before = walk-take ss (t .i) w;
+      walk-closed = rw e at (walk-take rest d q);
+      walk-after = rw e at (walk-drop rest d q);
+      joined = sym (take-append-drop (t .i) ss) ∙ ap (_++_ (take (t .i) ss)) (sym (take-append-drop d rest));
+      nonempty = omega (arith, t .order, t .high, length-take d rest, length-drop (t .i) ss);
+      few = omega (arith, t .order, t .high, length-take d rest);
+    }
+
+pub split-closed : (E : List Step) (N : ℕ) (u v : ℕ) (ss : List Step) (w : Walk E u ss v) (m : ℕ) (h : m ≤ length ss) (k : m ≤ N) (t : Twice (pointAfter u ss) m)
+    → split-at E N u v ss w m h k t .closed ≡ take (t .j - t .i) (drop (t .i) ss)
+unfolding split-at
+split-closed E N u v ss w m h k t = refl
+
+-- the points of a walk are below N, so that among N + 1 of them one is there twice
+pub twice-there : (E : List Step) (N : ℕ) → WithinPoints N E → (u v : ℕ) (ss : List Step) → u < N → Walk E u ss v → Twice (pointAfter u ss) N
+twice-there E N within u v ss h w = pigeon N (pointAfter u ss) (λ i k. after-lt E N within u v ss i h w)
+
 pub split : (E : List Step) (N : ℕ) → WithinPoints N E → (u v : ℕ) (ss : List Step) → Walk E u ss v → 0 < length ss → N ≤ length ss → Split E N u v ss
-split E N within u v ss w z h =
-    go (pigeon N (pointAfter u ss) (λ i k. after-lt E N within u v ss i (walk-start E N within u v ss w z) w))
-  where
-    go : Twice (pointAfter u ss) N → Split E N u v ss
-    go t =
-        let d : ℕ = t .j - t .i in
-        let rest = drop (t .i) ss in
-        let q = walk-drop ss (t .i) w in
-        let f : t .i + d ≡ t .j = omega (arith, t .order) in
-        let e : pointAfter (pointAfter u ss (t .i)) rest d ≡ pointAfter u ss (t .i) =
-        after-drop u ss (t .i) d ∙ ap (pointAfter u ss) f ∙ sym (t .same) in
-        record {
-          point = pointAfter u ss (t .i);
-          before = take (t .i) ss;
-          closed = take d rest;
-          after = drop d rest;
-          walk-before = walk-take ss (t .i) w;
-          walk-closed = rw e at (walk-take rest d q);
-          walk-after = rw e at (walk-drop rest d q);
-          joined = sym (take-append-drop (t .i) ss) ∙ ap (_++_ (take (t .i) ss)) (sym (take-append-drop d rest));
-          nonempty = omega (arith, t .order, t .high, length-take d rest, length-drop (t .i) ss);
-          few = omega (arith, t .order, t .high, length-take d rest);
-        }
+split E N within u v ss w z h = split-at E N u v ss w N h (omega arith) (twice-there E N within u v ss (walk-start E N within u v ss w z) w)

@@ -57,14 +57,14 @@ pub record Reaches (E : List Step) (u v k : ℕ) (z : ℤ) : Type 0 where
 
 -- ---- rounds from any row
 -- the value z at v comes from a number of the row, by a walk with at most k steps
-record From (E : List Step) (row : List Distance) (k v : ℕ) (z : ℤ) : Type 0 where
-  start : ℕ
-  base : ℤ
-  begins : at row start ≡ some base
-  steps : List Step
-  walk : Walk E start steps v
-  count : length steps ≤ k
-  sum : base +ℤ total steps ≡ z
+pub record From (E : List Step) (row : List Distance) (k v : ℕ) (z : ℤ) : Type 0 where
+  pub start : ℕ
+  pub base : ℤ
+  pub begins : at row start ≡ some base
+  pub steps : List Step
+  pub walk : Walk E start steps v
+  pub count : length steps ≤ k
+  pub sum : base +ℤ total steps ≡ z
 
 plus-zero : (a : ℤ) → a +ℤ pos 0 ≡ a
 plus-zero a = simp ints (omega arith)
@@ -72,7 +72,7 @@ plus-zero a = simp ints (omega arith)
 zero-plus : (a : ℤ) → pos 0 +ℤ a ≡ a
 zero-plus a = simp ints (omega arith)
 
-rounds-attained : (E : List Step) (k : ℕ) (row : List Distance) (v : ℕ) (z : ℤ) → at (rounds E k row) v ≡ some z → From E row k v z
+pub rounds-attained : (E : List Step) (k : ℕ) (row : List Distance) (v : ℕ) (z : ℤ) → at (rounds E k row) v ≡ some z → From E row k v z
 unfolding rounds
 rounds-attained E zero row v z e = record { start = v; base = z; begins = e; steps = []; walk = walk-none v; count = omega arith; sum = plus-zero z }
 rounds-attained E (suc k) row v z e = earlier (rounds-attained E k (relaxRow E row) v z e)
@@ -98,12 +98,12 @@ rounds-attained E (suc k) row v z e = earlier (rounds-attained E k (relaxRow E r
     earlier r = go r (relax-one E row (r .start))
 
 -- no entry ever grows
-rounds-le : (E : List Step) (k : ℕ) (row : List Distance) (q : ℕ) → at (rounds E k row) q ⊑ at row q
+pub rounds-le : (E : List Step) (k : ℕ) (row : List Distance) (q : ℕ) → at (rounds E k row) q ⊑ at row q
 unfolding rounds
 rounds-le E zero row q = ⊑-refl _
 rounds-le E (suc k) row q = ⊑-trans (rounds-le E k (relaxRow E row) q) (relax-le E row q)
 
-rounds-least : (E : List Step) (N : ℕ) → WithinPoints N E → (k : ℕ) (row : List Distance) → length row ≡ N
+pub rounds-least : (E : List Step) (N : ℕ) → WithinPoints N E → (k : ℕ) (row : List Distance) → length row ≡ N
     → (u v : ℕ) (ss : List Step) → Walk E u ss v → length ss ≤ k → at (rounds E k row) v ⊑ at row u ⊕ total ss
 unfolding rounds
 rounds-least E N within k row l u v [] w h = rw (⊕-zero, w .path) (rounds-le E k row v)

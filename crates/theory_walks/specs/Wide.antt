@@ -83,7 +83,7 @@ wide-small c w (s ∷ E) small = both (columns c c s) (columns-small c c w s (sm
 
 -- ---- columns
 -- a place has one point and one column
-same-point : (c i j p q : ℕ) → i < c → j < c → p * c + i ≡ q * c + j → p ≡ q
+pub same-point : (c i j p q : ℕ) → i < c → j < c → p * c + i ≡ q * c + j → p ≡ q
 same-point c i j p q hi hj e = go (decLt p q) (decLt q p)
   where
     go : Dec (p < q) → Dec (q < p) → p ≡ q
@@ -91,7 +91,7 @@ same-point c i j p q hi hj e = go (decLt p q) (decLt q p)
     go (no _) (yes h) = absurd (omega (arith, hj, e, mul-le-mul-right c h))
     go (no h) (no k) = omega (arith, h, k)
 
-same-column : (c i j p q : ℕ) → i < c → j < c → p * c + i ≡ q * c + j → i ≡ j
+pub same-column : (c i j p q : ℕ) → i < c → j < c → p * c + i ≡ q * c + j → i ≡ j
 same-column c i j p q hi hj e =
     let f : p * c ≡ q * c = ap (λ (x : ℕ). x * c) (same-point c i j p q hi hj e) in
     omega (arith, e, f)

@@ -167,12 +167,12 @@ pub record LowestFalsePicked (L : List ℤ) (xs : List ℕ) (i : ℕ) : Type 0 w
   pub lowest : (j : ℕ) → j < i → Picks L xs j → isFalse (lineAt L j) ≡ false
 
 -- a kind of refutation, which its first number tells
-record IsKind (P : List ℤ → List ℕ → Type 0) : Type 0 where
+record ByKind (P : List ℤ → List ℕ → Type 0) : Type 0 where
   kind : ℕ
   into : (L : List ℤ) (R : List ℕ) → P L R → Refutes L R × (kindOf R ≡ kind)
   from : (L : List ℤ) (R : List ℕ) → Refutes L R → kindOf R ≡ kind → P L R
 
-closed-kind : IsKind Closed
+closed-kind : ByKind Closed
 closed-kind = record { kind = 1; into = λ L R c. (kind-1 c, ap kindOf (c .is)); from = go }
   where
     go : (L : List ℤ) (R : List ℕ) → Refutes L R → kindOf R ≡ 1 → Closed L R
@@ -180,7 +180,7 @@ closed-kind = record { kind = 1; into = λ L R c. (kind-1 c, ap kindOf (c .is));
     go L R (kind-2 c) e = absurd (omega (arith, ap kindOf (c .is)))
     go L R (kind-3 c) e = absurd (omega (arith, ap kindOf (c .is)))
 
-false-kind : IsKind Falsehood
+false-kind : ByKind Falsehood
 false-kind = record { kind = 3; into = λ L R c. (kind-3 c, ap kindOf (c .is)); from = go }
   where
     go : (L : List ℤ) (R : List ℕ) → Refutes L R → kindOf R ≡ 3 → Falsehood L R
@@ -237,7 +237,7 @@ module _ (L : List ℤ) (t : Row) (k : ℕ) where
   )
 
   -- ---- the kind that is due
-  some-picked : {P : List ℤ → List ℕ → Type 0} → IsKind P → Some (P (choiceList L t k)) ↔ Some (λ R. P L R × EachStep (StepOf L (choiceAt t k)) R)
+  some-picked : {P : List ℤ → List ℕ → Type 0} → ByKind P → Some (P (choiceList L t k)) ↔ Some (λ R. P L R × EachStep (StepOf L (choiceAt t k)) R)
   some-picked i = (
     (λ f.
         let p = i .into (choiceList L t k) (f .0) (f .1) in
@@ -268,11 +268,11 @@ module _ (L : List ℤ) (t : Row) (k : ℕ) where
       back : Picks L (choiceAt t k) i × (isFalse (lineAt L i) ≡ true) → isFalse (lineAt (choiceList L t k) i) ≡ true
       back h = ap isFalse (line-picked (choiceFlags L t k) L i l (picked-exactly L t k i l .1 (h .0 .1))) ∙ h .1
 
-  -- the lowest of them
   pub picked-false : (i : ℕ) → Picks L (choiceAt t k) i → isFalse (lineAt L i) ≡ true → (i < lineCount (choiceList L t k)) × (isFalse (lineAt (choiceList L t k) i) ≡ true)
   unfolding choiceList
   picked-false i p e = (subst (λ (c : ℕ). i < c) (sym (same-count (choiceFlags L t k) L)) (p .0), false-picked i (p .0) .1 (p, e))
 
+  -- the lowest of them
   pub lowest-picked : (i : ℕ) → LowestFalseLine (choiceList L t k) i → LowestFalsePicked L (choiceAt t k) i
   unfolding choiceList
   lowest-picked i w =

@@ -4,21 +4,19 @@ use mathlib.Core.Bool.{Bool, true, false, cond}
 use mathlib.Core.List.{List, [], _∷_, _++_, map}
 use Prim.Native.Nat.{ℕ, zero, suc, _+_, _-_, _*_, _/_, _%_, _<_, _≤_}
 use native.Mathlib.Nat.{div-eq-of-lt, mod-eq-of-lt, add-div-right, add-mod-right, mod-lt, div-lt-iff-lt-mul, mul-div-cancel-left, zero-mul, mul-zero}
-use native.Mathlib.Numerals.{add-one}
 use native.Mathlib.Omega.{arith}
-use borrow.Author.Tests.{ltb-true, ltb-false, lt-ltb, le-ltb}
+use borrow.Author.Tests.{ltb-true, ltb-false}
 use lib.Dec.{ltb}
-use lib.ListN.{length, getD, length-append, length-map, List·getD-append}
+use lib.ListN.{length, getD, length-map, List·getD-append}
 use lib.Seq.{getD-append-add}
 use Rattle.integers.specs.Laws.{never}
 use Rattle.tree_reading.specs.Tree.{Kind, all, any, Row, none, line, node, other, codeOf, lineCode, size, numbers, treeNumbers, maxDepth, Fits, levels}
-use Rattle.tree_reading.specs.Choices.{maxChoices, pairs, joined, choices, unitOf, with, count, here, overs, oversOf}
+use Rattle.tree_reading.specs.Choices.{maxChoices, pairs, joined, choices, unitOf, with, count, here, overs}
 use Rattle.tree_reading.specs.declared.TreeRefusal.the-variants.{NoSuchChoice}
-use Rattle.tree_reading.specs.declared.Head.the-variants.{Line, Children}
 use Rattle.tree_reading.specs.declared.Node.{Node}
 use Rattle.tree_reading.specs.declared.Reading.{Reading}
 use Rattle.tree_reading.specs.declared.Reading.the-variants.{Read, Refused}
-use Rattle.tree_reading.specs.Reading.{cap, headOf, begun, finished, nodeOf, validTree}
+use Rattle.tree_reading.specs.Reading.{begun, finished, nodeOf, validTree}
 use Rattle.tree_choices.specs.Choosing.{fromChild, allChosen, anyChosen, rowChosen, chosenAt, chosen, withChoice, choiceOf}
 use Rattle.tree_reading.specs.Counted.{count-choices, node-choices}
 use Rattle.tree_reading.specs.Numbers.{Has, has-at, has-append, has-self}

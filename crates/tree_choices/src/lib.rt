@@ -1,4 +1,4 @@
-// Choices of a tree, by their numbers: the lines that a choice picks get a flag.
+// Choices of a tree, by their tree: the lines that a choice picks get a flag.
 use tree_reading::ALL_OF;
 use tree_reading::ANY_OF;
 use tree_reading::Head;
@@ -46,7 +46,7 @@ fn pick(picked: &mut [u8], line: usize)
 
 // Marks the lines of a choice of the line or all-of at `at`, which has `total` choices: the last child changes fastest.
 fn choose_all_of(
-    numbers: &[u32],
+    tree: &[u32],
     lines: usize,
     depth: usize,
     at: usize,
@@ -54,35 +54,24 @@ fn choose_all_of(
     choice: usize,
     picked: &mut [u8],
 )
-    ensures { λ _. ⌜ now (picked .exit) ≡ marked (now (picked .entry)) (chosen (now (numbers .entry)) lines depth all at total choice) ⌝ }
+    ensures { λ _. ⌜ now (picked .exit) ≡ marked (now (picked .entry)) (chosen (now (tree .entry)) lines depth all at total choice) ⌝ }
 {
-    match head_at(numbers, lines, depth, ALL_OF, at) {
+    match head_at(tree, lines, depth, ALL_OF, at) {
         Head::Wrong(_) => {}
-        Head::Line => {
-            pick(picked, as_index(numbers[at + 1]));
-        }
+        Head::Line => pick(picked, as_index(tree[at + 1])),
         Head::Children(count) => {
             let mut from = at + 2;
             let mut rest = total;
-            let mut number = choice;
+            let mut nth = choice;
             let mut left = count;
             while left > 0 {
-                match read_any_of(numbers, lines, depth - 1, from) {
-                    Reading::Refused(_) => {
-                        return;
-                    }
+                match read_any_of(tree, lines, depth - 1, from) {
+                    Reading::Refused(_) => return,
                     Reading::Read(child) => {
                         rest = quotient(rest, child.choices);
-                        choose_any_of(
-                            numbers,
-                            lines,
-                            depth - 1,
-                            from,
-                            child.choices,
-                            quotient(number, rest),
-                            picked,
-                        );
-                        number = remainder(number, rest);
+                        let part = quotient(nth, rest);
+                        choose_any_of(tree, lines, depth - 1, from, child.choices, part, picked);
+                        nth = remainder(nth, rest);
                         from = child.end;
                     }
                 }
@@ -94,7 +83,7 @@ fn choose_all_of(
 
 // Marks the lines of a choice of the line or any-of at `at`: the branches' choices one behind the other.
 fn choose_any_of(
-    numbers: &[u32],
+    tree: &[u32],
     lines: usize,
     depth: usize,
     at: usize,
@@ -102,36 +91,24 @@ fn choose_any_of(
     choice: usize,
     picked: &mut [u8],
 )
-    ensures { λ _. ⌜ now (picked .exit) ≡ marked (now (picked .entry)) (chosen (now (numbers .entry)) lines depth any at total choice) ⌝ }
+    ensures { λ _. ⌜ now (picked .exit) ≡ marked (now (picked .entry)) (chosen (now (tree .entry)) lines depth any at total choice) ⌝ }
 {
-    match head_at(numbers, lines, depth, ANY_OF, at) {
+    match head_at(tree, lines, depth, ANY_OF, at) {
         Head::Wrong(_) => {}
-        Head::Line => {
-            pick(picked, as_index(numbers[at + 1]));
-        }
+        Head::Line => pick(picked, as_index(tree[at + 1])),
         Head::Children(count) => {
             let mut from = at + 2;
-            let mut number = choice;
+            let mut nth = choice;
             let mut left = count;
             while left > 0 {
-                match read_all_of(numbers, lines, depth - 1, from) {
-                    Reading::Refused(_) => {
-                        return;
-                    }
+                match read_all_of(tree, lines, depth - 1, from) {
+                    Reading::Refused(_) => return,
                     Reading::Read(child) => {
-                        if number < child.choices {
-                            choose_all_of(
-                                numbers,
-                                lines,
-                                depth - 1,
-                                from,
-                                child.choices,
-                                number,
-                                picked,
-                            );
+                        if nth < child.choices {
+                            choose_all_of(tree, lines, depth - 1, from, child.choices, nth, picked);
                             return;
                         }
-                        number -= child.choices;
+                        nth -= child.choices;
                         from = child.end;
                     }
                 }
@@ -142,17 +119,17 @@ fn choose_any_of(
 }
 
 // Marks the lines that a choice of the whole tree picks; `total` is its number of choices.
-pub fn choose(numbers: &[u32], lines: usize, total: usize, choice: usize, picked: &mut [u8])
-    ensures { λ _. ⌜ now (picked .exit) ≡ marked (now (picked .entry)) (chosen (now (numbers .entry)) lines maxDepth all 0 total choice) ⌝ }
+pub fn choose(tree: &[u32], lines: usize, total: usize, choice: usize, picked: &mut [u8])
+    ensures { λ _. ⌜ now (picked .exit) ≡ marked (now (picked .entry)) (chosen (now (tree .entry)) lines maxDepth all 0 total choice) ⌝ }
 {
-    choose_all_of(numbers, lines, MAX_DEPTH, 0, total, choice, picked);
+    choose_all_of(tree, lines, MAX_DEPTH, 0, total, choice, picked);
 }
 
 // The root of a tree that has a choice with this number: all refusals of the tree, then 43.
-pub fn choice_in_tree(numbers: &[u32], lines: usize, choice: usize) -> Reading
-    ensures { λ r. ⌜ r ≡ choiceOf (now (numbers .entry)) lines choice ⌝ }
+pub fn choice_in_tree(tree: &[u32], lines: usize, choice: usize) -> Reading
+    ensures { λ r. ⌜ r ≡ choiceOf (now (tree .entry)) lines choice ⌝ }
 {
-    match valid_tree(numbers, lines) {
+    match valid_tree(tree, lines) {
         Reading::Refused(r) => Reading::Refused(r),
         Reading::Read(node) => {
             if choice >= node.choices {

@@ -2,18 +2,17 @@
 use mathlib.Core.Path.{_≡_, refl, sym, ap, ap₂, subst, _∙_}
 use mathlib.Core.Bool.{Bool, true, false, cond}
 use mathlib.Core.List.{List, _++_}
-use Prim.Native.Nat.{ℕ, _<_}
+use Prim.Native.Nat.{ℕ}
 use lib.IntN.{ℤ}
 use lib.ListN.{drop}
 use Rattle.lines.specs.declared.Refusal.{Refusal}
 use Rattle.lines.specs.declared.Validity.{Validity}
 use Rattle.lines.specs.declared.Validity.the-variants.{Valid}
 use Rattle.lines.specs.declared.Validity.the-variants as validity
-use Rattle.lines.specs.Line.{lineCount, linesOf}
+use Rattle.lines.specs.Line.{lineCount}
 use Rattle.lines.specs.Refusal.{_orElse_, validityOf}
 use Rattle.check_soundness.specs.Head.{stepsIn}
-use Rattle.theory_bounds.specs.Verdict.{verdictOf}
-use Rattle.decide_buffers.specs.Room.{Lent, Lengths, lengthsOf, roomsValidity, decideValidity}
+use Rattle.decide_buffers.specs.Room.{Lent, lengthsOf, roomsValidity, decideValidity}
 use Rattle.decide.specs.declared.Answer.{Answer}
 use Rattle.decide.specs.declared.Answer.the-variants as decide
 use Rattle.decide.specs.Decided.{decideAnswer, OnNo, Leaves, Decided}

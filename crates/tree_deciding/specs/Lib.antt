@@ -1,7 +1,6 @@
 pub mod Refusal
 pub mod Answer
+pub mod Found
 pub mod Identifiers
 pub mod Choice
-pub mod Tried
-pub mod First
 pub mod Meaning

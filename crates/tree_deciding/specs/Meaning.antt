@@ -2,12 +2,10 @@
 -- have a solution; and that a choice's refutation is one of the whole list with steps of the lines picked alone.
 use mathlib.Core.Path.{_≡_, refl, sym, ap, subst, _∙_}
 use mathlib.Core.Logic.{_↔_}
-use mathlib.Core.Bool.{Bool, true, false, cond}
+use mathlib.Core.Bool.{Bool, true, false}
 use mathlib.Core.List.{List}
-use Prim.Native.Nat.{ℕ, _<_, _≤_}
+use Prim.Native.Nat.{ℕ, _≤_}
 use native.Mathlib.Omega.{arith}
-use borrow.Author.Tests.{ltb-true, ltb-false}
-use lib.Dec.{ltb}
 use lib.IntN.{ℤ}
 use Rattle.integers.specs.Laws.{never}
 use Rattle.integers.specs.Lowest.{lowest-at-most}
@@ -22,7 +20,7 @@ use Rattle.check_soundness.specs.Carried.{EachStep}
 use Rattle.theory_bounds.specs.Answers.{modelOf}
 use Rattle.theory_answers.specs.Refuted.{Due}
 use Rattle.theory_answers.specs.Decided.{yes-solvable, no-unsolvable, solvable-yes, unsolvable-no}
-use Rattle.decide_buffers.specs.Room.{Lent, lengthsOf, lentRooms, ModelLent, modelLengthsOf, modelRooms, firstShort, HaveRoom, none-short, roomsValidity, valid-room}
+use Rattle.decide_buffers.specs.Room.{Lent, lengthsOf, lentRooms, ModelLent, modelLengthsOf, modelRooms, HaveRoom, none-short, valid-room}
 use Rattle.tree_reading.specs.Tree.{all, Row, Fits, levels}
 use Rattle.tree_reading.specs.Choices.{count}
 use Rattle.tree_reading.specs.declared.Node.{Node}
@@ -40,7 +38,7 @@ use Rattle.tree_deciding.specs.declared.ConditionRefusal.{ConditionRefus
 use Rattle.tree_deciding.specs.declared.TreeAnswer.{TreeAnswer}
 use Rattle.tree_deciding.specs.declared.TreeAnswer.the-variants.{Yes, No, Refused}
 use Rattle.tree_deciding.specs.Answer.{TreeValidity, valid, refused, _orNext_, ofDeciding, ofTree, choiceValidity, firstValidity, unlessRefused, treeOver, choiceFound, firstFound, choiceAnswer, firstAnswer, choiceAnswerFor, firstAnswerFor, ChoiceNo}
-use Rattle.tree_deciding.specs.Tried.{found-yes, found-no}
+use Rattle.tree_deciding.specs.Found.{found-yes, found-no, yes-found, no-found}
 
 abbrev pub NotRefused : TreeAnswer → Type 0
 NotRefused x = (r : ConditionRefusal) → x ≡ Refused r → ⊥
@@ -97,20 +95,6 @@ pub one-taken : (L : List ℤ) (s : List ℕ) (root : Node) → validTree s (lin
 one-taken L s root e t d = one-tree (treeOver L s) t (sym (taken s (lineCount L) root e .numbers .numbered) ∙ d .numbered)
 
 -- ---- the first question
-yes-found : (total k j : ℕ) → firstFound total k ≡ Yes j → (k < total) × (k ≡ j)
-yes-found total k j = go (ltb k total) refl
-  where
-    go : (t : Bool) → ltb k total ≡ t → cond t (Yes k) No ≡ Yes j → (k < total) × (k ≡ j)
-    go true p e = let same : k ≡ j = cc in (ltb-true k total p, same)
-    go false p e = never (cc)
-
-no-found : (total k : ℕ) → firstFound total k ≡ No → total ≤ k
-no-found total k = go (ltb k total) refl
-  where
-    go : (t : Bool) → ltb k total ≡ t → cond t (Yes k) No ≡ No → total ≤ k
-    go true p e = never (cc)
-    go false p e = ltb-false k total p
-
 module _ (n : ℕ) (L : List ℤ) (s : List ℕ) (b : ModelLent) (answered : NotRefused (firstAnswerFor n L s b)) where
   abbrev tree : Row
   tree = treeOver L s

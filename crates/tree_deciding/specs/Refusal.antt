@@ -1,13 +1,13 @@
 -- The number and the place of each refusal of a question about a tree, by which it is known: deciding's and the tree's have no number in common.
 use mathlib.Core.Path.{_≡_, refl, sym, ap, _∙_}
-use mathlib.Core.Bool.{true}
-use Prim.Native.Nat.{ℕ, _<_, _≤_}
+use mathlib.Core.Bool.{false, false≢true}
+use Prim.Native.Nat.{ℕ, _/_, _<_}
 use native.Mathlib.Omega.{arith}
-use borrow.Author.Tests.{ltb-true}
-use lib.Dec.{ltb}
+use borrow.Author.Tests.{eq-eqb}
+use lib.Dec.{eqb}
 use Rattle.lines.specs.declared.Numbered.{Numbered}
 use Rattle.lines.specs.declared.Refusal.{Refusal}
-use Rattle.lines.specs.declared.Refusal.the-variants.{TooManyVariables, BrokenLength, TooManyLines, BadCoefficient, BadVariable, BadConstant, ShortOutput, ShortWorkArea, WrongModelLength, BadValue, LongRefutation, MisplacedCoefficient, BadIdentifier, AfterNo, NoLines}
+use Rattle.lines.specs.declared.Refusal.the-variants.{TooManyVariables, BrokenLength, TooManyLines, BadCoefficient, BadVariable, BadConstant, ShortOutput, ShortWorkArea, WrongModelLength, BadValue, LongRefutation, MisplacedCoefficient, BadIdentifier, AfterNo, NoLines, NotDifference}
 use Rattle.lines.specs.Refusal.{numberAndPlace, numberOf}
 use Rattle.lines.specs.Numbers.{number-some}
 use Rattle.lines.specs.Numbers as lines
@@ -28,40 +28,41 @@ conditionNumber r = conditionNumberAndPlace r .number
 abbrev pub conditionPlace : ConditionRefusal → ℕ
 conditionPlace r = conditionNumberAndPlace r .place
 
--- ---- those of a tree begin here, and no other has a number as high
-abbrev firstOfTrees : ℕ
-firstOfTrees = 40
+-- ---- those of a tree have these tens, and no other has
+abbrev tens : ℕ
+tens = 4
 
-tree-high : (r : TreeRefusal) → firstOfTrees ≤ treeNumber r
-tree-high (TooManyChoices k) = omega arith
-tree-high (Malformed k) = omega arith
-tree-high (TooDeep k) = omega arith
-tree-high NoSuchChoice = omega arith
+tree-tens : (r : TreeRefusal) → treeNumber r / 10 ≡ tens
+tree-tens (TooManyChoices k) = refl
+tree-tens (Malformed k) = refl
+tree-tens (TooDeep k) = refl
+tree-tens NoSuchChoice = refl
 
-low : (r : Refusal) → ltb (numberOf r) firstOfTrees ≡ true
-low TooManyVariables = refl
-low BrokenLength = refl
-low TooManyLines = refl
-low (BadCoefficient k) = refl
-low (BadVariable k) = refl
-low (BadConstant k) = refl
-low (ShortOutput k) = refl
-low ShortWorkArea = refl
-low WrongModelLength = refl
-low (BadValue k) = refl
-low LongRefutation = refl
-low (MisplacedCoefficient k) = refl
-low (BadIdentifier k) = refl
-low AfterNo = refl
-low NoLines = refl
+other-tens : (r : Refusal) → eqb (numberOf r / 10) tens ≡ false
+other-tens TooManyVariables = refl
+other-tens BrokenLength = refl
+other-tens TooManyLines = refl
+other-tens (BadCoefficient k) = refl
+other-tens (BadVariable k) = refl
+other-tens (BadConstant k) = refl
+other-tens (ShortOutput k) = refl
+other-tens ShortWorkArea = refl
+other-tens WrongModelLength = refl
+other-tens (BadValue k) = refl
+other-tens LongRefutation = refl
+other-tens (MisplacedCoefficient k) = refl
+other-tens (BadIdentifier k) = refl
+other-tens AfterNo = refl
+other-tens NoLines = refl
+other-tens (NotDifference k) = refl
 
 no-number : (r : Refusal) (t : TreeRefusal) → numberOf r ≡ treeNumber t → ⊥
-no-number r t e = omega (arith, ltb-true (numberOf r) firstOfTrees (low r), tree-high t)
+no-number r t e = false≢true (sym (other-tens r) ∙ eq-eqb (numberOf r / 10) tens (ap (λ (k : ℕ). k / 10) e ∙ tree-tens t))
 
 -- 0 stands for none
 pub condition-some : (r : ConditionRefusal) → 0 < conditionNumber r
 condition-some (Deciding r) = number-some r
-condition-some (Tree r) = omega (arith, tree-high r)
+condition-some (Tree r) = omega (arith, tree-tens r)
 
 pub one-condition : (r s : ConditionRefusal) → conditionNumber r ≡ conditionNumber s → conditionPlace r ≡ conditionPlace s → r ≡ s
 one-condition (Deciding r) (Deciding s) e f = ap Deciding (lines.one-refusal r s e f)

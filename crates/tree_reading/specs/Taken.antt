@@ -11,7 +11,7 @@ use Rattle.tree_reading.specs.declared.Reading.the-variants.{Read, Refus
 use Rattle.tree_reading.specs.Reading.{validTree}
 use Rattle.tree_reading.specs.Accepted.{rootOf}
 use Rattle.tree_reading.specs.Numbers.{one-tree}
-use Rattle.tree_reading.specs.Over.{IsValid, valid, valid-back}
+use Rattle.tree_reading.specs.Over.{valid, valid-back}
 use Rattle.tree_reading.specs.Refused.{NumbersOf}
 
 module _ (s : List ℕ) (m : ℕ) where

@@ -4,7 +4,7 @@ use mathlib.Core.Bool.{false}
 use borrow.Author.Needs.{needs}
 use borrow.Author.Tests.{lt-ltb, le-ltb}
 use lib.Dec.{ltb}
-use Rattle.decide_buffers.specs.Room.{modelRoom, boundsRoom, groupsRoom, refutationRoom, identifiersRoom, roomsValidity}
+use Rattle.decide_buffers.specs.Room.{modelRoom, boundsRoom, groupsRoom, refutationRoom, identifiersRoom}
 use Rattle.decide_buffers.proofs.rooms_validity.Statement.{statement}
 use Rattle.decide_buffers.proofs.rooms_validity.Tie as tie
 
@@ -26,28 +26,23 @@ has-identifiers e = le-ltb _ _ (rw (e .before .identifiers-room .ensures) at (e 
 
 -- ---- the ways out
 returns : tie.Need-returns
-unfolding roomsValidity
 returns c = rw (lt-ltb _ _ (rw (c .before .model-room .ensures) at (c .if1 .taken)))
 
 returns-2 : tie.Need-returns-2
-unfolding roomsValidity
 returns-2 c = rw (has-model (c .before .before), lt-ltb _ _ (rw (c .before .bounds-room .ensures) at (c .if2 .taken)))
 
 returns-3 : tie.Need-returns-3
-unfolding roomsValidity
 returns-3 c =
     let e = c .before .before in
     rw (has-model (e .before .before), has-bounds e, lt-ltb _ _ (rw (c .before .groups-room .ensures) at (c .if3 .taken)))
 
 returns-4 : tie.Need-returns-4
-unfolding roomsValidity
 returns-4 c =
     let e = c .before .before in
     let d = e .before .before in
     rw (has-model (d .before .before), has-bounds d, has-groups e, lt-ltb _ _ (rw (c .before .refutation-room .ensures) at (c .if4 .taken)))
 
 returns-5 : tie.Need-returns-5
-unfolding roomsValidity
 returns-5 c =
     let e = c .before .before in
     let d = e .before .before in
@@ -55,22 +50,20 @@ returns-5 c =
     rw (has-model (b .before .before), has-bounds b, has-groups d, has-refutation e, lt-ltb _ _ (rw (c .before .identifiers-room .ensures) at (c .if5 .taken)))
 
 returns-6 : tie.Need-returns-6
-unfolding roomsValidity
 returns-6 c =
-    let e = c .before .before in
+    let e = c .before in
     let d = e .before .before in
     let b = d .before .before in
     let a = b .before .before in
-    rw (has-model (a .before .before), has-bounds a, has-groups b, has-refutation d, has-identifiers e, lt-ltb _ _ (rw (c .before .work-room .ensures) at (c .if6 .taken)))
+    rw (has-model (a .before .before), has-bounds a, has-groups b, has-refutation d, has-identifiers e, lt-ltb _ _ (c .if6 .taken))
 
 returns-7 : tie.Need-returns-7
-unfolding roomsValidity
 returns-7 c =
-    let e = c .before .before in
+    let e = c .before in
     let d = e .before .before in
     let b = d .before .before in
     let a = b .before .before in
-    rw (has-model (a .before .before), has-bounds a, has-groups b, has-refutation d, has-identifiers e, le-ltb _ _ (rw (c .before .work-room .ensures) at (c .if6 .left)))
+    rw (has-model (a .before .before), has-bounds a, has-groups b, has-refutation d, has-identifiers e, le-ltb _ _ (c .if6 .left))
 
 pub rooms-validity-spec : {M : Type 1} → statement M
 rooms-validity-spec =
@@ -86,6 +79,5 @@ rooms-validity-spec =
     returns-4
     (search needs)
     returns-5
-    (search needs)
     returns-6
     returns-7)

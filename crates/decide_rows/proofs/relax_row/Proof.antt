@@ -66,7 +66,7 @@ returns c =
     let a = l .before .before in
     let e : l .loop .number ≡ 2 * lineCount (L a) = omega (arith, l .loop .inv .1 .count) in
     round-end (n a) (width a) (L a) (twice a) (ready a) (l .loop .rows) (l .loop .number) (l .loop .inv .1) e
-    ∙ copy-end (n a) (width a) (L a) (now (start a .args .rows)) (twice a) (start a .pre) (a .copy-row .ensures) _
+    ∙ copy-end (2 * n a * width a) (now (start a .args .rows)) (twice a) (start a .pre .long) (a .copy-row .ensures) _
 
 pub relax-row-spec : {M : Type 1} → statement M
 relax-row-spec =

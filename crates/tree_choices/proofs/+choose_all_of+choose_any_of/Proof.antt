@@ -55,19 +55,19 @@ choose-any-of-below t =
     choose-any-of.Pre
 
 abbrev choose-all-of-Inv-loop : choose-all-of-lts.InvT-loop
-choose-all-of-Inv-loop numbers lines depth at total choice picked₀ count from₀ rest₀ number₀ left₀ picked from rest number left =
-    Marking numbers lines depth all at total choice picked₀ left from rest number picked
+choose-all-of-Inv-loop tree lines depth at total choice picked₀ count from₀ rest₀ nth₀ left₀ picked from rest nth left =
+    Marking tree lines depth all at total choice picked₀ left from rest nth picked
 
 abbrev choose-all-of-μ-loop : choose-all-of-lts.MeasureT-loop
-choose-all-of-μ-loop numbers lines depth at total choice picked₀ count from₀ rest₀ number₀ left₀ picked from rest number left =
+choose-all-of-μ-loop tree lines depth at total choice picked₀ count from₀ rest₀ nth₀ left₀ picked from rest nth left =
     left
 
 abbrev choose-any-of-Inv-loop : choose-any-of-lts.InvT-loop
-choose-any-of-Inv-loop numbers lines depth at total choice picked₀ count from₀ number₀ left₀ picked from number left =
-    Marking numbers lines depth any at total choice picked₀ left from total number picked
+choose-any-of-Inv-loop tree lines depth at total choice picked₀ count from₀ nth₀ left₀ picked from nth left =
+    Marking tree lines depth any at total choice picked₀ left from total nth picked
 
 abbrev choose-any-of-μ-loop : choose-any-of-lts.MeasureT-loop
-choose-any-of-μ-loop numbers lines depth at total choice picked₀ count from₀ number₀ left₀ picked from number left =
+choose-any-of-μ-loop tree lines depth at total choice picked₀ count from₀ nth₀ left₀ picked from nth left =
     left
 
 pub +choose-all-of+choose-any-of-spec : {M : Type 1} → statement M
@@ -118,7 +118,7 @@ pub +choose-all-of+choose-any-of-spec : {M : Type 1} → statement M
     let read = rest .before .before .before .before in
     let turn = read .before .before .loop in
     rw (c .remainder .ensures, rest .quotient .ensures)
-    (next-factor _ _ _ _ _ _ _ (turn .left) (turn .from) (turn .rest) (turn .number) (turn .picked) _ _ (read .before .loop-test .taken) (turn .inv)
+    (next-factor _ _ _ _ _ _ _ (turn .left) (turn .from) (turn .rest) (turn .nth) (turn .picked) _ _ (read .before .loop-test .taken) (turn .inv)
     (sym (read .read-any-of .ensures) ∙ rest .before .before .child .given .1)
     (rw (choice .quotient2 .ensures, rest .quotient .ensures) at (inside .choose-any-of .ensures))))
     -- returns-2
@@ -172,7 +172,7 @@ pub +choose-all-of+choose-any-of-spec : {M : Type 1} → statement M
     let told = test .before .before .before in
     let read = told .before .before in
     let turn = read .before .before .loop in
-    branch-taken _ _ _ _ _ _ _ (turn .left) (turn .from) _ (turn .number) (turn .picked) _ _ (read .before .loop-test .taken) (turn .inv)
+    branch-taken _ _ _ _ _ _ _ (turn .left) (turn .from) _ (turn .nth) (turn .picked) _ _ (read .before .loop-test .taken) (turn .inv)
     (sym (read .read-all-of .ensures) ∙ told .child .given .1) (test .if1 .taken) (inside .choose-all-of .ensures))
     (search needs) (search needs)
     -- loop-again
@@ -180,7 +180,7 @@ pub +choose-all-of+choose-any-of-spec : {M : Type 1} → statement M
     let told = c .before .before .before .before in
     let read = told .before .before in
     let turn = read .before .before .loop in
-    next-branch _ _ _ _ _ _ _ (turn .left) (turn .from) _ (turn .number) (turn .picked) (turn .picked) _ (read .before .loop-test .taken) (turn .inv)
+    next-branch _ _ _ _ _ _ _ (turn .left) (turn .from) _ (turn .nth) (turn .picked) (turn .picked) _ (read .before .loop-test .taken) (turn .inv)
     (sym (read .read-all-of .ensures) ∙ told .child .given .1) (c .before .if1 .left))
     -- returns-3
     (λ c. sym (chosen-wrong _ _ _ any _ _ _ _ _ (sym (c .before .before .head-at .ensures) ∙ c .enum-told .given .1)))

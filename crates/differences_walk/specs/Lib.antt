@@ -1,0 +1,5 @@
+pub mod Makes
+pub mod Back
+pub mod Reading
+pub mod Again
+pub mod Refuted

@@ -1,0 +1,4 @@
+pub mod Numbered
+pub mod Both
+pub mod Longer
+pub mod Verdict

@@ -1,0 +1,192 @@
+-- What inserting a step does to a table of numbers, whatever they are, and what its contract asks.
+use mathlib.Core.Path.{_≡_, refl, sym, ap, _∙_}
+use mathlib.Core.Bool.{Bool, true, false, not, cond, _&&_}
+use mathlib.Core.List.{List, _++_}
+use Prim.Native.Nat.{ℕ, _+_, _*_, _<_, _≤_}
+use native.Mathlib.Omega.{arith}
+use lib.IntN.{ℤ, pos}
+use lib.ListN.{length, drop, length-append, List·getD-append}
+use lib.Signed.{leZ}
+use Rattle.integers.specs.Integer.{_⩽_, Within}
+use Rattle.integers.specs.Linear.{ints}
+use Rattle.integers.specs.Sequence.{tabulate, length-tabulate, getD-tabulate}
+use Rattle.lines.specs.Line.{number}
+use Rattle.steps.specs.declared.Step.{Step}
+use Rattle.steps.specs.Step.{maxWeight}
+use Rattle.theory_walks.specs.Distance.{Distance, none, some, minD, _⊕_, _⊞_, ⊕-some}
+use Rattle.theory_walks.specs.Size.{within-more, within-sum}
+use Rattle.theory_walks.specs.Negative.{notBelow0}
+use Rattle.theory_bounds.specs.Tight.{Table}
+use Rattle.decide_rows.specs.Stored.{stored}
+use Rattle.decide_rows.specs.Read.{noWalk, distanceOf, Short, maxDistance, of-some, short-more, stored-sign}
+use Rattle.decide_rows.specs.Numbers.{StepOk}
+use Rattle.decide_stored_table.specs.Sum.{maxTight, read-back}
+use Rattle.decide_stored_table.specs.Table.{tableOf, ShortTable}
+use Rattle.theory_bounds.specs.Agree.{Agree}
+use Rattle.theory_inserting.specs.Insert.{closing, inserted, through}
+use Rattle.theory_inserting.specs.Two.{closing-same}
+use Rattle.session_step.specs.Read.{smallTable, SizedTable, small-short, small-agree}
+use Rattle.session_step.specs.Written.{written, written-same}
+use Rattle.session_step.specs.Lower.{RowsReady, lowered}
+
+-- ---- definitions
+-- from u to the step's start and along the step
+abbrev pub along : Table → Step → ℕ → Distance
+along D s u = D u (s .from) ⊕ s .weight
+
+abbrev pub atMost : Distance → ℤ → Bool
+atMost none w = false
+atMost (some d) w = leZ d w
+
+-- whether the table has a way that is as short as the step
+abbrev pub implied : Table → Step → Bool
+implied D s = atMost (D (s .from) (s .to)) (s .weight)
+
+-- whether the step is put in: it closes no walk of negative sum, and nothing as short is there
+abbrev pub changes : Table → Step → Bool
+changes D s = notBelow0 (closing D s) && not (implied D s)
+
+-- entries are added as they are read, and compared as they stand
+abbrev pub insertedIn : ℕ → List ℤ → Step → Table
+insertedIn N t s u v = minD (tableOf N t u v) (through (smallTable N t) s u v)
+
+abbrev pub tableAfter : ℕ → Step → List ℤ → List ℤ
+tableAfter N s t = cond (changes (smallTable N t) s) (written (insertedIn N t s) N N) t
+
+-- the sums that the scratch numbers hold
+abbrev pub sumsAfter : Table → Step → ℕ → List ℤ → List ℤ
+sumsAfter D s N w = tabulate N (λ u. stored (along D s u)) ++ drop N w
+
+abbrev pub scratchAfter : ℕ → Step → List ℤ → List ℤ → List ℤ
+scratchAfter N s t w = cond (changes (smallTable N t) s) (sumsAfter (smallTable N t) s N w) w
+
+-- what is asked of the step; of the table only its size, not its numbers
+pub record InsertReady (n : ℕ) (s : Step) (t w : List ℤ) : Type 0 where
+  pub table : SizedTable n t
+  pub step : StepOk n s
+  pub room : 2 * n ≤ length w
+
+pub record InsertDone (N : ℕ) (s : Step) (t w t′ w′ : List ℤ) (r : Bool) : Type 0 where
+  pub answer : r ≡ notBelow0 (closing (smallTable N t) s)
+  pub table-is : t′ ≡ tableAfter N s t
+  pub scratch-is : w′ ≡ scratchAfter N s t w
+
+-- ---- a distance and the step's weight
+-- the greatest sum
+abbrev pub maxAlong : ℕ
+maxAlong = maxDistance + maxWeight
+
+weight-some : (w : ℤ) → Within maxWeight w → distanceOf w ≡ some w
+weight-some w h = of-some w (far w (h .high))
+  where
+    far : (w : ℤ) → w ⩽ pos maxWeight → w ≡ noWalk → ⊥
+    far w = simp ints (omega arith)
+
+pub weight-short : (w : ℤ) → Within maxWeight w → Short maxTight (distanceOf w)
+weight-short w h z e = rw is at (within-more {n = maxTight} (omega arith) h)
+  where
+    both : some w ≡ some z
+    both = sym (weight-some w h) ∙ e
+
+    is : w ≡ z
+    is = cc both
+
+-- the code's call: the entry that was read, and the weight, added
+pub along-of-sum : (d : Distance) (x w m : ℤ) → distanceOf x ≡ d → Within maxWeight w → m ≡ stored (distanceOf x ⊞ distanceOf w) → m ≡ stored (d ⊕ w)
+along-of-sum d x w m f h e = e ∙ ap (λ (y : Distance). stored (distanceOf x ⊞ y)) (weight-some w h) ∙ ap (λ (y : Distance). stored (y ⊞ some w)) f ∙ ap stored (same d)
+  where
+    same : (d : Distance) → d ⊞ some w ≡ d ⊕ w
+    same none = refl
+    same (some d) = refl
+
+-- no walk is stored as a number above every weight
+pub at-most-stored : (d : Distance) (w : ℤ) → Within maxWeight w → leZ (stored d) w ≡ atMost d w
+at-most-stored none w h = above w (h .high)
+  where
+    above : (w : ℤ) → w ⩽ pos maxWeight → leZ noWalk w ≡ false
+    above w = simp ints (omega arith)
+at-most-stored (some d) w h = refl
+
+module _ (n : ℕ) (s : Step) (t : List ℤ) (ready : StepOk n s) where
+  abbrev N : ℕ
+  N = 2 * n
+
+  abbrev D : Table
+  D = smallTable N t
+
+  pub along-small : (u : ℕ) → Short maxAlong (along D s u)
+  along-small u z e =
+      let x = ⊕-some (D u (s .from)) (s .weight) z e in
+      rw (x .2) at (within-sum (small-short (number t (s .from * N + u)) (x .0) (x .1)) (ready .small))
+
+  pub along-back : (u : ℕ) → distanceOf (stored (along D s u)) ≡ along D s u
+  along-back u = read-back (along D s u) (short-more (omega arith) (along-small u))
+
+  -- the sign of the stored sum
+  pub stays-is : (z : ℤ) → z ≡ stored (along D s (s .to)) → leZ (pos 0) z ≡ notBelow0 (closing D s)
+  stays-is z e = stored-sign z ∙ ap notBelow0 (ap distanceOf e ∙ along-back (s .to))
+
+  -- ---- after the sums are written
+  module _ (w : List ℤ) (room : N ≤ length w) where
+    sum-at : (u : ℕ) → u < N → number (sumsAfter D s N w) u ≡ stored (along D s u)
+    sum-at u h =
+        List·getD-append (tabulate N (λ u. stored (along D s u))) (drop N w) (pos 0) u (rw (length-tabulate N (λ u. stored (along D s u))) h)
+        ∙ getD-tabulate N u (λ u. stored (along D s u)) (pos 0) h
+
+    pub rows-ready : SizedTable n t → RowsReady n (s .to) t (sumsAfter D s N w)
+    rows-ready sized =
+        record {
+          table = sized;
+          to-lt = ready .to-lt;
+          long = rw (length-append (tabulate N (λ u. stored (along D s u))) (drop N w), length-tabulate N (λ u. stored (along D s u))) (omega arith);
+          sums-short = λ u h. rw (sum-at u h, along-back u) (short-more (omega arith) (along-small u));
+        }
+
+    -- the rows are lowered to those of the table with the step
+    pub lowered-is : written (lowered N t (sumsAfter D s N w) (s .to)) N N ≡ written (insertedIn N t s) N N
+    lowered-is = written-same N (lowered N t (sumsAfter D s N w) (s .to)) (insertedIn N t s) same N (omega arith)
+      where
+        same : (u v : ℕ) → u < N → v < N → lowered N t (sumsAfter D s N w) (s .to) u v ≡ insertedIn N t s u v
+        same u v h l = ap (λ (d : Distance). minD (tableOf N t u v) (d ⊞ D (s .to) v)) (ap distanceOf (sum-at u h) ∙ along-back u)
+
+-- ---- the three ways through the code
+module _ (N : ℕ) (s : Step) (t w : List ℤ) where
+  abbrev C : Table
+  C = smallTable N t
+
+  pub done-negative : notBelow0 (closing C s) ≡ false → InsertDone N s t w t w false
+  done-negative e = record { answer = sym e; table-is = rw e refl; scratch-is = rw e refl }
+
+  pub done-implied : notBelow0 (closing C s) ≡ true → implied C s ≡ true → InsertDone N s t w t w true
+  done-implied e f = record { answer = sym e; table-is = rw (e, f) refl; scratch-is = rw (e, f) refl }
+
+  pub done-changed : notBelow0 (closing C s) ≡ true → implied C s ≡ false → (t′ w′ : List ℤ) → t′ ≡ written (insertedIn N t s) N N → w′ ≡ sumsAfter C s N w → InsertDone N s t w t′ w′ true
+  done-changed e f t′ w′ et ew = record { answer = sym e; table-is = et ∙ rw (e, f) refl; scratch-is = ew ∙ rw (e, f) refl }
+
+-- ---- a table of distances: the answer and the table are those of the table as it stands, with no reading between
+module _ (n : ℕ) (s : Step) (t : List ℤ) (short : ShortTable n t) (ready : StepOk n s) where
+  abbrev P : Table
+  P = tableOf (2 * n) t
+
+  closing-plain : closing (smallTable (2 * n) t) s ≡ closing P s
+  closing-plain = closing-same (2 * n) (smallTable (2 * n) t) P (small-agree n t short) s (ready .from-lt) (ready .to-lt)
+
+  implied-plain : implied (smallTable (2 * n) t) s ≡ implied P s
+  implied-plain = ap (λ (d : Distance). atMost d (s .weight)) (small-agree n t short (s .from) (s .to) (ready .from-lt) (ready .to-lt))
+
+  inserted-plain : Agree (2 * n) (insertedIn (2 * n) t s) (inserted P s)
+  inserted-plain u v hu hv = ap (λ (d : Distance). minD (P u v) d) (through-plain u v hu hv)
+    where
+      through-plain : Agree (2 * n) (through (smallTable (2 * n) t) s) (through P s)
+      through-plain u v hu hv =
+          ap (λ (d : Distance). d ⊕ s .weight ⊞ smallTable (2 * n) t (s .to) v) (small-agree n t short u (s .from) hu (ready .from-lt))
+          ∙ ap (λ (d : Distance). P u (s .from) ⊕ s .weight ⊞ d) (small-agree n t short (s .to) v (ready .to-lt) hv)
+
+  pub answer-plain : notBelow0 (closing (smallTable (2 * n) t) s) ≡ notBelow0 (closing P s)
+  answer-plain = ap notBelow0 closing-plain
+
+  pub table-plain : tableAfter (2 * n) s t ≡ cond (changes P s) (written (inserted P s) (2 * n) (2 * n)) t
+  table-plain =
+      ap (λ (x : List ℤ). cond (changes (smallTable (2 * n) t) s) x t) (written-same (2 * n) (insertedIn (2 * n) t s) (inserted P s) inserted-plain (2 * n) (omega arith))
+      ∙ ap (λ (d : Distance). cond (notBelow0 d && not (implied (smallTable (2 * n) t) s)) (written (inserted P s) (2 * n) (2 * n)) t) closing-plain
+      ∙ ap (λ (b : Bool). cond (notBelow0 (closing P s) && not b) (written (inserted P s) (2 * n) (2 * n)) t) implied-plain

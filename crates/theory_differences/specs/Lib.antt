@@ -1,0 +1,9 @@
+pub mod Plain
+pub mod Walks
+pub mod Distances
+pub mod Doubled
+pub mod Answers
+pub mod Shift
+pub mod Numbers
+pub mod Anywhere
+pub mod Through
