@@ -1,16 +1,18 @@
-/* The C interface: a function that decides a list, and two that check a proposed
- * model of a list, and a proposed refutation of a list; a check of a refutation that
- * arrives in pieces, one that finds the shorter of two refutations, three functions for
- * sessions, in which lines come one at a time, two that say what a list implies, about
- * two variables or of one line more, two for conditions with alternatives, two that write
- * a model in seconds, two for lists in files, and one that puts a refusal in words. A
- * program links one file, libutvpi.a, which ./build-library makes in target/lib/; make
- * install puts it in place, with libutvpi.so, the manual pages and what pkg-config asks
- * for.
+/* The C interface: a function that decides a list, one that decides a list of differences
+ * with less memory, and two that check a proposed model of a list, and a proposed
+ * refutation of a list; a check of a refutation that arrives in pieces, one that finds the
+ * shorter of two refutations, three functions for sessions, in which lines come one at a
+ * time, two that say what a list implies, about two variables or of one line more, and two
+ * that say the same of a session's lines, two that show that a list implies a line and
+ * check what is shown, two for conditions with alternatives, two that write a model in
+ * seconds, two for lists in files, and one that puts a refusal in words. A program links
+ * one file, libutvpi.a, which ./build-library makes in target/lib/; make install puts it
+ * in place, with libutvpi.so, the manual pages and what pkg-config asks for.
  *
- * Deciding, sessions, what a list implies, alternatives, the shorter of two refutations
- * and seconds take and write numbers, as the machine holds them. The two checks take
- * bytes, the lowest byte of each number first.
+ * Deciding, sessions, what a list implies, showing a line, alternatives, the shorter of
+ * two refutations and seconds take and write numbers, as the machine holds them. The
+ * checks of a model, of a refutation and of a showing take bytes, the lowest byte of each
+ * number first.
  *
  * A LIST has n variables, numbered 0 to n-1, each standing for a whole number,
  * and lines of the form  a*x + b*y <= d.  A line is UTVPI_LINE_NUMBERS signed
@@ -76,10 +78,10 @@ extern "C" {
 /* The version of this header and of the library that belongs to it. The first number is
  * raised where a program that was compiled with the header before has to be compiled
  * again or changed; it is the number behind libutvpi.so, too. */
-#define UTVPI_VERSION "1.0.0"
+#define UTVPI_VERSION "2.0.0"
 
 /* Trees, seconds and files return structs of their own. Deciding, checking, sessions and
- * what a list implies return one number; of two variables it is the result of a struct:
+ * what lines imply return one number; of two variables it is the result of a struct:
  *
  *     0                              yes; of starting a session, of withdrawing a line
  *                                    and of two variables, that it was done
@@ -87,12 +89,13 @@ extern "C" {
  *                                    and for a line that may be implied, k is always
  *                                    0. For a model, k is the first line that it does
  *                                    not meet.
- *                                    For a refutation, k is the index of the
- *                                    first number that is wrong: see WHERE A
+ *                                    For a refutation and for a showing, k is the
+ *                                    index of the first number that is wrong; where
+ *                                    a line is to be shown, k is 0: see WHERE A
  *                                    REFUTATION BREAKS. Lines and indexes count
  *                                    from 0.
- *     2,000,000                      of what a list implies: the list can't be met, so
- *                                    that there is nothing to say
+ *     2,000,000                      of what lines imply: they can't be met, so that
+ *                                    there is nothing to say
  *     -(refusal * 100,000 + place)   a refusal: there is no answer. The refusal
  *                                    is one of the numbers below; the place is
  *                                    a line, an index or a buffer where the
@@ -112,6 +115,10 @@ extern "C" {
 
 /* The greatest bound of a line; the least is its opposite. */
 #define UTVPI_MOST_BOUND 1000000
+
+/* The greatest bound of a line that is shown, among n variables; the least is its
+ * opposite. */
+#define UTVPI_MOST_SHOWN_BOUND(n) (2 * (int64_t)(n) * UTVPI_MOST_BOUND)
 
 /* The greatest value of a model that is checked; the least is its opposite. */
 #define UTVPI_MOST_VALUE 1000000000000
@@ -138,6 +145,10 @@ extern "C" {
 #define UTVPI_WORK_ROOM(n) \
     ((size_t)16 * (size_t)(n) * (size_t)(n) + (size_t)64 * (size_t)(n) + (size_t)64)
 
+/* The room of the work area with which utvpi_decide_differences does, in numbers. */
+#define UTVPI_DIFFERENCES_WORK_ROOM(n) \
+    ((size_t)2 * (size_t)(n) * (size_t)(n) + (size_t)16 * (size_t)(n) + (size_t)16)
+
 /* The same in bytes, for malloc: the rooms above and the lengths that the calls ask for
  * are in numbers. For n = 0 the first three are 0: there malloc may give NULL, which is
  * no lack of memory. */
@@ -147,19 +158,21 @@ extern "C" {
 #define UTVPI_REFUTATION_BYTES(n) (sizeof(uint32_t) * UTVPI_REFUTATION_ROOM(n))
 #define UTVPI_IDENTIFIERS_BYTES(n) (sizeof(uint32_t) * UTVPI_IDENTIFIERS_ROOM(n))
 #define UTVPI_WORK_BYTES(n) (sizeof(int64_t) * UTVPI_WORK_ROOM(n))
+#define UTVPI_DIFFERENCES_WORK_BYTES(n) (sizeof(int64_t) * UTVPI_DIFFERENCES_WORK_ROOM(n))
 
 /* The most stack that a call takes, in bytes. utvpi_check_model,
  * utvpi_check_refutation and utvpi_read_list hold the longest list there, however
- * short the one at hand is; utvpi_session_add and utvpi_implied_line hold it and one
- * line more; utvpi_tree_first and utvpi_tree_decide hold it and a byte for each of its
- * lines. utvpi_check_model also holds the longest model, and utvpi_implied_line,
- * utvpi_implied_pair and utvpi_tree_first hold the longest refutation that is handed over,
- * which takes more than a model; the last part is for all else, and the other calls take
- * no more than that. A thread that calls them needs this much and what it takes itself.
- * No call takes memory from the heap. */
+ * short the one at hand is; utvpi_session_add, utvpi_session_withdraw, utvpi_implied_line
+ * and utvpi_show_line hold it and one line more; utvpi_check_shown holds both, which is
+ * the most. What the others hold beside a list, a byte for each of its lines in
+ * utvpi_tree_first and utvpi_tree_decide, a model in utvpi_check_model, a row of distances
+ * in utvpi_session_add and utvpi_session_withdraw, and a refutation that is handed over in
+ * utvpi_implied_line, utvpi_implied_pair and utvpi_tree_first, takes less than a second
+ * list. The last part is for all else, and the other calls take no more than that. A
+ * thread that calls them needs this much and what it takes itself. No call takes memory
+ * from the heap. */
 #define UTVPI_MOST_STACK \
-    (UTVPI_LINE_BYTES * (UTVPI_MOST_LINES + 1) + (size_t)UTVPI_MOST_LINES + \
-     (size_t)4 * UTVPI_REFUTATION_ROOM(UTVPI_MOST_VARIABLES) + (size_t)4096)
+    (UTVPI_LINE_BYTES * (2 * UTVPI_MOST_LINES + 1) + (size_t)4096)
 
 /* In the bounds: a variable that has no least value, and one that has no greatest; so
  * the latter of a sum of two variables, too. */
@@ -220,6 +233,29 @@ int64_t utvpi_decide(uint64_t n, const int32_t *list, size_t list_len,
                      uint32_t *refutation, size_t refutation_len,
                      uint32_t *identifiers, size_t identifiers_len,
                      int64_t *work, size_t work_len);
+
+/* The same for a list of DIFFERENCES, with about an eighth of the work area. A line is a
+ * difference if one of its coefficients is 1 and the other -1, in either order: x - y <= d
+ * or -x + y <= d, where x and y may be the same variable.
+ *
+ * Arguments, buffers and results are those of utvpi_decide, and so is all that is said
+ * there of pointers and of what is written, but that the room of the work area is
+ * UTVPI_DIFFERENCES_WORK_ROOM(n): so many numbers of it are 0 after a yes and after a no.
+ * Result, model, bounds and groups are those that utvpi_decide gives for the same list; no
+ * variable has a least or a greatest value, as all may grow and fall together, and no sign
+ * of a group is 1. On a no the refutation is of kind 1, and its walk may be another than
+ * that of utvpi_decide: utvpi_shorter says which of the two is the shorter.
+ *
+ * It is refused, in this order: as utvpi_decide refuses the list; as UTVPI_NOT_DIFFERENCE,
+ * at the first line that is no difference; as UTVPI_SHORT_OUTPUT; as
+ * UTVPI_SHORT_WORK_AREA. */
+int64_t utvpi_decide_differences(uint64_t n, const int32_t *list, size_t list_len,
+                                 int32_t *model, size_t model_len,
+                                 int64_t *bounds, size_t bounds_len,
+                                 uint32_t *groups, size_t groups_len,
+                                 uint32_t *refutation, size_t refutation_len,
+                                 uint32_t *identifiers, size_t identifiers_len,
+                                 int64_t *work, size_t work_len);
 
 /* The two checks. Lengths are in bytes. Each pointer must point to at least as
  * many readable bytes as its length says, at any alignment. The bytes must not
@@ -328,22 +364,32 @@ utvpi_part utvpi_shorter(uint64_t n, const int32_t *list, size_t list_len,
 /* A SESSION takes the lines of a list one at a time, and decides all that it has each
  * time. It starts with n variables and no lines. What is kept between two calls is its
  * state, and nothing else: a lent buffer of signed 64-bit numbers, in which every line
- * stands. Its room is UTVPI_SESSION_ROOM(n) numbers, for n up to UTVPI_MOST_VARIABLES;
- * today that is the same for every n. The buffer may be longer; what lies beyond the
- * room is left as it was. Lengths are in numbers. A state may be stored and used again
- * later, and a copy of it is a session of its own.
+ * stands, and what the lines say of each two variables. So a line that is added takes time
+ * that grows with the square of n, not with its cube, as long as the answer is a yes; the
+ * one that makes a no takes as long as deciding all lines. The room of a state is
+ * UTVPI_SESSION_ROOM(n) numbers, for n up to UTVPI_MOST_VARIABLES: at least 24,579 numbers,
+ * or 196,632 bytes, and at most 286,723 numbers, or 2,293,784 bytes, which are best taken
+ * from the heap. The buffer may be longer; what lies beyond the room is left as it was.
+ * Lengths are in numbers. A state may be stored and used again later, and a copy of it is
+ * a session of its own.
  *
  * Only these calls write a state. It is n, how many lines there are, 1 where the last
- * answer was a no and else 0, the numbers of each line in order, and zeros. Numbers that
- * are no state are refused, as UTVPI_SHORT_OUTPUT at the place UTVPI_OUTPUT_STATE: where
- * there are fewer than the room for their n, or where one of the first three, or a
- * number of a line, is out of its range. Of all others that no call left, no more is
- * said than that each call returns, and that a refusal changes nothing.
+ * answer was a no and else 0, the numbers of each line in order, zeros up to where those of
+ * the last of UTVPI_MOST_LINES lines would end, and the table of distances: with 2*x for
+ * the point x+ and 2*x + 1 for x-, of each point v a row of 2*n numbers, in which the one
+ * of each point u is the least sum of a walk from u to v, 0 where both are one point, and
+ * UTVPI_NO_GREATEST where there is no walk. After a no it is the table of the lines before
+ * the last. Numbers that are no state are refused, as UTVPI_SHORT_OUTPUT at the place
+ * UTVPI_OUTPUT_STATE: where there are fewer than the room for their n, or where one of the
+ * first three, or a number of a line, is out of its range. Of all others that no call left,
+ * no more is said than that each call returns, that a refusal is given as it is for states
+ * and changes nothing, and that a no to a line that is added is right: a yes may be wrong.
  *
  * The pointers are as for utvpi_decide: no two buffers may overlap. On a refusal the
  * state and every buffer are left as they were. */
 #define UTVPI_SESSION_ROOM(n) \
-    ((size_t)0 * (size_t)(n) + (size_t)3 + (size_t)UTVPI_LINE_NUMBERS * UTVPI_MOST_LINES)
+    ((size_t)3 + (size_t)UTVPI_LINE_NUMBERS * UTVPI_MOST_LINES + \
+     (size_t)4 * (size_t)(n) * (size_t)(n))
 
 /* The same in bytes, for malloc. */
 #define UTVPI_SESSION_BYTES(n) (sizeof(int64_t) * UTVPI_SESSION_ROOM(n))
@@ -379,8 +425,9 @@ int64_t utvpi_session_add(int64_t *state, size_t state_len, utvpi_line line,
 /* Withdraws the last line: every number of the state is what it was before that line was
  * added, and 0 is returned, which is no answer to the lines that are left. They were
  * answered with a yes when the last of them was added, so that lines can be added again.
- * It is refused where the numbers are no state, and then as UTVPI_NO_LINES, where there
- * is no line. */
+ * After a no it takes next to no time; else it takes as long as adding all lines that are
+ * left. It is refused where the numbers are no state, and then as UTVPI_NO_LINES, where
+ * there is no line. */
 int64_t utvpi_session_withdraw(int64_t *state, size_t state_len);
 
 /* WHAT A LIST IMPLIES, for all the ways to meet it: how large sums and differences of two
@@ -420,6 +467,77 @@ utvpi_pair utvpi_implied_pair(uint64_t n, const int32_t *list, size_t list_len,
  * UTVPI_OUTPUT_MODEL; as UTVPI_SHORT_WORK_AREA. */
 int64_t utvpi_implied_line(uint64_t n, const int32_t *list, size_t list_len, utvpi_line line,
                            int32_t *model, size_t model_len, int64_t *work, size_t work_len);
+
+/* The same two questions to a session, about all lines that it has, the one that made a no
+ * among them. They read the state and write nothing: the session goes on as if it had not
+ * been asked, and nothing but the state is lent. Each takes a few looks into the table of
+ * the state. The numbers of its lines are not looked at, so that numbers are no state only
+ * where there are fewer than the room, or one of the first three is out of its range. */
+
+/* How large can the sum and the difference of the variables x and y be? What is returned is
+ * as utvpi_implied_pair has it for the list of all lines so far.
+ *
+ * It is refused, in this order: as UTVPI_SHORT_OUTPUT, place UTVPI_OUTPUT_STATE, where the
+ * numbers are no state; as UTVPI_BAD_VARIABLE at place 0, where x is not below n, and at
+ * place 1, where y is not. */
+utvpi_pair utvpi_session_pair(const int64_t *state, size_t state_len, uint64_t x, uint64_t y);
+
+/* Does every way to meet the lines of the session meet this line, too? The result is as
+ * utvpi_implied_line has it for the list of all lines so far: 0 for a yes, UTVPI_NO for a
+ * no, UTVPI_UNSOLVABLE where the last answer was a no. No model is written. Adding the
+ * opposite line, -a*x - b*y <= -d - 1, gives one that breaks the line, where its bound is
+ * within the limits; and it can be withdrawn.
+ *
+ * It is refused, in this order: as UTVPI_SHORT_OUTPUT, place UTVPI_OUTPUT_STATE, where the
+ * numbers are no state; by the rules of a line, with the number of lines in the session as
+ * the place. A session with UTVPI_MOST_LINES lines can be asked, too. */
+int64_t utvpi_session_implied(const int64_t *state, size_t state_len, utvpi_line line);
+
+/* A LINE IS SHOWN, a*x + b*y <= d, by a refutation of the list against the line: the list,
+ * and as line number UTVPI_MOST_LINES, whatever the list's own length is, the opposite
+ * line, -a*x - b*y <= -d - 1. No way to meet the list meets that line exactly if each
+ * meets the shown one. The opposite line's steps have the numbers 2*UTVPI_MOST_LINES and
+ * the next; no other number beyond the list names a step. So a showing is one for every
+ * longer list, too.
+ *
+ * The line may say what follows from many lines: its bound d may be as large as
+ * UTVPI_MOST_SHOWN_BOUND(n). So whatever is learned of a list is shown, and by one call:
+ * a greatest value b of x as x <= b, a least one as -x <= -b, that x = y as x - y <= 0 and
+ * -x + y <= 0, that x = -y as x + y <= 0 and -x - y <= 0, and each of the four numbers of
+ * utvpi_implied_pair as its sum. With d one less no such line is shown. */
+
+/* Does every way to meet the list meet this line, too? 0 for a yes: then the showing is
+ * written, and the identifiers of its steps, as utvpi_decide writes a refutation, for the
+ * list against the line; with at most 4*n steps, or with one of kind 3. The identifier of
+ * a step of the opposite line is the line's own. A list that can't be met shows every
+ * line. UTVPI_NO where some way to meet the list breaks the line: then both are left as
+ * they were.
+ *
+ * Lengths are in numbers. The pointers are as for utvpi_decide, and so are the rooms,
+ * UTVPI_REFUTATION_ROOM(n), UTVPI_IDENTIFIERS_ROOM(n) and UTVPI_WORK_ROOM(n); the work
+ * area is 0 after a yes and after a no. On a refusal every buffer is left as it was.
+ *
+ * It is refused, in this order: as utvpi_decide refuses the list; by the rules of a line,
+ * with the number of lines in the list as the place, and UTVPI_MOST_SHOWN_BOUND(n) for
+ * its bound; as UTVPI_SHORT_OUTPUT, place UTVPI_OUTPUT_REFUTATION and then
+ * UTVPI_OUTPUT_IDENTIFIERS; as UTVPI_SHORT_WORK_AREA. */
+int64_t utvpi_show_line(uint64_t n, const int32_t *list, size_t list_len, utvpi_line line,
+                        uint32_t *refutation, size_t refutation_len,
+                        uint32_t *identifiers, size_t identifiers_len,
+                        int64_t *work, size_t work_len);
+
+/* Do these numbers show that every way to meet the list meets the line? It only reads, as
+ * the two checks do: lengths are in bytes, at any alignment. The line has UTVPI_LINE_BYTES
+ * bytes. Of a no, k is the index of the number where the showing breaks, as of
+ * utvpi_check_refutation for the list against the line.
+ *
+ * It is refused, in this order: as the checks refuse the list; as
+ * UTVPI_BROKEN_LIST_LENGTH, where the line has other than UTVPI_LINE_BYTES bytes, and by
+ * the rules of a line, both with the number of lines in the list as the place, and
+ * UTVPI_MOST_SHOWN_BOUND(n) for its bound; as UTVPI_LONG_REFUTATION. */
+int64_t utvpi_check_shown(uint64_t n, const uint8_t *list, size_t list_len,
+                          const uint8_t *line, size_t line_len,
+                          const uint8_t *showing, size_t showing_len);
 
 /* ALTERNATIVES. A tree says which lines of a list are to be met: all of some, and any of
  * others. It is a row of unsigned 32-bit numbers, two for each node, in reading order: a
@@ -630,17 +748,19 @@ utvpi_file_written utvpi_write_list(uint64_t n, const int32_t *list, size_t list
 #define UTVPI_REFUSAL_NUMBER(result) ((int)(-(result) / UTVPI_REFUSAL_UNIT))
 #define UTVPI_REFUSAL_PLACE(result) ((int)(-(result) % UTVPI_REFUSAL_UNIT))
 
-/* The refusals. Where several apply, the one given is the first of: 1, 2, 3;
- * then line by line from the first, in each line 4, 5, 12, 6, 13; then 7 and 8 for
- * deciding, 9 and 10 for a model, 11 for a refutation; 5 for x, 5 for y and 8 for what
- * two variables imply; 4, 5, 12, 6, 13 of the line, 7 and 8 for a line that may be
- * implied. Starting a session gives 1, then 7; adding a line 7 for the state, 30, 3, then
- * for the new line 4, 5, 12, 6, 13, then 7 for the other buffers and 8; withdrawing one
- * 7, then 31. The place of a line that is handed over alone is the number of lines in the
- * list, or in the session. A tree gives those of the list, then 41 or 42 at the lowest
- * index, at the same one 42, then 40, then 43 where a choice is asked for by its number,
- * then 7 and 8. Seconds of one clock give 50, 51, 52; of a table of recorders 54, 50, 53,
- * 51, 52.
+/* The refusals. Where several apply, the one given is the first of: 1, 2, 3; then line
+ * by line from the first, in each line 4, 5, 12, 6, 13; then 7 and 8 for deciding, 60, 7
+ * and 8 for deciding differences, 9 and 10 for a model, 11 for a refutation; 5 for x, 5
+ * for y and 8 for what two variables imply; 4, 5, 12, 6, 13 of the line, 7 and 8 for a
+ * line that may be implied or is to be shown; 2 and then 4, 5, 12, 6, 13 of the line, and
+ * 11, for a showing. Starting a session gives 1, then 7; adding a line 7 for the state,
+ * 30, 3, then for the new line 4, 5, 12, 6, 13, then 7 for the other buffers and 8;
+ * withdrawing one 7, then 31; asking a session 7 for the state, then 5 for x and 5 for y,
+ * or 4, 5, 12, 6, 13 of the line. The place of a line that is handed over alone is the
+ * number of lines in the list, or in the session. A tree gives those of the list, then
+ * 41 or 42 at the lowest index, at the same one 42, then 40, then 43 where a choice is
+ * asked for by its number, then 7 and 8. Seconds of one clock give 50, 51, 52; of a
+ * table of recorders 54, 50, 53, 51, 52.
  */
 enum utvpi_refusal {
     /* n is above UTVPI_MOST_VARIABLES: use fewer variables. */
@@ -652,7 +772,8 @@ enum utvpi_refusal {
      * for, unless the lines are a multiple of UTVPI_LINE_NUMBERS. It can't catch a length
      * in bytes where one in numbers is asked for: that is a multiple, too, and the call
      * reads beyond the list. In bytes hand over UTVPI_LINE_BYTES times the lines, in
-     * numbers UTVPI_LINE_NUMBERS times. */
+     * numbers UTVPI_LINE_NUMBERS times. Of the line of utvpi_check_shown, which has to
+     * have UTVPI_LINE_BYTES bytes, the place is the number of lines in the list. */
     UTVPI_BROKEN_LIST_LENGTH = 2,
 
     /* The list has more than UTVPI_MOST_LINES lines: leave out lines that add
@@ -671,17 +792,20 @@ enum utvpi_refusal {
 
     /* The bound d of the line at this place is below -UTVPI_MOST_BOUND or above
      * UTVPI_MOST_BOUND, 1,000,000: choose a coarser unit, or an origin nearer to the
-     * values. */
+     * values. Of a line that is shown, beyond UTVPI_MOST_SHOWN_BOUND(n): a list that
+     * can be met implies a line with the greatest such bound or none, so ask for that. */
     UTVPI_BAD_BOUND = 6,
 
     /* A buffer for output is too short: lend a longer one. The place is the
      * first that is short, one of enum utvpi_output. Or the numbers lent as the state of
      * a session are none: hand over a state that one of the calls left. Only deciding,
-     * sessions, a line that may be implied and trees give this. */
+     * sessions, a line that may be implied, one that is to be shown and trees give
+     * this. */
     UTVPI_SHORT_OUTPUT = 7,
 
-    /* The work area is too short: lend one of UTVPI_WORK_ROOM(n) numbers. Only
-     * deciding gives this, adding a line to a session, what a list implies, and trees. */
+    /* The work area is too short: lend one of UTVPI_WORK_ROOM(n) numbers, or, to decide
+     * differences, of UTVPI_DIFFERENCES_WORK_ROOM(n). Only deciding gives this, adding a
+     * line to a session, what a list implies, showing a line, and trees. */
     UTVPI_SHORT_WORK_AREA = 8,
 
     /* The model is not exactly 8*n bytes: give one value for each variable. */
@@ -783,7 +907,12 @@ enum utvpi_refusal {
     /* The table has more than UTVPI_MOST_RECORDERS recorders, not a rate for each form, or
      * not a recorder for each count: correct the lengths, or write the events in parts,
      * each with the recorders that it needs. The place is 0. */
-    UTVPI_BAD_TABLE = 54
+    UTVPI_BAD_TABLE = 54,
+
+    /* The line at this place, the first such, is no difference: its coefficients are not
+     * one 1 and one -1. Leave it out, or hand the list to utvpi_decide, which takes all
+     * lines. Only utvpi_decide_differences gives this. */
+    UTVPI_NOT_DIFFERENCE = 60
 };
 
 /* The places of UTVPI_SHORT_OUTPUT. */

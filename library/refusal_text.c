@@ -17,7 +17,8 @@ const char *utvpi_refusal_text(int number)
         return "there are more than " AS_TEXT(UTVPI_MOST_VARIABLES) " variables: use fewer";
     case UTVPI_BROKEN_LIST_LENGTH:
         return "the list's length is no multiple of a line's, " AS_TEXT(UTVPI_LINE_NUMBERS)
-               " numbers of four bytes: look for a cut or added part";
+               " numbers of four bytes, or a line alone has another length: look for a cut or"
+               " added part";
     case UTVPI_TOO_MANY_LINES:
         return "there are more than " AS_TEXT(UTVPI_MOST_LINES)
                " lines: leave out lines that add nothing";
@@ -29,7 +30,8 @@ const char *utvpi_refusal_text(int number)
                " coefficient 0: correct it";
     case UTVPI_BAD_BOUND:
         return "the bound of this line " BEYOND(UTVPI_MOST_BOUND)
-               ": choose a coarser unit, or an origin nearer to the values";
+               ", where a line is shown 2*n times that: choose a coarser unit, or an origin"
+               " nearer to the values";
     case UTVPI_SHORT_OUTPUT:
         return "a buffer for output is too short, or what is lent as a session's state is"
                " none: lend a longer one, or a state that a call left";
@@ -95,6 +97,9 @@ const char *utvpi_refusal_text(int number)
         return "the table has more than " AS_TEXT(UTVPI_MOST_RECORDERS)
                " recorders, or its lengths do not fit together: correct them, or write the"
                " events in parts";
+    case UTVPI_NOT_DIFFERENCE:
+        return "this line is no difference, with one coefficient 1 and the other -1: leave it"
+               " out, or hand the list to the call that decides all lists";
     }
     return "this number is no refusal: look for a result that was taken for one";
 }

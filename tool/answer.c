@@ -27,20 +27,27 @@ static void pack(uint8_t *to, uint64_t number, size_t bytes)
     }
 }
 
-/* Packs a line of the list at a place. */
-static void pack_line(size_t place, const int32_t *line)
+static void pack_line(uint8_t *to, const int32_t *line)
 {
     for (size_t at = 0; at < UTVPI_LINE_NUMBERS; at++) {
-        pack(list_bytes + UTVPI_LINE_BYTES * place + 4 * at, (uint64_t)line[at], 4);
+        pack(to + 4 * at, (uint64_t)line[at], 4);
     }
 }
 
 static size_t pack_list(const struct list *list)
 {
     for (size_t line = 0; line < list->count; line++) {
-        pack_line(line, list->numbers + UTVPI_LINE_NUMBERS * line);
+        pack_line(list_bytes + UTVPI_LINE_BYTES * line, list->numbers + UTVPI_LINE_NUMBERS * line);
     }
     return UTVPI_LINE_BYTES * list->count;
+}
+
+static size_t pack_refutation(const uint32_t *numbers, size_t count)
+{
+    for (size_t at = 0; at < count; at++) {
+        pack(refutation_bytes + 4 * at, numbers[at], 4);
+    }
+    return 4 * count;
 }
 
 /* Says that an answer can't be trusted, and why. Gives back the status for that. */
@@ -140,12 +147,25 @@ bool refutation_holds(const struct list *list, const uint32_t *numbers, size_t c
         pack(refutation_bytes + 4 * at,
              is_step ? 2 * (at - 3) + numbers[at] % 2 : numbers[at], 4);
         if (is_step) {
-            pack_line(at - 3, line_of(list, numbers[at]));
+            pack_line(list_bytes + UTVPI_LINE_BYTES * (at - 3), line_of(list, numbers[at]));
         }
     }
     return UTVPI_IS_YES(utvpi_check_refutation(list->variables, list_bytes,
                                                UTVPI_LINE_BYTES * steps, refutation_bytes,
                                                4 * count));
+}
+
+/* Whether the library's check takes these numbers for a showing of a line, by the rules of
+ * the list. */
+bool showing_holds(const struct list *list, const int32_t *line, const uint32_t *numbers,
+                   size_t count)
+{
+    uint8_t line_bytes[UTVPI_LINE_BYTES];
+    size_t length = pack_list(list);
+    pack_line(line_bytes, line);
+    return UTVPI_IS_YES(utvpi_check_shown(list->variables, list_bytes, length, line_bytes,
+                                          sizeof line_bytes, refutation_bytes,
+                                          pack_refutation(numbers, count)));
 }
 
 /* Takes the seconds of all that a yes prints. False where they can't be trusted. */
@@ -230,11 +250,8 @@ static int answer_no(const struct list *list, size_t n, enum manner manner)
     if (count > UTVPI_REFUTATION_ROOM(n)) {
         return disagree(fails);
     }
-    for (size_t at = 0; at < count; at++) {
-        pack(refutation_bytes + 4 * at, refutation[at], 4);
-    }
     if (!UTVPI_IS_YES(utvpi_check_refutation(n, list_bytes, length, refutation_bytes,
-                                             4 * (size_t)count))) {
+                                             pack_refutation(refutation, (size_t)count)))) {
         return disagree(fails);
     }
     if (!identifiers_agree(list, (size_t)count - 3)) {
@@ -275,11 +292,28 @@ int give_answer(const struct list *list, uint64_t n, int64_t result, enum manner
                                : disagree("the library gave a number that is no answer");
 }
 
-/* How many numbers the work area needs. A list with too many variables is refused
- * before its room is looked at. */
+/* How many numbers the work area of an engine needs, or that of deciding. A list with too
+ * many variables is refused before its room is looked at. */
+static size_t room_for(enum engine engine, uint64_t n)
+{
+    uint64_t within = n <= UTVPI_MOST_VARIABLES ? n : 0;
+    return engine == ENGINE_ALL ? UTVPI_WORK_ROOM(within) : UTVPI_DIFFERENCES_WORK_ROOM(within);
+}
+
 size_t work_room(uint64_t n)
 {
-    return UTVPI_WORK_ROOM(n <= UTVPI_MOST_VARIABLES ? n : 0);
+    return room_for(ENGINE_ALL, n);
+}
+
+/* Says that there is not enough memory for a work area of so many numbers. */
+static void lack_memory(const char *file, uint64_t n, size_t room)
+{
+    char what[120];
+    snprintf(what, sizeof what,
+             "there is not enough memory to decide %" PRIu64 " events: %zu bytes are needed",
+             n, room * sizeof(int64_t));
+    wrong_in(file, nowhere, nowhere.rule, what,
+             "free memory, or decide parts that share no event one by one");
 }
 
 /* A work area for n variables, to be freed; NULL, which is said, where there is not
@@ -288,12 +322,7 @@ int64_t *take_work_area(const char *file, uint64_t n)
 {
     int64_t *work = malloc(work_room(n) * sizeof *work);
     if (work == NULL) {
-        char what[120];
-        snprintf(what, sizeof what,
-                 "there is not enough memory to decide %" PRIu64 " events: %zu bytes are needed",
-                 n, work_room(n) * sizeof *work);
-        wrong_in(file, nowhere, nowhere.rule, what,
-                 "free memory, or decide parts that share no event one by one");
+        lack_memory(file, n, work_room(n));
     }
     return work;
 }
@@ -309,22 +338,91 @@ const uint32_t *last_refutation(void)
     return refutation;
 }
 
-/* Decides the list, which the library may refuse, and prints the answer. */
-int answer(const struct list *list, enum manner manner)
+/* Has the list decided by an engine, in the work area that it needs. The result is for
+ * give_answer. False where there is not enough memory, and then nothing is changed. */
+static bool decide(const struct list *list, enum engine engine, int64_t *result)
 {
-    int64_t *work = take_work_area(list->file, list->variables);
+    size_t room = room_for(engine, list->variables);
+    int64_t *work = malloc(room * sizeof *work);
     if (work == NULL) {
-        return STATUS_BAD;
+        return false;
     }
-    int64_t result = utvpi_decide(
+    *result = (engine == ENGINE_ALL ? utvpi_decide : utvpi_decide_differences)(
         list->variables, numbers_of(list), length_of(list),
         model, UTVPI_MODEL_ROOM(UTVPI_MOST_VARIABLES),
         bounds, UTVPI_BOUNDS_ROOM(UTVPI_MOST_VARIABLES),
         groups, UTVPI_GROUPS_ROOM(UTVPI_MOST_VARIABLES),
         refutation, UTVPI_REFUTATION_ROOM(UTVPI_MOST_VARIABLES),
-        identifiers, UTVPI_IDENTIFIERS_ROOM(UTVPI_MOST_VARIABLES),
-        work, work_room(list->variables));
+        identifiers, UTVPI_IDENTIFIERS_ROOM(UTVPI_MOST_VARIABLES), work, room);
     free(work);
+    return true;
+}
+
+/* Keeps the shorter of the last no and another refutation, of so many steps, both of which
+ * were checked, as the library finds it; the last no when they tie. False where that is not
+ * what it finds. */
+static bool keep_shorter(const struct list *list, const uint32_t *other,
+                         const uint32_t *other_identifiers, uint32_t steps)
+{
+    uint32_t own = refutation[1] + refutation[2];
+    utvpi_part part = utvpi_shorter(
+        list->variables, numbers_of(list), length_of(list),
+        refutation, UTVPI_REFUTATION_ROOM(UTVPI_MOST_VARIABLES),
+        other, UTVPI_REFUTATION_ROOM(UTVPI_MOST_VARIABLES));
+    if (part.which != (steps < own ? UTVPI_SHORTER_SECOND : UTVPI_SHORTER_FIRST) ||
+        part.length != 3 + (uint64_t)(steps < own ? steps : own)) {
+        return false;
+    }
+    if (part.which == UTVPI_SHORTER_SECOND) {
+        memcpy(refutation, other, (size_t)part.length * sizeof *refutation);
+        memcpy(identifiers, other_identifiers, steps * sizeof *identifiers);
+    }
+    return true;
+}
+
+/* Prints a no that the engine for differences gave: by the shorter of its refutation and
+ * that of the engine for all lists, which has to say no, too; or by its own alone where
+ * there is no memory for the other. */
+static int answer_shorter(const struct list *list, int64_t result, enum manner manner)
+{
+    static uint32_t kept[UTVPI_REFUTATION_ROOM(UTVPI_MOST_VARIABLES)];
+    static uint32_t kept_identifiers[UTVPI_IDENTIFIERS_ROOM(UTVPI_MOST_VARIABLES)];
+    int64_t other = result;
+    int status = give_answer(list, list->variables, result, UNPRINTED);
+    if (status != STATUS_NO) {
+        return status;
+    }
+    uint32_t steps = copy_last_no(kept, kept_identifiers);
+    if (decide(list, ENGINE_ALL, &other)) {
+        if (!UTVPI_IS_NO(other)) {
+            return disagree("the library's two engines do not give the same answer");
+        }
+        status = give_answer(list, list->variables, other, UNPRINTED);
+        if (status == STATUS_NO && !keep_shorter(list, kept, kept_identifiers, steps)) {
+            status = disagree("the library did not find the shorter of two refutations");
+        }
+    }
+    return status == STATUS_NO ? give_answer(list, list->variables, other, manner) : status;
+}
+
+/* Decides the list, which the library may refuse, by its engine, and prints the answer. */
+int answer(const struct list *list, enum manner manner)
+{
+    enum engine engine = list->engine == ENGINE_ALL ? ENGINE_ALL : ENGINE_DIFFERENCES;
+    bool fitting = list->engine == ENGINE_FITTING;
+    int64_t result = 0;
+    bool decided = decide(list, engine, &result);
+    if (decided && fitting && UTVPI_IS_NO(result)) {
+        return answer_shorter(list, result, manner);
+    }
+    if (decided && fitting && UTVPI_REFUSAL_NUMBER(result) == UTVPI_NOT_DIFFERENCE) {
+        engine = ENGINE_ALL;
+        decided = decide(list, engine, &result);
+    }
+    if (!decided) {
+        lack_memory(list->file, list->variables, room_for(engine, list->variables));
+        return STATUS_BAD;
+    }
     return give_answer(list, list->variables, result, manner);
 }
 

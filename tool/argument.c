@@ -1,5 +1,6 @@
 /* Printing a clash: each rule of its argument once, as its file has it, then sentence by
- * sentence how they clash, and last what they add up to. */
+ * sentence how they clash, and last what they add up to. Of the grounds of a line, the rules
+ * and the sentences. */
 #include "list.h"
 
 /* What is known of a point: that it is at least a number, or at least another point and a
@@ -184,35 +185,60 @@ static void say_conclusion(const struct list *list, struct point start, int64_t 
     put_known(list, opposite(start), at_least(-bound));
 }
 
-/* A half that leads to the opposite of where it begins: twice an event has a bound. */
-static void say_twice(const struct list *list, const struct half *from, struct point start)
+/* A chain that leads to the opposite of where it begins: twice an event has a bound. Says
+ * what the point where it begins is at most, and gives that back. */
+static int64_t say_twice(const struct list *list, const struct chain *chain)
 {
-    size_t last = from->chain.count - 1;
-    int64_t sum = sum_of(list, &from->chain);
-    say_chain(list, &from->chain, last, beside(start, 0), ",");
-    say_but(list, "but ", from->chain.steps[last], ":");
+    struct point start = step_of(list, chain->steps[0]).from;
+    size_t last = chain->count - 1;
+    int64_t sum = sum_of(list, chain);
+    say_chain(list, chain, last, beside(start, 0), ",");
+    say_but(list, "but ", chain->steps[last], ":");
     put_string(&sentence, "so twice ");
     put_event(&sentence, list, start.variable);
     put_string(&sentence, start.sign < 0 ? " is at least " : " is at most ");
     put_number(&sentence, start.sign * sum + 2 * list->offsets[start.variable]);
     put_string(&sentence, ", and ");
-    say_conclusion(list, start, from->bound);
+    say_conclusion(list, start, half(sum));
     end_sentence(sum % 2 == 0 ? "." : ", as it is whole.");
+    return half(sum);
 }
 
-/* A half that ends with a step on one event: that is at most so much, and all on the way
- * back too. */
-static void say_half(const struct list *list, const struct half *from, struct point start)
+/* The way back of a half from what has a bound: where that is a step on one event, all of
+ * it; else as many steps as its chain takes at its end by the rules of its beginning. What
+ * lies between them leads from a point to its opposite, too. */
+static struct chain way_back(const struct list *list, const struct half *from)
+{
+    const struct chain *chain = &from->chain;
+    size_t count = from->bounded ? chain->count : 0;
+    while (!from->bounded && 2 * count + 2 < chain->count &&
+           chain->steps[count] == (chain->steps[chain->count - 1 - count] ^ 1)) {
+        count++;
+    }
+    struct chain there = part_of(chain, 0, count);
+    return mirrored(list, &there);
+}
+
+/* What lies between, of a half that ends with no step on one event. */
+static struct chain between_ends(const struct half *from, size_t back)
+{
+    return part_of(&from->chain, back, from->chain.count - 2 * back);
+}
+
+/* A half: what has a bound is at most so much, and all on the way back too. */
+static void say_half(const struct list *list, const struct half *from)
 {
     struct point point;
-    if (!from->bounded) {
-        say_twice(list, from, start);
-        return;
+    struct known known;
+    struct chain back = way_back(list, from);
+    if (from->bounded) {
+        known = put_bound(list, "", from->step, &point);
+        end_sentence(back.count > 0 ? "," : ".");
+    } else {
+        struct chain between = between_ends(from, back.count);
+        known = at_least(-say_twice(list, &between));
     }
-    struct chain mirror = mirrored(list, &from->chain);
-    struct known known = put_bound(list, "", from->step, &point);
-    end_sentence(mirror.count > 0 ? "," : ".");
-    say_chain(list, &mirror, mirror.count, known, ".");
+    say_chain(list, &back, back.count, known, ".");
 }
 
 /* Where the two halves leave exactly one number, and that is no whole one, says which. */
@@ -233,9 +259,9 @@ static void say_fraction(const struct list *list, const struct argument *argumen
 
 static void say_halved(const struct list *list, const struct argument *argument)
 {
-    say_half(list, &argument->halves[0], argument->start);
+    say_half(list, &argument->halves[0]);
     separate();
-    say_half(list, &argument->halves[1], opposite(argument->start));
+    say_half(list, &argument->halves[1]);
     separate();
     say_conclusion(list, argument->start, argument->halves[0].bound);
     put_string(&sentence, ", ");
@@ -253,6 +279,22 @@ static void say_argument(const struct list *list, const struct argument *argumen
         say_bounded(list, argument);
     } else if (argument->form == HALVED) {
         say_halved(list, argument);
+    }
+    free_writing(&sentence);
+}
+
+/* Says how rules force a line. One that is true by itself needs no words. */
+void say_grounds(const struct list *list, const struct grounds *grounds)
+{
+    if (grounds->form == LINKED) {
+        const struct chain *chain = &grounds->chain;
+        say_chain(list, chain, chain->count, beside(step_of(list, chain->steps[0]).from, 0), ".");
+    }
+    for (size_t at = 0; grounds->form == EACH && at < grounds->count; at++) {
+        if (at > 0) {
+            separate();
+        }
+        say_half(list, &grounds->halves[at]);
     }
     free_writing(&sentence);
 }
@@ -278,6 +320,33 @@ static size_t add_rules(const struct list *list, uint32_t *steps, size_t count,
     return count;
 }
 
+/* Those of a half: from what has a bound on, as its words are. */
+static size_t add_half_rules(const struct list *list, uint32_t *steps, size_t count,
+                             const struct half *from)
+{
+    struct chain back = way_back(list, from);
+    if (from->bounded) {
+        count = add_rule(list, steps, count, from->step);
+    } else {
+        struct chain between = between_ends(from, back.count);
+        count = add_rules(list, steps, count, &between);
+    }
+    return add_rules(list, steps, count, &back);
+}
+
+/* Adds the rules of grounds, in the order in which their words have them. */
+size_t add_grounds(const struct list *list, const struct grounds *grounds, uint32_t *steps,
+                   size_t count)
+{
+    if (grounds->form == LINKED) {
+        count = add_rules(list, steps, count, &grounds->chain);
+    }
+    for (size_t at = 0; grounds->form == EACH && at < grounds->count; at++) {
+        count = add_half_rules(list, steps, count, &grounds->halves[at]);
+    }
+    return count;
+}
+
 /* The rules of an argument, each once, in the order in which its words have them; of each
  * a step. Gives back how many they are. */
 static size_t rules_of(const struct list *list, const struct argument *argument,
@@ -295,12 +364,7 @@ static size_t rules_of(const struct list *list, const struct argument *argument,
         count = add_rule(list, steps, count, alone ? argument->first : argument->last);
     }
     for (size_t at = 0; argument->form == HALVED && at < 2; at++) {
-        const struct half *from = &argument->halves[at];
-        struct chain mirror = mirrored(list, &from->chain);
-        if (from->bounded) {
-            count = add_rule(list, steps, count, from->step);
-        }
-        count = add_rules(list, steps, count, from->bounded ? &mirror : &from->chain);
+        count = add_half_rules(list, steps, count, &argument->halves[at]);
     }
     return count;
 }
@@ -318,16 +382,22 @@ void json_rule(const char *key, struct origin origin, uint32_t identifier)
     json_close();
 }
 
-/* Writes an argument as the member clash. */
-static void write_clash(const struct list *list, const struct argument *argument,
-                        const uint32_t *steps, size_t count)
+/* Writes the rules of these steps as the member rules. */
+void json_rules(const struct list *list, const uint32_t *steps, size_t count)
 {
-    json_object("clash");
     json_array("rules");
     for (size_t at = 0; at < count; at++) {
         json_rule(NULL, list->origins[steps[at] / 2], identifier_of(list, steps[at]));
     }
     json_close();
+}
+
+/* Writes an argument as the member clash. */
+static void write_clash(const struct list *list, const struct argument *argument,
+                        const uint32_t *steps, size_t count)
+{
+    json_object("clash");
+    json_rules(list, steps, count);
     json_array("argument");
     say_argument(list, argument);
     json_close();
@@ -335,13 +405,11 @@ static void write_clash(const struct list *list, const struct argument *argument
     json_close();
 }
 
-/* Prints an argument: its rules, its words and its sum. */
-static void print_clash(const struct list *list, const struct argument *argument,
-                        const uint32_t *steps, size_t count, const char *shown)
+/* Prints the rules of these steps, each with its comment, and a blank line around them. */
+void print_rules(const struct list *list, const uint32_t *steps, size_t count)
 {
     struct layout layout = layout_of(list, steps, count);
-    printf("%s %s:\n\n", shown,
-           argument->form == ALONE ? "One is false by itself" : "These rules clash");
+    putchar('\n');
     for (size_t at = 0; at < count; at++) {
         struct text comment = list->origins[steps[at] / 2].comment;
         print_quoted(list, steps[at], layout, comment.length > 0);
@@ -350,6 +418,15 @@ static void print_clash(const struct list *list, const struct argument *argument
         putchar('\n');
     }
     putchar('\n');
+}
+
+/* Prints an argument: its rules, its words and its sum. */
+static void print_clash(const struct list *list, const struct argument *argument,
+                        const uint32_t *steps, size_t count, const char *shown)
+{
+    printf("%s %s:\n", shown,
+           argument->form == ALONE ? "One is false by itself" : "These rules clash");
+    print_rules(list, steps, count);
     say_argument(list, argument);
     printf("  %s: 0 <= %" PRId64 ", which is false.\n",
            argument->form == ALONE ? "It says" : "Added up", argument->sum);
@@ -375,12 +452,13 @@ size_t argued_rules(const struct list *list, const uint32_t *refutation,
     return take_argument(list, refutation, &argument) ? rules_of(list, &argument, steps) : 0;
 }
 
-/* Writes the numbers of a refutation, and the identifiers of its steps' rules. */
-static void write_numbers(const struct list *list, const uint32_t *refutation,
-                          const uint32_t *identifiers)
+/* Writes the numbers of a refutation, or of a showing, and the identifiers of its steps'
+ * rules. */
+void json_numbers(const struct list *list, const char *key, const uint32_t *refutation,
+                  const uint32_t *identifiers)
 {
     size_t steps = (size_t)refutation[1] + refutation[2];
-    json_array("refutation");
+    json_array(key);
     for (size_t at = 0; at < 3 + steps; at++) {
         json_integer(NULL, at < 3 ? refutation[at] : step_as_read(list, refutation[at]));
     }
@@ -413,6 +491,6 @@ bool print_no(const struct list *list, const uint32_t *refutation, const uint32_
         json_begin(shown[0] == 'Y' ? "yes" : "no");
     }
     write_clash(list, &argument, steps, count);
-    write_numbers(list, refutation, identifiers);
+    json_numbers(list, "refutation", refutation, identifiers);
     return true;
 }

@@ -4,18 +4,6 @@
 
 #include <stdlib.h>
 
-/* Looks for the event with this name, perhaps in quotes. Says so where there is none. */
-static bool find_event(const struct list *list, const char *name, uint64_t *variable)
-{
-    struct text text = text_of(name), unquoted;
-    if (find_name(list, text, variable) ||
-        (scan_name(text, &unquoted) == text.length && find_name(list, unquoted, variable))) {
-        return true;
-    }
-    return wrong(list, nowhere, text,
-                 text.length > 0 ? no_event : "the name of an event is empty", event_advice);
-}
-
 /* Whether deciding agrees that a sum of two points, each an event or its opposite, can be
  * as large as this, or that it can't: a yes or a no is expected. */
 bool can_reach(struct list *list, struct point one, struct point other, int64_t value,

@@ -1,8 +1,9 @@
-# Reads files of rules, then what the tool printed about them, and checks a no, or a yes on
-# a refutation: each quoted rule stands in the line named, with its identifier and comment
-# beside it, and no other way; each sentence that names a rule says what the rule says; what
-# follows from it follows; and the end is something false. Prints what is wrong, if
-# anything. Takes line_numbers, the numbers of a line, of which the last is the identifier.
+# Reads files of rules, then what the tool printed about them, and checks a no, a yes on
+# a refutation, or why something always holds: each quoted rule stands in the line named,
+# with its identifier and comment beside it, and no other way; each sentence that names a
+# rule says what the rule says; what follows from it follows; and the end is something false,
+# or what always holds follows from what is known then. Prints what is wrong, if anything.
+# Takes line_numbers, the numbers of a line, of which the last is the identifier.
 # A bound on an event is kept as three numbers: the sign of another event, 0 where there is
 # none, that event, and a number.
 
@@ -152,8 +153,17 @@ function is_said(place, event, least, bound,    factor) {
     return (place, normal(factor, least ? -1 : 1)) in says
 }
 
-# What is known, least[] or most[], of an event: a bound, by its parts.
-function know(event, is_least, bound) {
+# The key of what is known of an event beside another, which has a sign, or beside none.
+function fact(event, is_least, sign, other) {
+    return event SUBSEP (is_least ? "least" : "most") SUBSEP (sign + 0) SUBSEP other
+}
+
+# What is known, least[] or most[], of an event: a bound, by its parts. Of all that were
+# known beside the same event, or beside none, the tightest is kept.
+function know(event, is_least, bound,    key) {
+    key = fact(event, is_least, bound["sign"], bound["event"])
+    if (!(key in tightest) || (is_least ? bound["number"] > tightest[key] : bound["number"] < tightest[key]))
+        tightest[key] = bound["number"]
     known[event, is_least, "sign"] = bound["sign"]
     known[event, is_least, "event"] = bound["event"]
     known[event, is_least, "number"] = bound["number"]
@@ -215,8 +225,75 @@ function claim(event, is_least, text,    at, bound, result, printed, place) {
     } else know(event, is_least, bound)
 }
 
+# Whether it is known that factor[] times the events is at most a number, for one event or
+# two, each counted once, or one counted twice: by bounds of each, or of one beside the other.
+function is_forced(factor, most,    key, event, count, sum, at, known_key) {
+    for (key in factor) if (key != "1" && factor[key] != 0) event[++count] = key
+    sum = 0
+    for (at = 1; at <= count; at++) {
+        known_key = fact(event[at], factor[event[at]] < 0, 0, "")
+        if (!(known_key in tightest)) break
+        sum += factor[event[at]] * tightest[known_key]
+    }
+    if (at > count && sum <= most) return 1
+    for (at = 1; count == 2 && at <= 2; at++) {
+        known_key = fact(event[at], factor[event[at]] < 0,
+            -factor[event[at]] * factor[event[3 - at]], event[3 - at])
+        if (known_key in tightest && factor[event[at]] * tightest[known_key] <= most) return 1
+    }
+    return 0
+}
+
+# The rule that always holds, in words: each of its sides is forced.
+function check_forced(text,    at, relation, size, factor, turned, key) {
+    at = unquoted(text, "<>=")
+    size = substr(text, at + 1, 1) == "=" ? 2 : 1
+    relation = substr(text, at, size)
+    add_sum(substr(text, 1, at - 1), 1, factor)
+    add_sum(substr(text, at + size), -1, factor)
+    if (relation == "<") factor["1"]++
+    if (relation == ">") factor["1"]--
+    for (key in factor) turned[key] = -factor[key]
+    if (relation !~ />/ && !is_forced(factor, -factor["1"])) wrong("is not forced")
+    if (relation !~ /</ && !is_forced(turned, factor["1"])) wrong("is not forced")
+}
+
+# A bound of an event that was said to be forced is what was found, and no more.
+function check_due(    key) {
+    if (due_event == "") return
+    key = fact(due_event, due_least, 0, "")
+    if (!(key in tightest) || tightest[key] != due_number)
+        print "is not found: " due_event (due_least ? " at least " : " at most ") due_number
+    due_event = ""
+}
+
+# An event and its bound, and behind it the rules that force it.
+/^[^ ].* is at (least|most) -?[0-9]+\. Th(is rule forces|ese rules force) it:$/ {
+    check_due()
+    due_event = bare(substr($0, 1, name_at($0)))
+    due_least = $0 ~ / is at least -?[0-9]+\. /
+    due_number = $0
+    sub(/^.* is at (least|most) /, "", due_number)
+    due_number = due_number + 0
+    delete quoted_once
+    delete known
+    delete tightest
+    rules = 0
+    ended = 1
+    forced = 1
+    next
+}
+
+/^Yes, always\. Th(is rule forces|ese rules force) / { forced = 1 }
+
+/^  So .*\.$/ && forced {
+    check_forced(substr($0, 6, length($0) - 6))
+    ended = 1
+    next
+}
+
 # A rule that is quoted: it stands there so, once.
-/^  [^ ].*:[0-9]+: / && !ended {
+/^  [^ ].*:[0-9]+: / && (!ended || forced) {
     match($0, /:[0-9]+: */)
     place = substr($0, 3, RSTART - 3) substr($0, RSTART, RLENGTH)
     sub(/: *$/, "", place)
@@ -271,7 +348,7 @@ function claim(event, is_least, text,    at, bound, result, printed, place) {
     next
 }
 
-/^  ("|[A-Za-z_])/ && !ended {
+/^  ("|[A-Za-z_])/ && (!ended || forced) {
     text = substr($0, 3)
     is_but = sub(/^but /, "", text)
     size = name_at(text)
@@ -309,6 +386,7 @@ function know_itself(event, is_least,    bound) {
 }
 
 END {
+    check_due()
     if (rules == 0) print "no rule is quoted"
     if (!ended) print "nothing is false"
 }

@@ -8,7 +8,7 @@
 #include <string.h>
 
 /* Whether a line bounds one event, perhaps twice that event. */
-static bool is_bound(const int32_t *line)
+bool is_bound(const int32_t *line)
 {
     return line[2] == 0 || (line[0] == line[2] && line[1] == line[3]);
 }
@@ -69,7 +69,7 @@ static bool cut(const struct list *list, const uint32_t *steps, size_t count, st
 }
 
 /* A part of a chain, which may go on behind its end at its front. */
-static struct chain part_of(const struct chain *chain, size_t from, size_t count)
+struct chain part_of(const struct chain *chain, size_t from, size_t count)
 {
     struct chain part = {.count = count};
     for (size_t at = 0; at < count; at++) {
@@ -102,7 +102,7 @@ static size_t opposites_on(const struct list *list, const struct chain *chain)
 }
 
 /* Whether the mirrored chain has fewer of them, and then takes it. */
-static bool turn(const struct list *list, struct chain *chain)
+bool turn(const struct list *list, struct chain *chain)
 {
     struct chain mirror = mirrored(list, chain);
     bool better = opposites_on(list, &mirror) < opposites_on(list, chain);
@@ -251,15 +251,15 @@ static void take_halves(const struct list *list, const uint32_t *refutation,
 }
 
 /* Adds a chain's steps, or those of its mirror. */
-static size_t add_steps(uint32_t *numbers, size_t count, const struct chain *chain)
+size_t add_steps(uint32_t *numbers, size_t count, const struct chain *chain)
 {
     memcpy(numbers + count, chain->steps, chain->count * sizeof *numbers);
     return count + chain->count;
 }
 
 /* Adds the walk of a half: all of it, or up to its step on one event, that, and back. */
-static size_t add_half(const struct list *list, uint32_t *numbers, size_t count,
-                       const struct half *from)
+size_t add_half(const struct list *list, uint32_t *numbers, size_t count,
+                const struct half *from)
 {
     struct chain mirror = mirrored(list, &from->chain);
     count = add_steps(numbers, count, &from->chain);

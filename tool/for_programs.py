@@ -297,7 +297,7 @@ compare("alternatives, members", (0, [
      answer["rules"], answer["left_out"], answer["notes"]))
 status, answer = ask("alternatives, a note", rules=b"either\nabcde = 3\nor\nx = 5\nend\nx <= 5\n")
 compare("alternatives, a note", [2], [note["line"] for note in answer["notes"]])
-for option in (["--order"], ["--between", "x", "x"], ["--implies", "x <= 3"], ["--check", "/dev/null"],
+for option in (["--order"], ["--between", "x", "x"], ["--implies", "x <= 3"], ["--why", "x"], ["--check", "/dev/null"],
                ["--svg", os.path.join(made, "none.svg")]):
     status, answer = ask(f"alternatives, {option}", *option, rules=b"x <= 3\neither\nx <= 1\nor\nx <= 2\nend\n")
     compare(f"alternatives, {option}", (2, "refused", [2], True),
@@ -331,6 +331,120 @@ status, answer = ask("a question on a clash", "--quiet", "--between", "a", "a",
                      rules=b"a <= 3\na >= 4\n")
 compare("a question on a clash", (1, "no", -1), (status, answer["answer"], answer["clash"]["sum"]))
 
+# Why: as in words, with bounds that are those of deciding, and showings that a second checker
+# takes against the rules as --text prints them.
+with open("../../include/utvpi.h", encoding="ascii") as header:
+    OPPOSITE = int(re.search(r"^#define UTVPI_MOST_LINES (\d+)$", header.read(), re.M).group(1))
+
+
+def sides(line):
+    """Where the steps of a line lead, with their weight; a point is a variable and a sign."""
+    (a, x, b, y, d) = line[:5]
+    if a == 0:
+        return []
+    if b == 0:
+        return [((x, a), (x, -a), 2 * d)]
+    return [((x, a), (y, -b), d), ((y, b), (x, -a), d)]
+
+
+def is_shown(lines, line, numbers):
+    """Whether numbers are a refutation of lines and of the opposite of a line."""
+    all_lines = dict(enumerate(lines))
+    all_lines[OPPOSITE] = [-line[0], line[1], -line[2], line[3], -line[4] - 1]
+    kind, p, q, *steps = numbers
+    if kind == 3:
+        own = all_lines[steps[0] // 2]
+        return (p, q, len(steps)) == (1, 0, 1) and own[0] == 0 and own[4] < 0
+    walk = [sides(all_lines[step // 2])[step % 2] for step in steps]
+    joined = all(one[1] == other[0] for one, other in zip(walk, walk[1:] + walk[:1]))
+    sums = [sum(step[2] for step in part) for part in (walk[:p], walk[p:])]
+    if kind == 1:
+        return joined and q == 0 and p == len(steps) > 0 and sums[0] < 0
+    start = walk[0][0]
+    return kind == 2 and joined and p > 0 and q > 0 and p + q == len(steps) and \
+        walk[p - 1][1] == (start[0], -start[1]) and sums[0] // 2 + sums[1] // 2 < 0
+
+
+def check_shown(name, file, answer, own_identifier=0):
+    """The lines of an answer to --why, against the rules of a file without origins."""
+    order = [event["event"] for event in ask(name, "--quiet", file)[1]["events"]]
+    lines = [[int(part) for part in row.split()]
+             for row in run("--text", file)[1].decode().split("\n")[1:-1]]
+    for shown in answer["shown"]:
+        compare(f"{name}, members of what is shown",
+                {"terms", "at_most", "rules", "argument", "showing", "identifiers"}, set(shown))
+        terms = [(term["sign"], order.index(term["event"])) for term in shown["terms"]]
+        line = [number for term in (terms + [(0, 0), (0, 0)])[:2] for number in term] + \
+            [shown["at_most"]]
+        compare(f"{name}, shown", True, is_shown(lines, line, shown["showing"]))
+        compare(f"{name}, identifiers",
+                [own_identifier if step // 2 == OPPOSITE else lines[step // 2][5]
+                 for step in shown["showing"][3:]], shown["identifiers"])
+
+
+def check_why(name, text, answer):
+    """Rules and sentences are those in words."""
+    words = text.decode()
+    quoted = [(file, int(line)) for file, line in re.findall(r"^  (\S.*?):(\d+): ", words, re.M)]
+    told = [(rule["file"], rule["line"]) for shown in answer["shown"] for rule in shown["rules"]]
+    if "rule" in answer:
+        told = list(dict.fromkeys(told))
+    compare(f"{name}, rules", quoted, told)
+    sentences = [line[2:] for line in words.split("\n")
+                 if line.startswith("  ") and not re.match(r"  So |  \S.*?:\d+: ", line)]
+    compare(f"{name}, the argument", sentences,
+            [sentence for shown in answer["shown"] for sentence in shown["argument"]])
+
+
+for example in ["../../examples/brake.txt", "../../examples/merge_holds.txt", "mirror_halves.txt",
+                "mirror_several.txt", "words_strict.txt"]:
+    for event in ask(f"why, {example}", "--quiet", example)[1]["events"]:
+        name = f"why {event['event']} of {example}"
+        status, answer = ask(name, "--quiet", "--why", event["event"], example)
+        compare(name, (0, "yes", event["event"], event["least"], event["greatest"]),
+                (status, answer["answer"], answer["event"], answer["least"], answer["greatest"]))
+        compare(f"{name}, members",
+                {"answer", "event", "least", "greatest", "shown", "rules", "left_out", "notes"},
+                set(answer))
+        compare(f"{name}, as many", [event["least"], event["greatest"]].count(None),
+                2 - len(answer["shown"]))
+        check_why(name, run("--quiet", "--why", event["event"], example)[1], answer)
+        check_shown(name, example, answer)
+    with open(example, encoding="ascii") as rules:
+        for rule in re.findall(r"^[^#\n]*[<>=][^#\n]*", rules.read(), re.M):
+            name = f"why {rule} of {example}"
+            status, answer = ask(name, "--quiet", "--why", rule, example)
+            compare(name, (0, "yes", rule.strip()), (status, answer["answer"], answer["rule"]))
+            compare(f"{name}, lines", 2 if re.search("[^<>]=", rule) else 1, len(answer["shown"]))
+            check_why(name, run("--quiet", "--why", rule, example)[1], answer)
+            check_shown(name, example, answer)
+file = os.path.join(made, "shown.txt")
+with open(file, "wb") as written:
+    written.write(b"x <= 9\nx + y <= 5 @ 7 # c\nx - y <= 0\nx <= 8\nz + z <= 7\n")
+status, answer = ask("why, two halves", "--quiet", "--why", "x + z <= 5 @ 33", file)
+compare("why, two halves", (0, "x + z <= 5 @ 33", [3, 2, 5], 5, 1),
+        (status, answer["rule"], [rule["line"] for rule in answer["shown"][0]["rules"]],
+         answer["shown"][0]["at_most"], answer["left_out"]))
+check_shown("why, two halves", file, answer, 33)
+for rule in ("0 <= 3", "x - x <= 2"):
+    status, answer = ask(f"why {rule}", "--quiet", "--why", rule, file)
+    compare(f"why {rule}", (0, [], []), (status, answer["shown"][0]["rules"],
+                                        answer["shown"][0]["argument"]))
+    check_shown(f"why {rule}", file, answer)
+status, answer = ask("why not", "--quiet", "--why", "x <= 1", file)
+compare("why not", (1, "no", {"terms": [{"event": "x", "sign": 1}], "at_most": 1, "value": 2}),
+        (status, answer["answer"], answer["broken"]))
+status, answer = ask("why not, far", "--quiet", "--why", "x >= -2000000", file)
+compare("why not, far", (1, {"answer": "no", "rule": "x >= -2000000", "broken": {
+    "terms": [{"event": "x", "sign": -1}], "at_most": 2000000, "value": None},
+    "rules": 5, "left_out": 1, "notes": []}), (status, answer))
+status, answer = ask("why, a clash", "--quiet", "--why", "a", rules=b"a <= 3\na >= 4\n")
+compare("why, a clash", (1, "no", -1), (status, answer["answer"], answer["clash"]["sum"]))
+status, answer = ask("why, more lines than the library takes", "--quiet", "--why", "x",
+                     rules=b"x <= 3\n" * (OPPOSITE + 1) + b"x <= 2\n")
+compare("why, more lines than the library takes", (0, 2, {"terms", "at_most", "rules", "argument"}),
+        (status, answer["greatest"], set(answer["shown"][0])))
+
 # Notes, rules that were left out, large readings, odd bytes, the command line, other faults.
 status, answer = ask("notes", rules=b"a <= 3\na <= 4\nbb-cc <= 3\n")
 compare("notes", (3, 1, [3]), (answer["rules"], answer["left_out"],
@@ -344,7 +458,7 @@ status, answer = ask("a name in quotes", "--quiet", rules=b'"a \\ <b>" = 3\n')
 compare("a name in quotes", "a \\ <b>", answer["events"][0]["event"])
 status, answer = ask("infinite seconds", "--quiet", rules=b"clock a = 1e308 s per tick\na.x = 1000000\n")
 compare("infinite seconds", float("inf"), answer["events"][0]["seconds"]["value"])
-for wrong in (["--what"], ["--json", "--csv"], ["no_such_file"], ["--between", "a"]):
+for wrong in (["--what"], ["--json", "--csv"], ["no_such_file"], ["--between", "a"], ["--why", "a <= 3"]):
     status, answer = ask(f"wrong: {wrong}", *wrong, rules=b"")
     compare(f"wrong: {wrong}", (2, "refused", 1), (status, answer["answer"], len(answer["errors"])))
 

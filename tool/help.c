@@ -17,14 +17,14 @@ const char help[] =
     "  --json, --csv            the answer for programs, or the table of a yes\n"
     "  --between EVENT EVENT    how far apart two events can be, how large together\n"
     "  --implies RULE           whether RULE follows from the rules\n"
+    "  --why RULE, --why EVENT  why RULE always holds, or why EVENT has its bounds\n"
     "  --session                takes rules one at a time; there, help says more\n"
     "  --numbers                a no as the numbers of a refutation\n"
     "  --check REFUTATION       checks such numbers\n"
     "  --text, --write NEW      the rules as numbers, or as a file of records\n"
-    "  --quiet                  no notes on names that may be mistyped\n"
-    "  --version                the version, and the limits\n"
+    "  --engine ENGINE          which engine decides, differences or all\n"
+    "  --quiet, --version       no notes on names; the version, and the limits\n"
     "  --                       only FILEs follow; a FILE - is standard input\n"
-    "\n"
     "Exit status: 0 yes, 1 no, 2 bad input, 3 internal (an answer failed its check).\n"
     "docs/MANUAL.md has the rest: names, numbers, clocks, origins, JSON, refutations.\n";
 

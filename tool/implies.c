@@ -4,15 +4,6 @@
 #include <stdlib.h>
 #include <string.h>
 
-/* How the rule that is asked about is called in errors. */
-static const char asked_for[] = "--implies";
-
-/* The lines of that rule, and how many they are: two where it has =. */
-struct asked {
-    int32_t lines[2][UTVPI_LINE_NUMBERS];
-    size_t count;
-};
-
 static int32_t model[UTVPI_MODEL_ROOM(UTVPI_MOST_VARIABLES)];
 
 /* The left side of a line, for these values. */
@@ -25,13 +16,9 @@ static int64_t left_side(const int32_t *line, const int32_t *values)
     return sum;
 }
 
-/* Writes that the values break a line of the rule asked about. */
-static void write_broken_line(const struct list *list, const int32_t *line, int64_t value)
+/* Writes the events of a line, with their signs, and what their sum is at most. */
+void json_line_said(const struct list *list, const int32_t *line)
 {
-    json_begin("no");
-    json_text("rule", list->at_hand.rule);
-    json_values(list, model);
-    json_object("broken");
     json_array("terms");
     for (int at = 0; at < BOUND; at += 2) {
         if (line[at] != 0) {
@@ -43,6 +30,16 @@ static void write_broken_line(const struct list *list, const int32_t *line, int6
     }
     json_close();
     json_integer("at_most", bound_of(list, line));
+}
+
+/* Writes that the values break a line of the rule asked about. */
+static void write_broken_line(const struct list *list, const int32_t *line, int64_t value)
+{
+    json_begin("no");
+    json_text("rule", list->at_hand.rule);
+    json_values(list, model);
+    json_object("broken");
+    json_line_said(list, line);
     json_integer("value", value);
     json_close();
 }
@@ -98,7 +95,7 @@ static int answer_broken(const struct list *list, const int32_t *line)
 
 /* Asks the library whether a line is implied. A yes is not printed yet, as the rule may
  * have another line. */
-static int ask_line(struct list *list, const int32_t *line)
+int ask_line(struct list *list, const char *option, const int32_t *line)
 {
     utvpi_line asked = {line[0], line[1], line[2], line[3], line[BOUND], line[IDENTIFIER]};
     int64_t *work = take_work_area(list->file, list->variables);
@@ -110,7 +107,7 @@ static int ask_line(struct list *list, const int32_t *line)
                                         UTVPI_WORK_ROOM(list->variables));
     free(work);
     if (UTVPI_IS_REFUSAL(result)) {
-        print_refusal(list, asked_for, UTVPI_REFUSAL_NUMBER(result),
+        print_refusal(list, option, UTVPI_REFUSAL_NUMBER(result),
                       (size_t)UTVPI_REFUSAL_PLACE(result));
         return STATUS_BAD;
     }
@@ -152,14 +149,14 @@ static bool read_at_hand(struct list *list)
            wrong(list, origin, list->names[events], no_event, event_advice);
 }
 
-/* Reads a rule and leaves the list with its own alone. */
-static bool read_asked(struct list *list, const char *rule, struct asked *asked)
+/* Reads the rule that an option asks about, and leaves the list with its own alone. */
+bool read_asked(struct list *list, const char *option, const char *rule, struct asked *asked)
 {
     const char *file = list->file;
     size_t count = list->count;
     list->at_hand = nowhere;
     list->at_hand.rule = trim(text_of(rule));
-    list->file = asked_for;
+    list->file = option;
     bool read = read_at_hand(list);
     asked->count = list->count - count;
     list->file = file;
@@ -175,13 +172,14 @@ static bool read_asked(struct list *list, const char *rule, struct asked *asked)
  * unless the library refuses the list. Gives back the exit status. */
 int answer_implies(struct list *list, const char *rule)
 {
+    static const char option[] = "--implies";
     struct asked asked;
     int status = take_questions(list);
-    if (status == STATUS_YES && !read_asked(list, rule, &asked)) {
+    if (status == STATUS_YES && !read_asked(list, option, rule, &asked)) {
         return STATUS_BAD;
     }
     for (size_t at = 0; status == STATUS_YES && at < asked.count; at++) {
-        status = ask_line(list, asked.lines[at]);
+        status = ask_line(list, option, asked.lines[at]);
     }
     if (status == STATUS_YES && json_wanted) {
         json_begin("yes");

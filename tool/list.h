@@ -154,6 +154,10 @@ enum column { VALUE, LEAST, GREATEST, COLUMNS };
  * of comma-separated values, or nothing of it, so that it is only checked. */
 enum manner { IN_WORDS, IN_NUMBERS, IN_SHORT, IN_CSV, UNPRINTED };
 
+/* The engines of the library: the one for all lists, the one for differences alone, or the
+ * latter wherever it takes the list. */
+enum engine { ENGINE_ALL, ENGINE_DIFFERENCES, ENGINE_FITTING };
+
 /* The two forms of a text. Records are read as if they were one of numbers. */
 enum form { FORM_OPEN, FORM_NUMBERS, FORM_NAMES };
 
@@ -201,9 +205,12 @@ struct list {
     struct origin variables_from;
     bool declared;
 
-    /* In a session the line of the input that is read now, and with --implies the rule
-     * that is asked about, in line 0; else line 0, and nothing. */
+    /* In a session the line of the input that is read now, and with --implies or --why the
+     * rule that is asked about, in line 0; else line 0, and nothing. */
     struct origin at_hand;
+
+    /* The engine that decides it. */
+    enum engine engine;
 
     /* The form, where it was settled, and whether the file that is read breaks it. */
     enum form form;
@@ -309,6 +316,23 @@ struct argument {
 
 /* The most numbers of an argument as a refutation. */
 #define MOST_ARGUMENT (2 * MOST_CHAIN + 8)
+
+/* The lines of a rule that is asked about, and how many they are: two where it has =. */
+struct asked {
+    int32_t lines[2][UTVPI_LINE_NUMBERS];
+    size_t count;
+};
+
+/* Why a line always holds, see grounds.c: its terms as points; the chain that links them; or
+ * of so many of them, one where both are the same, what each is at most. */
+enum grounds_form { EVIDENT, LINKED, EACH };
+struct grounds {
+    enum grounds_form form;
+    struct point terms[2];
+    struct chain chain;
+    size_t count;
+    struct half halves[2];
+};
 
 /* Why a choice fails: the lines that it picks; a refutation, with the identifiers of its
  * steps; the rules of the argument that it comes to, of each a step, and in how many
@@ -519,6 +543,7 @@ char *mark_needless(const struct list *list);
 bool same_rule(struct origin one, struct origin other);
 void count_rules(struct list *list, const char *marks);
 bool leave_out(struct list *list);
+size_t place_as_read(const struct list *list, size_t line);
 uint32_t step_as_read(const struct list *list, uint32_t step);
 
 /* notes.c: what may be wrong with a list, though it can be read; and what is said behind
@@ -544,6 +569,8 @@ int64_t turned(int64_t number);
 bool values_hold(const struct list *list, size_t n, const int32_t *values);
 size_t work_room(uint64_t n);
 bool refutation_holds(const struct list *list, const uint32_t *numbers, size_t count);
+bool showing_holds(const struct list *list, const int32_t *line, const uint32_t *numbers,
+                   size_t count);
 int64_t *take_work_area(const char *file, uint64_t n);
 int answer(const struct list *list, enum manner manner);
 struct yes last_yes(void);
@@ -576,16 +603,21 @@ void json_alternatives(const struct list *list);
 extern const char no_event[];
 extern const char event_advice[];
 int take_questions(const struct list *list);
+bool find_event(const struct list *list, const char *name, uint64_t *variable);
 bool is_answered(struct list *list, const int64_t line[UTVPI_LINE_NUMBERS], int expected);
 int answer_unsolvable(const struct list *list);
 
-/* between.c and implies.c: these questions; and whether deciding agrees that a sum of two
- * points can be so large, or is at most so large. */
+/* between.c, implies.c and why.c: these questions; whether deciding agrees that a sum of two
+ * points can be so large, or is at most so large; and what is asked about a rule. */
 int answer_between(struct list *list, const char *const events[2]);
 bool can_reach(struct list *list, struct point one, struct point other, int64_t value,
                int expected);
 bool is_greatest(struct list *list, struct point one, struct point other, int64_t value);
+bool read_asked(struct list *list, const char *option, const char *rule, struct asked *asked);
+int ask_line(struct list *list, const char *option, const int32_t *line);
+void json_line_said(const struct list *list, const int32_t *line);
 int answer_implies(struct list *list, const char *rule);
+int answer_why(struct list *list, const char *asked_about);
 
 /* table.c: the table of a yes in readings, and for programs. */
 void make_table(const struct list *list, const int32_t *model, const int64_t *bounds,
@@ -633,8 +665,15 @@ struct text without_identifier(struct text rule);
 struct layout layout_of(const struct list *list, const uint32_t *steps, size_t count);
 void print_quoted(const struct list *list, uint32_t step, struct layout layout, bool followed);
 
-/* clash.c and argument.c: the argument of a refutation, made and printed. */
+/* clash.c and argument.c: the argument of a refutation, made and printed; and the words and
+ * rules of the grounds of a line. */
+bool is_bound(const int32_t *line);
 int64_t bound_of_one(const int32_t *line);
+bool turn(const struct list *list, struct chain *chain);
+struct chain part_of(const struct chain *chain, size_t from, size_t count);
+size_t add_steps(uint32_t *numbers, size_t count, const struct chain *chain);
+size_t add_half(const struct list *list, uint32_t *numbers, size_t count,
+                const struct half *from);
 int64_t sum_of(const struct list *list, const struct chain *chain);
 struct chain mirrored(const struct list *list, const struct chain *chain);
 size_t refutation_of(const struct list *list, const struct argument *argument,
@@ -645,9 +684,22 @@ bool take_argument(const struct list *list, const uint32_t *refutation,
                    struct argument *argument);
 size_t argued_rules(const struct list *list, const uint32_t *refutation,
                     uint32_t steps[MOST_ARGUMENT]);
+void say_grounds(const struct list *list, const struct grounds *grounds);
+size_t add_grounds(const struct list *list, const struct grounds *grounds, uint32_t *steps,
+                   size_t count);
+void print_rules(const struct list *list, const uint32_t *steps, size_t count);
 void json_rule(const char *key, struct origin origin, uint32_t identifier);
+void json_rules(const struct list *list, const uint32_t *steps, size_t count);
+void json_numbers(const struct list *list, const char *key, const uint32_t *refutation,
+                  const uint32_t *identifiers);
 bool print_no(const struct list *list, const uint32_t *refutation, const uint32_t *identifiers,
               const char *shown);
+
+/* grounds.c: the grounds of a line, made of a showing, and as a showing. */
+bool find_grounds(const struct list *list, const int32_t *line, const uint32_t *showing,
+                  struct grounds *grounds);
+size_t showing_of(const struct list *list, const int32_t *line, const struct grounds *grounds,
+                  uint32_t numbers[MOST_ARGUMENT]);
 
 /* yes.c, walks.c, broken.c and refusal.c: the answers in words. */
 void print_event(FILE *to, const struct list *list, uint64_t variable);

@@ -114,8 +114,14 @@ bool leave_out(struct list *list)
     return true;
 }
 
-/* The number that a step has among all rules as they were read. */
+/* The numbers that a line and a step have among all rules as they were read. That of a line
+ * which the list has not stays. */
+size_t place_as_read(const struct list *list, size_t line)
+{
+    return list->places == NULL || line >= list->count ? line : list->places[line];
+}
+
 uint32_t step_as_read(const struct list *list, uint32_t step)
 {
-    return list->places == NULL ? step : 2 * (uint32_t)list->places[step / 2] + step % 2;
+    return 2 * (uint32_t)place_as_read(list, step / 2) + step % 2;
 }

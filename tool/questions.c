@@ -24,6 +24,18 @@ int take_questions(const struct list *list)
                                : disagree("the library took a list that is beyond its limits");
 }
 
+/* Looks for the event with this name, perhaps in quotes. Says so where there is none. */
+bool find_event(const struct list *list, const char *name, uint64_t *variable)
+{
+    struct text text = text_of(name), unquoted;
+    if (find_name(list, text, variable) ||
+        (scan_name(text, &unquoted) == text.length && find_name(list, unquoted, variable))) {
+        return true;
+    }
+    return wrong(list, nowhere, text,
+                 text.length > 0 ? no_event : "the name of an event is empty", event_advice);
+}
+
 /* Whether the answer on the list with a line more is as expected, a yes or a no. It is
  * checked and not printed. Where the library's limits leave no room for this line, it
  * can't be asked, and the answer is as expected. */

@@ -128,6 +128,11 @@ static struct words words_of(enum utvpi_refusal number)
                               "leave out clocks that no event has, or decide parts that share no"
                               " event one by one",
                               LAST_CLOCK};
+    case UTVPI_NOT_DIFFERENCE:
+        return (struct words){"this rule is no difference of two events",
+                              "write it as one, such as door - lamp <= -5, leave it out, or decide"
+                              " without --engine differences, which takes nothing else",
+                              RULE_AT_PLACE};
     case UTVPI_BROKEN_LIST_LENGTH:
     case UTVPI_SHORT_OUTPUT:
     case UTVPI_SHORT_WORK_AREA:
@@ -188,7 +193,8 @@ static struct origin offender(const struct list *list, enum about about, size_t 
     return origin_in_tree(&list->tree, about, place);
 }
 
-/* Prints a refusal of what stands in this file: the list, or a refutation of it. */
+/* Prints a refusal of what stands in this file: the list, or a refutation of it. Its place
+ * is told among all rules, those that were left out included. */
 void print_refusal(const struct list *list, const char *file, int number, size_t place)
 {
     struct words words = words_of((enum utvpi_refusal)number);
@@ -196,7 +202,9 @@ void print_refusal(const struct list *list, const char *file, int number, size_t
     struct problem problem = {.file = origin.line > 0 ? origin.file : file,
                               .origin = origin,
                               .number = number,
-                              .place = place,
+                              .place = words.about == RULE_AT_PLACE && place < list->count
+                                           ? place_as_read(list, place)
+                                           : place,
                               .what = words.what,
                               .advice = words.advice};
     const int32_t *line = list->numbers + UTVPI_LINE_NUMBERS * place;

@@ -34,7 +34,8 @@ struct entry {
 struct session {
     struct list list;
 
-    /* What is lent to the library, for how many variables, and how many lines it has. */
+    /* What is lent to the library, for how many variables, a number that none is before the
+     * start, and how many lines it has. */
     int64_t state[UTVPI_SESSION_ROOM(UTVPI_MOST_VARIABLES)];
     int64_t *work;
     uint64_t n;
@@ -350,8 +351,9 @@ static int converse(struct session *session, bool at_terminal)
 /* Takes rules from standard input, which is called so. Gives back the exit status. */
 int run_session(const char *file)
 {
-    static struct session session = {.n = UINT64_MAX};
+    static struct session session;
     bool at_terminal = isatty(STDIN_FILENO) && isatty(STDOUT_FILENO) && !json_wanted;
+    session.n = UINT64_MAX;
     session.list.file = file;
     session.work = take_work_area(file, UTVPI_MOST_VARIABLES);
     if (session.work == NULL) {

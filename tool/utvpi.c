@@ -1,6 +1,6 @@
 /* The command: decides a list of rules given as text, or takes them one at a time in a
- * session. Or it says what the list implies, checks a refutation that someone proposes,
- * or writes the list in another form. Lists come as text or as records. */
+ * session. Or it says what the list implies, and why, checks a refutation that someone
+ * proposes, or writes the list in another form. Lists come as text or as records. */
 #include "list.h"
 
 #include <errno.h>
@@ -21,7 +21,9 @@ struct command {
     const char *proposed;
     const char *between[2];
     const char *implied;
+    const char *why;
     const char *picture;
+    const char *engine;
     char **files;
     size_t file_count;
 };
@@ -35,6 +37,17 @@ static enum manner manner_of(const struct command *command)
     return command->in_numbers ? IN_NUMBERS : command->csv ? IN_CSV : IN_WORDS;
 }
 
+/* The engine that decides, and whether there is one of the name that is given: where none
+ * is, differences are decided by theirs. */
+static bool find_engine(const struct command *command, enum engine *engine)
+{
+    const char *name = command->engine;
+    *engine = name == NULL                      ? ENGINE_FITTING
+              : strcmp(name, "differences") == 0 ? ENGINE_DIFFERENCES
+                                                 : ENGINE_ALL;
+    return *engine != ENGINE_ALL || strcmp(name, "all") == 0;
+}
+
 /* The option that a file with alternatives does not go with; NULL where there is none. */
 static const char *option_of(const struct command *command)
 {
@@ -44,9 +57,10 @@ static const char *option_of(const struct command *command)
     } options[] = {
         {command->proposed != NULL, "--check"},   {command->to_text, "--text"},
         {command->to_records != NULL, "--write"}, {command->between[0] != NULL, "--between"},
-        {command->implied != NULL, "--implies"},  {command->in_numbers, "--numbers"},
-        {command->csv, "--csv"},                  {command->in_order, "--order"},
-        {command->picture != NULL, "--svg"},
+        {command->implied != NULL, "--implies"},  {command->why != NULL, "--why"},
+        {command->in_numbers, "--numbers"},       {command->csv, "--csv"},
+        {command->in_order, "--order"},           {command->picture != NULL, "--svg"},
+        {command->engine != NULL, "--engine"},
     };
     for (size_t at = 0; at < sizeof options / sizeof options[0]; at++) {
         if (options[at].given) {
@@ -94,6 +108,10 @@ static int obey(struct list *list, const struct command *command)
     if (command->implied != NULL) {
         return answer_implies(list, command->implied);
     }
+    if (command->why != NULL) {
+        return answer_why(list, command->why);
+    }
+    find_engine(command, &list->engine);
     if (command->picture != NULL) {
         int status = answer_drawn(list, command->picture);
         if (status == STATUS_BAD || status == STATUS_DISAGREE || manner_of(command) == UNPRINTED) {
@@ -107,7 +125,8 @@ static int obey(struct list *list, const struct command *command)
 static int run(const struct command *command)
 {
     static struct list list;
-    bool asks = command->between[0] != NULL || command->implied != NULL || command->in_order;
+    bool asks = command->between[0] != NULL || command->implied != NULL ||
+                command->why != NULL || command->in_order;
     bool decides = command->proposed == NULL && !command->to_text && command->to_records == NULL;
     int status = STATUS_BAD;
     if (read_files(&list, (const char *const *)command->files, command->file_count)) {
@@ -153,6 +172,8 @@ static bool *find_flag(const char *name, struct command *command)
     return NULL;
 }
 
+static const char engine_use[] = "--engine takes one ENGINE, differences or all";
+
 /* An option that arguments follow: so many, and what to say where they do not, or where
  * it is given twice. */
 struct option {
@@ -182,9 +203,12 @@ static const char *read_option(int argc, char **argv, int *at, struct command *c
         {"--between", command->between, 2, "--between takes two EVENTs, the names of two events"},
         {"--check", &command->proposed, 1,
          "--check takes one REFUTATION: a file, or - for standard input"},
+        {"--engine", &command->engine, 1, engine_use},
         {"--implies", &command->implied, 1, "--implies takes one RULE, in quotes"},
         {"--svg", &command->picture, 1,
          "--svg takes one PICTURE, a file whose name ends with .svg, or - for standard output"},
+        {"--why", &command->why, 1,
+         "--why takes one RULE, in quotes, or one EVENT, the name of an event"},
         {"--write", &command->to_records, 1,
          "--write takes one NEW file, or - for standard output"},
     };
@@ -193,9 +217,9 @@ static const char *read_option(int argc, char **argv, int *at, struct command *c
             return take_arguments(argc, argv, at, options[one]) ? NULL : options[one].use;
         }
     }
-    return "there are only the options --between, --check, --csv, --help, --implies, --json,"
-           " --numbers, --order, --quiet, --session, --svg, --text, --version and --write, and --"
-           " before a FILE that looks like one";
+    return "there are only the options --between, --check, --csv, --engine, --help, --implies,"
+           " --json, --numbers, --order, --quiet, --session, --svg, --text, --version, --why and --write,"
+           " and -- before a FILE that looks like one";
 }
 
 /* Takes the arguments apart. FILEs are kept at the front. Gives back what is wrong with
@@ -237,14 +261,34 @@ static bool ends_with(const char *text, const char *end)
     return length > own && strcmp(text + length - own, end) == 0;
 }
 
+/* Whether the list is decided, and nothing else asked for. */
+static bool only_decides(const struct command *command)
+{
+    return !command->session && !command->to_text && command->to_records == NULL &&
+           command->proposed == NULL && command->between[0] == NULL && command->implied == NULL &&
+           command->why == NULL;
+}
+
+/* Whether an engine goes with what is asked for. Gives back what does not, or NULL. */
+static const char *suits_engine(const struct command *command)
+{
+    enum engine engine;
+    if (!find_engine(command, &engine)) {
+        return engine_use;
+    }
+    return command->engine == NULL || only_decides(command)
+               ? NULL
+               : "--engine goes with deciding, and with none of --between, --check, --implies,"
+                 " --session, --text, --why and --write";
+}
+
 /* Whether a picture goes with what is asked for. Gives back what does not, or NULL. */
 static const char *suits_picture(const struct command *command)
 {
     bool to_output = is_standard_input(command->picture);
-    if (command->session || command->to_text || command->to_records != NULL ||
-        command->proposed != NULL || command->between[0] != NULL || command->implied != NULL) {
+    if (!only_decides(command)) {
         return "--svg goes with deciding, and with none of --between, --check, --implies,"
-               " --session, --text and --write";
+               " --session, --text, --why and --write";
     }
     if (to_output && (command->json || command->csv || command->in_order || command->in_numbers)) {
         return "--svg - prints the picture alone: name a file, or leave out the other options";
@@ -261,10 +305,11 @@ static const char *suits(const struct command *command)
     bool to_records = command->to_records != NULL;
     int orders = command->in_numbers + command->session + command->to_text + command->csv +
                  command->in_order + to_records + (command->proposed != NULL) +
-                 (command->between[0] != NULL) + (command->implied != NULL);
+                 (command->between[0] != NULL) + (command->implied != NULL) +
+                 (command->why != NULL);
     if (orders > 1) {
         return "give only one of --between, --check, --csv, --implies, --numbers, --order,"
-               " --session, --text and --write";
+               " --session, --text, --why and --write";
     }
     if (command->json && (command->in_numbers || command->csv || command->to_text || to_records)) {
         return "--json goes with none of --csv, --numbers, --text and --write";
@@ -278,7 +323,8 @@ static const char *suits(const struct command *command)
     if (reads_twice(command)) {
         return "standard input can't be read twice, as FILE and REFUTATION or both: name a file";
     }
-    return command->picture == NULL ? NULL : suits_picture(command);
+    const char *wrong_use = suits_engine(command);
+    return wrong_use != NULL || command->picture == NULL ? wrong_use : suits_picture(command);
 }
 
 /* Reads the command line. Gives back what is wrong with it, or NULL. */

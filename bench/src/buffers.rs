@@ -1,6 +1,6 @@
 //! The buffers that deciding is lent.
 
-use crate::limits::rooms;
+use crate::limits::{differences_work_room, rooms};
 
 pub struct Buffers {
     pub model: Vec<i32>,
@@ -22,6 +22,14 @@ impl Buffers {
             refutation: vec![0; refutation],
             identifiers: vec![0; identifiers],
             work: vec![0; work],
+        }
+    }
+
+    /// The same for a list of differences.
+    pub fn for_differences(n: usize) -> Buffers {
+        Buffers {
+            work: vec![0; differences_work_room(n)],
+            ..Buffers::new(n)
         }
     }
 

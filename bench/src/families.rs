@@ -6,8 +6,8 @@ use crate::library;
 use crate::limits::{MOST_IDENTIFIER, MOST_LINES, MOST_VARIABLES};
 use crate::lines::{List, IDENTIFIER};
 use crate::lists::{
-    all_count, chain, grid, halves_apart, hub, lone_lines, met, negative_cycle, sparse, tied,
-    Hidden, Order,
+    all_count, chain, grid, halves_apart, hub, lone_lines, made_differences, met, met_differences,
+    negative_cycle, sparse, tied, Hidden, Order,
 };
 
 pub struct Family {
@@ -52,7 +52,7 @@ const LARGE: Size = Size {
 /// Few variables, with the most lines.
 const FEW: [usize; 2] = [4, 32];
 
-/// Families of lists that can hold, or of which some can, to which sessions add lines.
+/// Families of lists that can hold, or of which some can, which sessions take line by line.
 pub const OF_SESSIONS: [&str; 2] = [SPARSE, DENSE.0];
 
 /// A name, and a list of so many variables and lines.
@@ -138,13 +138,24 @@ fn identified(mut list: List) -> List {
 
 /// Sparse lists of which half can hold: of those drawn, the first of each verdict.
 fn half_sparse(size: &Size, most: usize) -> Family {
-    let (n, count) = (size.n, most.min(size.sparse));
+    let count = most.min(size.sparse);
+    let draw = |chance: &mut Chance| sparse(chance, size.n, size.lowest);
+    half_of(SPARSE, size.n, count, draw)
+}
+
+/// So many lists of which half can hold: of those drawn, the first of each verdict.
+fn half_of(
+    name: &'static str,
+    n: usize,
+    count: usize,
+    draw: impl Fn(&mut Chance) -> List,
+) -> Family {
     let mut missing = [count / 2, count - count / 2];
     let mut chance = Chance(1);
     let mut out = Buffers::new(n);
     let mut lists = Vec::new();
     while missing != [0, 0] {
-        let list = identified(sparse(&mut chance, n, size.lowest));
+        let list = identified(draw(&mut chance));
         let holds = library::decide(n, &list, &mut out) == 0;
         let missing = &mut missing[usize::from(holds)];
         if *missing > 0 {
@@ -152,6 +163,26 @@ fn half_sparse(size: &Size, most: usize) -> Family {
             lists.push(list);
         }
     }
-    let name = SPARSE;
     Family { name, n, lists }
+}
+
+/// Lists of differences: half of the sparse ones can hold, all of the dense ones, and
+/// none of the others.
+pub fn differences(most: usize) -> Vec<Family> {
+    let mut families = Vec::new();
+    for size in [SMALL, LARGE] {
+        let Size { n, lines, .. } = size;
+        let draw = |chance: &mut Chance| made_differences(sparse(chance, n, size.lowest));
+        families.push(half_of(SPARSE, n, most.min(size.others), draw));
+        let others: [Shape; 2] = [
+            (DENSE.0, |chance, n, _| {
+                met_differences(chance, n, MOST_LINES)
+            }),
+            ("negative cycle of all", |chance, n, lines| {
+                made_differences(negative_cycle(chance, n, lines, n))
+            }),
+        ];
+        families.extend(others.map(|shape| family(shape, n, lines, most.min(size.others))));
+    }
+    families
 }

@@ -6,7 +6,7 @@ use crate::lines::Line;
 use crate::potentials::NegativeWalk;
 use crate::refutation::Refutation;
 use crate::rows::least_walk;
-use crate::steps::{false_line, opposite, steps, Step, NONE};
+use crate::steps::{false_line, opposite, steps, Step, ABSENT, NONE};
 
 /// Writes the least sums between all points to the front of the work area, in the
 /// row of a point those from it; or finds a closed walk of negative sum.
@@ -32,22 +32,46 @@ fn solve(points: usize, list: &[Line], sums: Sums, out: &mut Buffers) -> Result<
     }
     let steps = steps(list);
     sums(&steps, points, &mut out.work).map_err(|NegativeWalk(walk)| Refutation::closed(walk))?;
-    let table = &out.work[..points * points];
+    let Buffers {
+        model,
+        bounds,
+        groups,
+        work,
+        ..
+    } = out;
+    let table = &work[..points * points];
+    write_yes(points, table, model, bounds, groups).map_err(|Contradiction(point)| {
+        let walk = |from| least_walk(&steps, points, from, opposite(from));
+        Refutation::halved(walk(point), walk(opposite(point)))
+    })
+}
+
+/// A point whose least value passes its greatest.
+pub struct Contradiction(usize);
+
+/// Writes model, bounds and groups from a table of least sums, unless whole numbers
+/// contradict it.
+pub fn write_yes(
+    points: usize,
+    table: &[i64],
+    model: &mut [i32],
+    bounds: &mut [i64],
+    groups: &mut [u32],
+) -> Result<(), Contradiction> {
     let halves = halves(points, table);
     if let Some(point) = contradiction(&halves) {
-        let walk = |from| least_walk(&steps, points, from, opposite(from));
-        return Err(Refutation::halved(walk(point), walk(opposite(point))));
+        return Err(Contradiction(point));
     }
-    write_bounds(&halves, &mut out.bounds);
+    write_bounds(&halves, bounds);
     for x in 0..points / 2 {
         let up = &table[2 * x * points..][..2 * x];
         let down = &table[(2 * x + 1) * points..][..2 * x];
         let lowest = group(x, up, down, &halves);
-        out.groups[2 * x] = (lowest / 2) as u32;
-        out.groups[2 * x + 1] = (lowest % 2) as u32;
-        let greatest = limit(up, halves[2 * x], &out.model);
-        let least = limit(down, halves[2 * x + 1], &out.model);
-        out.model[x] = greatest.min(0).max(least.saturating_neg()) as i32;
+        groups[2 * x] = (lowest / 2) as u32;
+        groups[2 * x + 1] = (lowest % 2) as u32;
+        let greatest = limit(up, halves[2 * x], model);
+        let least = limit(down, halves[2 * x + 1], model);
+        model[x] = greatest.min(0).max(least.saturating_neg()) as i32;
     }
     Ok(())
 }
@@ -55,13 +79,13 @@ fn solve(points: usize, list: &[Line], sums: Sums, out: &mut Buffers) -> Result<
 /// The greatest value of each point.
 fn halves(points: usize, table: &[i64]) -> Vec<i64> {
     let half = |point| match table[point * points + opposite(point)] {
-        NONE => NONE,
+        ABSENT.. => NONE,
         sum => sum >> 1,
     };
     (0..points).map(half).collect()
 }
 
-/// A point whose least value passes its greatest.
+/// The first point whose least value passes its greatest.
 fn contradiction(halves: &[i64]) -> Option<usize> {
     let both = halves.chunks_exact(2);
     let passes = |pair: &[i64]| pair[0] != NONE && pair[1] != NONE && pair[0] + pair[1] < 0;
@@ -83,7 +107,7 @@ fn limit(sums: &[i64], half: i64, model: &[i32]) -> i64 {
     for (pair, &value) in sums.chunks_exact(2).zip(model) {
         let value = i64::from(value);
         for (&sum, value) in pair.iter().zip([value, -value]) {
-            if sum != NONE {
+            if sum < ABSENT {
                 least = least.min(sum + value);
             }
         }

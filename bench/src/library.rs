@@ -32,6 +32,24 @@ extern "C" {
         work: *mut i64,
         work_len: usize,
     ) -> i64;
+    fn utvpi_decide_differences(
+        n: u64,
+        list: *const i32,
+        list_len: usize,
+        model: *mut i32,
+        model_len: usize,
+        bounds: *mut i64,
+        bounds_len: usize,
+        groups: *mut u32,
+        groups_len: usize,
+        refutation: *mut u32,
+        refutation_len: usize,
+        identifiers: *mut u32,
+        identifiers_len: usize,
+        work: *mut i64,
+        work_len: usize,
+    ) -> i64;
+    fn utvpi_session_start(n: u64, state: *mut i64, state_len: usize) -> i64;
     fn utvpi_session_add(
         state: *mut i64,
         state_len: usize,
@@ -59,12 +77,31 @@ extern "C" {
     ) -> i64;
 }
 
-/// Decides a list that must not be refused.
-pub fn decide(n: usize, list: &[Line], out: &mut Buffers) -> i64 {
+/// What both functions that decide take and return.
+type Deciding = unsafe extern "C" fn(
+    u64,
+    *const i32,
+    usize,
+    *mut i32,
+    usize,
+    *mut i64,
+    usize,
+    *mut u32,
+    usize,
+    *mut u32,
+    usize,
+    *mut u32,
+    usize,
+    *mut i64,
+    usize,
+) -> i64;
+
+/// Decides a list by the one or the other. It must not be refused.
+fn decide_by(function: Deciding, n: usize, list: &[Line], out: &mut Buffers) -> i64 {
     let list = list.as_flattened();
     // The function stays within the lengths and keeps no pointer.
     let result = unsafe {
-        utvpi_decide(
+        function(
             n as u64,
             list.as_ptr(),
             list.len(),
@@ -84,6 +121,23 @@ pub fn decide(n: usize, list: &[Line], out: &mut Buffers) -> i64 {
     };
     assert!(result >= 0, "the library refuses with {result}");
     result
+}
+
+/// Decides a list that must not be refused.
+pub fn decide(n: usize, list: &[Line], out: &mut Buffers) -> i64 {
+    decide_by(utvpi_decide, n, list, out)
+}
+
+/// Decides a list of differences that must not be refused.
+pub fn decide_differences(n: usize, list: &[Line], out: &mut Buffers) -> i64 {
+    decide_by(utvpi_decide_differences, n, list, out)
+}
+
+/// Starts a session of n variables in this state, which has its room.
+pub fn start(n: usize, state: &mut [i64]) {
+    // The function stays within the length and keeps no pointer.
+    let result = unsafe { utvpi_session_start(n as u64, state.as_mut_ptr(), state.len()) };
+    assert!(result == 0, "the library refuses a start with {result}");
 }
 
 /// Adds a line that must not be refused to the session with this state.

@@ -19,6 +19,26 @@ pub fn sparse(chance: &mut Chance, n: usize, lowest: i32) -> List {
     lines.collect()
 }
 
+/// Any differences, with bounds that hidden values meet with some room.
+pub fn met_differences(chance: &mut Chance, n: usize, lines: usize) -> List {
+    let hidden: Vec<i32> = (0..n).map(|_| chance.between(-HIGH, HIGH)).collect();
+    let mut any = || {
+        let (x, y, sign) = (chance.below(n), chance.below(n), chance.sign());
+        let bound = sign * (hidden[x] - hidden[y]) + chance.between(0, HIGH);
+        line(sign, x, -sign, y, bound)
+    };
+    (0..lines).map(|_| any()).collect()
+}
+
+/// These lines of two terms as differences: each second term gets the other sign than the
+/// first.
+pub fn made_differences(mut list: List) -> List {
+    for line in &mut list {
+        line[2] = -line[0];
+    }
+    list
+}
+
 /// A line over any two variables, either sign.
 fn any_pair(chance: &mut Chance, n: usize, bound: i32) -> Line {
     let (x, y) = (chance.below(n), chance.below(n));

@@ -1,13 +1,15 @@
 //! Times deciding: the library and some ways in plain Rust, on the same lists, in
 //! one run. All of them write all outputs, the identifiers of a refutation's steps
 //! among them, and clear the work area, and each answer is compared. Multiples are of
-//! the library's time to the others'. Then adding a line to a session, beside deciding
-//! all its lines.
+//! the library's time to the others'. Then sessions, each line added to those before it, by
+//! the library and in plain Rust, beside deciding all lines once; and lists of differences
+//! by both engines of the library.
 
 mod bars;
 mod buffers;
 mod chance;
 mod clock;
+mod differences;
 mod elimination;
 mod families;
 mod finish;
@@ -20,6 +22,7 @@ mod multiples;
 mod order;
 mod outgoing;
 mod potentials;
+mod pushing;
 mod reduced;
 mod refutation;
 mod report;
@@ -70,4 +73,6 @@ fn main() {
     bars.print();
     println!();
     sessions::print(&families);
+    println!();
+    differences::print(most);
 }

@@ -30,11 +30,6 @@ pub fn shown(number: f64) -> String {
     format!("{number:.digits$}")
 }
 
-/// Seconds in microseconds, for what takes few.
-pub fn microseconds(seconds: f64) -> String {
-    format!("{} µs", shown(1e6 * seconds))
-}
-
 /// Seconds in milliseconds.
 pub fn milliseconds(seconds: f64) -> String {
     format!("{} ms", shown(1e3 * seconds))

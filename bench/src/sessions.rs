@@ -1,112 +1,183 @@
-//! Adding a line to a session, beside deciding all its lines once: a table of its own, for
-//! the most variables.
+//! Sessions of the most variables, one line added after the other, by the library and in
+//! plain Rust, beside deciding all lines once: a table of its own, and its bar.
 
 use std::hint::black_box;
 
 use crate::buffers::Buffers;
-use crate::clock::seconds;
-use crate::families::{Family, OF_SESSIONS};
+use crate::clock::{seconds, timed};
+use crate::families::{Family, OF_SESSIONS, SPARSE};
 use crate::library;
 use crate::limits::{session_room, MOST_VARIABLES};
 use crate::lines::Line;
-use crate::multiples::{microseconds, milliseconds, shown};
+use crate::multiples::{milliseconds, shown};
+use crate::pushing::Pushing;
 use crate::timing::{answer, LONG, TRIES};
 
-/// What is timed, and the seconds that each takes.
-const CALLS: usize = 3;
-type Times = [f64; CALLS];
+/// The most sessions of a family, each so often: of each add the least time counts.
+const MOST_SESSIONS: usize = 3;
+const PASSES: usize = 2;
 
-/// Prints a row for each family whose lists may be those of a session.
+/// The seconds of the adds of a session: in all, and those of the slowest.
+#[derive(Clone, Copy, Default)]
+struct Adds {
+    all: f64,
+    slowest: f64,
+}
+
+/// The seconds of a session: of deciding all its lines once, of the library's adds and of
+/// plain Rust's, and of the library's last line withdrawn.
+struct Times {
+    decided: f64,
+    library: Adds,
+    plain: Adds,
+    withdrawn: f64,
+}
+
+/// An add as a multiple of deciding all lines once: on average, and the slowest.
+struct Multiples {
+    mean: f64,
+    slowest: f64,
+}
+
+/// Prints a row for each family whose lists may be those of a session, and what the bar
+/// comes to.
 pub fn print(families: &[Family]) {
+    print_head();
+    let ours = |family: &&Family| family.n == MOST_VARIABLES && OF_SESSIONS.contains(&family.name);
+    let rows = families.iter().filter(ours);
+    let rows: Vec<(&str, Multiples)> = rows
+        .map(|family| (family.name, print_row(family)))
+        .collect();
+    println!();
+    println!("| Bar | Measured |");
+    println!("|---|---|");
+    for (_, Multiples { mean, slowest }) in rows.iter().filter(|(name, _)| *name == SPARSE) {
+        println!(
+            "| Sparse sessions of {MOST_VARIABLES} variables, an add as a multiple of deciding \
+             all lines once, at most 0.10 | {}; the slowest {} |",
+            shown(*mean),
+            shown(*slowest)
+        );
+    }
+}
+
+fn print_head() {
     let columns = [
         "Variables",
         "Lines",
-        "Lists that can hold",
+        "Sessions",
         "Count",
-        "Deciding all lines",
-        "Adding the last line",
+        "Deciding all lines once",
+        "An add",
         "Multiple",
-        "Withdrawing it",
+        "Slowest add",
+        "All adds",
+        "Plain Rust, an add",
+        "Slowest add",
+        "All adds",
+        "Withdrawing the last line",
     ];
     println!("| {} |", columns.join(" | "));
     println!("|{}", "---|".repeat(columns.len()));
-    let ours = |family: &&Family| family.n == MOST_VARIABLES && OF_SESSIONS.contains(&family.name);
-    families.iter().filter(ours).for_each(print_row);
 }
 
-fn print_row(family: &Family) {
-    let lists: Vec<Times> = family
-        .lists
-        .iter()
+/// Prints the row of a family.
+fn print_row(family: &Family) -> Multiples {
+    let lists = family.lists.iter();
+    let sessions: Vec<Times> = lists
         .filter_map(|list| times(family.n, list))
+        .take(MOST_SESSIONS)
         .collect();
-    let mean = |call: usize| {
-        let sum: f64 = lists.iter().map(|times| times[call]).sum();
-        sum / lists.len() as f64
-    };
-    let [decided, added, withdrawn] = [0, 1, 2].map(mean);
-    println!(
-        "| {} | {} | {} | {} | {} | {} | {} | {} |",
-        family.n,
-        family.lists[0].len(),
-        family.name,
-        lists.len(),
-        milliseconds(decided),
-        milliseconds(added),
-        shown(added / decided),
-        microseconds(withdrawn),
+    let count = sessions.len();
+    let mean = |of: fn(&Times) -> f64| sessions.iter().map(of).sum::<f64>() / count as f64;
+    let most = |of: fn(&Times) -> f64| sessions.iter().map(of).fold(0.0, f64::max);
+    let lines = family.lists[0].len() as f64;
+    let decided = mean(|times| times.decided);
+    let (all, slowest) = (
+        mean(|times| times.library.all),
+        most(|times| times.library.slowest),
     );
+    let plain_all = mean(|times| times.plain.all);
+    let plain_slowest = most(|times| times.plain.slowest);
+    let multiples = Multiples {
+        mean: all / lines / decided,
+        slowest: slowest / decided,
+    };
+    let cells = [
+        milliseconds(decided),
+        milliseconds(all / lines),
+        shown(multiples.mean),
+        milliseconds(slowest),
+        milliseconds(all),
+        milliseconds(plain_all / lines),
+        milliseconds(plain_slowest),
+        milliseconds(plain_all),
+        milliseconds(mean(|times| times.withdrawn)),
+    ];
+    let (n, name, cells) = (family.n, family.name, cells.join(" | "));
+    println!("| {n} | {lines} | {name} | {count} | {cells} |");
+    multiples
 }
 
-/// The state of a session with these lines, by the header's description: to add them one
-/// after the other would take as long as deciding as many lists.
-fn state(n: usize, lines: &[Line]) -> Vec<i64> {
-    let mut state = vec![0; session_room(n)];
-    let head = [n as i64, lines.len() as i64, 0];
-    let numbers = lines.as_flattened().iter().map(|&number| i64::from(number));
-    for (to, number) in state.iter_mut().zip(head.into_iter().chain(numbers)) {
-        *to = number;
-    }
-    state
-}
-
-/// What a call returns, and the seconds that it took, where they are fewer than before.
-fn timed<T>(least: &mut f64, call: impl FnOnce() -> T) -> T {
-    let began = seconds();
-    let result = black_box(call());
-    *least = least.min(seconds() - began);
-    result
-}
-
-/// For a list that can hold the seconds of deciding it, of adding its last line to a
-/// session with the others, and of withdrawing it: the least of some tries, in turn.
+/// The times of a session with the lines of a list, where it can hold.
 fn times(n: usize, list: &[Line]) -> Option<Times> {
-    let (last, others) = list.split_last()?;
-    let mut state = state(n, others);
-    let before = state.clone();
     let mut out = Buffers::new(n);
-    let mut least = [f64::MAX; CALLS];
+    let decided = decided(n, list, &mut out)?;
+    let mut least = vec![[f64::MAX; 2]; list.len()];
+    let mut state = vec![0; session_room(n)];
+    for _ in 0..PASSES {
+        add_all(n, list, &mut state, &mut least);
+    }
+    let mut withdrawn = f64::MAX;
+    timed(&mut withdrawn, || library::withdraw(&mut state));
+    let adds = |way: usize| Adds {
+        all: least.iter().map(|add| add[way]).sum(),
+        slowest: least.iter().map(|add| add[way]).fold(0.0, f64::max),
+    };
+    Some(Times {
+        decided,
+        library: adds(0),
+        plain: adds(1),
+        withdrawn,
+    })
+}
+
+/// The seconds of deciding a list, the least of some tries, where it can hold.
+fn decided(n: usize, list: &[Line], out: &mut Buffers) -> Option<f64> {
+    let mut least = f64::MAX;
     let began = seconds();
     for _ in 0..TRIES {
         out.fill();
-        let result = timed(&mut least[0], || {
-            library::decide(n, black_box(list), &mut out)
-        });
+        let result = timed(&mut least, || library::decide(n, black_box(list), out));
         if result != 0 {
             return None;
         }
-        let due = answer("deciding", n, list, result, &out);
-        out.fill();
-        let result = timed(&mut least[1], || library::add(&mut state, *last, &mut out));
-        assert!(
-            due == answer("adding", n, list, result, &out),
-            "adding answers otherwise"
-        );
-        timed(&mut least[2], || library::withdraw(&mut state));
-        assert!(state == before, "withdrawing leaves another state");
-        if seconds() - began >= LONG * CALLS as f64 {
+        if seconds() - began >= LONG {
             break;
         }
     }
     Some(least)
+}
+
+/// Adds all lines of a list to a session that starts here, by the library and in plain Rust
+/// in turn; both answers to each must be equal, and the last that of deciding.
+fn add_all(n: usize, list: &[Line], state: &mut [i64], least: &mut [[f64; 2]]) {
+    library::start(n, state);
+    let mut plain = Pushing::new(n);
+    let (mut out, mut other) = (Buffers::new(n), Buffers::new(n));
+    for (at, (&line, least)) in list.iter().zip(least).enumerate() {
+        out.fill();
+        let result = timed(&mut least[0], || library::add(state, line, &mut out));
+        let lines = &list[..=at];
+        let due = answer("the session", n, lines, result, &out);
+        other.fill();
+        let result = timed(&mut least[1], || plain.add(line, &mut other));
+        let found = answer("plain Rust", n, lines, result, &other);
+        assert!(found == due, "plain Rust answers otherwise");
+    }
+    other.fill();
+    let result = library::decide(n, list, &mut other);
+    let found = answer("deciding", n, list, result, &other);
+    let due = answer("the session", n, list, 0, &out);
+    assert!(found == due, "the session answers otherwise");
 }

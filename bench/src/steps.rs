@@ -6,6 +6,9 @@ use crate::lines::Line;
 /// Stands for no walk.
 pub const NONE: i64 = i64::MAX;
 
+/// More than any sum of a walk: what is not below it is none.
+pub const ABSENT: i64 = 1 << 50;
+
 #[derive(Clone, Copy)]
 pub struct Step {
     pub from: usize,

@@ -2,6 +2,7 @@
 """Tests of utvpi.py: each call of the header is bound, has words and types, and answers as
 brute force does on small lists. The last line is 'N passed, M failed'."""
 
+import ctypes
 import inspect
 import itertools
 import random
@@ -79,6 +80,22 @@ class Answers(unittest.TestCase):
             self.assertEqual(LIBRARY.check_refutation(n, lines, [4] + answer.refutation[1:]), 0)
         self.assertEqual(seen, {Yes, No})
 
+    def test_differences(self):
+        seen = set()
+        for n, lines, _ in lists(150):
+            turned = [Line(line.a or 1, line.x, -(line.a or 1), line.y, line.d, line.identifier)
+                      for line in lines]
+            answer, whole = LIBRARY.decide_differences(n, turned), LIBRARY.decide(n, turned)
+            seen.add(type(answer))
+            if isinstance(whole, Yes):
+                self.assertEqual(answer, whole)
+                self.assertEqual(answer.bounds, [(None, None)] * n)
+                continue
+            self.assertIsInstance(answer, No)
+            self.assertIsNone(LIBRARY.check_refutation(n, turned, answer.refutation))
+            self.assertEqual(answer.identifiers, [turned[at].identifier for at in answer.lines()])
+        self.assertEqual(seen, {Yes, No})
+
     def test_bounds_groups_and_questions(self):
         for n, lines, ways in lists(80, boxed=True):
             if not ways:
@@ -105,6 +122,25 @@ class Answers(unittest.TestCase):
                     self.assertIn(tuple(broken), ways)
                     self.assertFalse(meets(line, broken))
 
+    def test_showings(self):
+        most, shown = LIBRARY.header.number("MOST_LINES"), 0
+        for n, lines, ways in lists(60, boxed=True):
+            for d in range(-3, 4):
+                line = Line(1, 0, -1, 1, d, 77)
+                showing = LIBRARY.show_line(n, lines, line)
+                self.assertEqual(showing is not None, all(meets(line, way) for way in ways))
+                if showing is None:
+                    continue
+                shown += 1
+                self.assertIsNone(LIBRARY.check_shown(n, lines, line, showing.refutation))
+                self.assertIsNone(
+                    LIBRARY.check_shown(n, lines + [Line()], line, showing.refutation))
+                self.assertEqual(showing.identifiers, [
+                    77 if at == most else lines[at].identifier for at in showing.lines()])
+                self.assertEqual(
+                    LIBRARY.check_shown(n, lines, line, [4] + showing.refutation[1:]), 0)
+        self.assertGreater(shown, 60)
+
     def test_sessions(self):
         for n, lines, _ in lists(40):
             state = LIBRARY.session_start(n)
@@ -113,6 +149,7 @@ class Answers(unittest.TestCase):
                 answer = LIBRARY.session_add(state, line)
                 whole = LIBRARY.decide(n, lines[: at + 1])
                 self.assertEqual(type(answer), type(whole))
+                self.ask_session(n, lines[: at + 1], state)
                 if isinstance(answer, No):
                     with self.assertRaises(Refused) as caught:
                         LIBRARY.session_add(state, line)
@@ -121,6 +158,24 @@ class Answers(unittest.TestCase):
                     self.assertEqual(list(state), before)
                     break
                 self.assertEqual(answer, whole)
+
+    def ask_session(self, n, lines, state):
+        """Both questions: they answer as those to the list do, and leave the state alone."""
+        before = list(state)
+        if isinstance(LIBRARY.decide(n, lines), No):
+            with self.assertRaises(Unsolvable):
+                LIBRARY.session_pair(state, 0, 1)
+            with self.assertRaises(Unsolvable):
+                LIBRARY.session_implied(state, lines[0])
+        else:
+            for x, y in itertools.product(range(n), repeat=2):
+                self.assertEqual(LIBRARY.session_pair(state, x, y),
+                                 LIBRARY.implied_pair(n, lines, x, y))
+            for d in range(-2, 3):
+                line = Line(1, 0, -1, 1, d)
+                self.assertEqual(LIBRARY.session_implied(state, line),
+                                 LIBRARY.implied_line(n, lines, line) is None)
+        self.assertEqual(list(state), before)
 
     def test_trees(self):
         number = LIBRARY.header.number
@@ -181,11 +236,19 @@ class Answers(unittest.TestCase):
             (lambda: LIBRARY.decide(1, [Line(1, 1)]), "BAD_VARIABLE", 0),
             (lambda: LIBRARY.implied_pair(1, [], 0, 1), "BAD_VARIABLE", 1),
             (lambda: LIBRARY.decide(1, [Line(0, 0, 1)]), "MISPLACED_COEFFICIENT", 0),
+            (lambda: LIBRARY.decide_differences(10**12, []), "TOO_MANY_VARIABLES", 0),
+            (lambda: LIBRARY.decide_differences(1, [Line(1, 0, -1), Line(1)]), "NOT_DIFFERENCE", 1),
             (lambda: LIBRARY.write_list(1, [Line(d=1000001)]), "BAD_BOUND", 0),
             (lambda: LIBRARY.implied_line(1, [Line()], Line(identifier=-1)), "BAD_IDENTIFIER", 1),
+            (lambda: LIBRARY.show_line(1, [Line()], Line(d=2000001)), "BAD_BOUND", 1),
+            (lambda: LIBRARY.check_shown(1, [Line()], Line(2), []), "BAD_COEFFICIENT", 1),
             (lambda: LIBRARY.check_model(1, [], []), "BAD_MODEL_LENGTH", 0),
             (lambda: LIBRARY.read_list(b""), "RECORD_CUT", 0),
             (lambda: LIBRARY.session_withdraw(LIBRARY.session_start(1)), "NO_LINES", 0),
+            (lambda: LIBRARY.session_pair(LIBRARY.session_start(1), 0, 1), "BAD_VARIABLE", 1),
+            (lambda: LIBRARY.session_implied(LIBRARY.session_start(1), Line(2)),
+             "BAD_COEFFICIENT", 0),
+            (lambda: LIBRARY.session_pair((ctypes.c_int64 * 3)(), 0, 0), "SHORT_OUTPUT", 6),
             (lambda: LIBRARY.tree_first(1, [], [1, 0, 7]), "BROKEN_TREE", 2),
             (lambda: LIBRARY.tree_decide(1, [], [1, 0], 1), "NO_SUCH_CHOICE", 0),
             (lambda: LIBRARY.model_seconds(0, 0.0, []), "BAD_CLOCK", 0),

@@ -94,6 +94,7 @@ _OUTPUTS = [*_slice(MODEL), *_slice(c_int64), *_slice(c_uint32), *_slice(c_uint3
 # Each call of the header: what it returns, and what it takes.
 CALLS: dict[str, tuple[Any, list[Any]]] = {
     "utvpi_decide": (c_int64, [*_LIST, *_OUTPUTS]),
+    "utvpi_decide_differences": (c_int64, [*_LIST, *_OUTPUTS]),
     "utvpi_check_model": (c_int64, _BYTES),
     "utvpi_check_refutation": (c_int64, _BYTES),
     "utvpi_refutation_begin": (Progress, []),
@@ -102,8 +103,13 @@ CALLS: dict[str, tuple[Any, list[Any]]] = {
     "utvpi_session_start": (c_int64, [c_uint64, *_slice(c_int64)]),
     "utvpi_session_add": (c_int64, [*_slice(c_int64), Line, *_OUTPUTS]),
     "utvpi_session_withdraw": (c_int64, _slice(c_int64)),
+    "utvpi_session_pair": (_Pair, [*_slice(c_int64), c_uint64, c_uint64]),
+    "utvpi_session_implied": (c_int64, [*_slice(c_int64), Line]),
     "utvpi_implied_pair": (_Pair, [*_LIST, c_uint64, c_uint64, *_slice(c_int64)]),
     "utvpi_implied_line": (c_int64, [*_LIST, Line, *_slice(MODEL), *_slice(c_int64)]),
+    "utvpi_show_line": (c_int64, [*_LIST, Line, *_slice(c_uint32), *_slice(c_uint32),
+                                  *_slice(c_int64)]),
+    "utvpi_check_shown": (c_int64, [*_BYTES, *_slice(c_uint8)]),
     "utvpi_tree_first": (_Choice, [*_TREE, *_slice(MODEL), *_slice(c_int64)]),
     "utvpi_tree_decide": (_Choice, [*_TREE, c_uint64, *_OUTPUTS]),
     "utvpi_shorter": (_Part, [*_LIST, *_slice(c_uint32), *_slice(c_uint32)]),
@@ -125,7 +131,7 @@ class Refused(Exception):
 
 
 class Unsolvable(Exception):
-    """The list that something was asked about can't be met."""
+    """The list or the session that something was asked about can't be met."""
 
 
 @dataclass(frozen=True)
@@ -244,6 +250,13 @@ class Library:
         result = self._call["utvpi_decide"](n, *self._list(lines), *_flat(outputs))
         return self._answer(n, result, outputs)
 
+    def decide_differences(self, n: int, lines: Sequence[Line]) -> Answer:
+        """The same for a list of differences, lines with the coefficients 1 and -1 in either
+        order, in a smaller work area."""
+        outputs = self._outputs(n, "DIFFERENCES_WORK")
+        result = self._call["utvpi_decide_differences"](n, *self._list(lines), *_flat(outputs))
+        return self._answer(n, result, outputs)
+
     def check_model(self, n: int, lines: Sequence[Line], model: Sequence[int]) -> Optional[int]:
         """Does this model meet every line? None for a yes, or the first line that it does not
         meet."""
@@ -255,9 +268,8 @@ class Library:
                          refutation: Sequence[int]) -> Optional[int]:
         """Does this refutation show that the list can't be met? None for a yes, or the index
         of the number where it breaks."""
-        numbers = b"".join(number.to_bytes(4, "little") for number in refutation)
         return self._checked(self._call["utvpi_check_refutation"](
-            n, *self._list_bytes(lines), *_read(c_uint8, numbers)))
+            n, *self._list_bytes(lines), *_number_bytes(refutation)))
 
     def refutation_begin(self) -> Progress:
         """Begins to check a refutation that arrives in pieces."""
@@ -290,13 +302,19 @@ class Library:
         """Withdraws the last line of the session."""
         self._checked(self._call["utvpi_session_withdraw"](state, len(state)))
 
+    def session_pair(self, state: Any, x: int, y: int) -> Pair:
+        """What implied_pair says of the list of all lines of the session."""
+        return self._pair(self._call["utvpi_session_pair"](state, len(state), x, y))
+
+    def session_implied(self, state: Any, line: Line) -> bool:
+        """Does every way to meet the lines of the session meet this line, too?"""
+        result = self._call["utvpi_session_implied"](state, len(state), line)
+        return self._checked(result) is None
+
     def implied_pair(self, n: int, lines: Sequence[Line], x: int, y: int) -> Pair:
         """How large can the sum and the difference of two variables be, with either sign?"""
-        pair = self._call["utvpi_implied_pair"](
-            n, *self._list(lines), x, y, *self._room("WORK", c_int64, n))
-        self._checked(pair.result)
-        return Pair((_bound(pair.plus[0]), _bound(pair.plus[1])),
-                    (_bound(pair.minus[0]), _bound(pair.minus[1])))
+        return self._pair(self._call["utvpi_implied_pair"](
+            n, *self._list(lines), x, y, *self._room("WORK", c_int64, n)))
 
     def implied_line(self, n: int, lines: Sequence[Line], line: Line) -> Optional[list[int]]:
         """Does every way to meet the list meet this line, too? None for a yes, or values that
@@ -305,6 +323,22 @@ class Library:
         broken = self._checked(self._call["utvpi_implied_line"](
             n, *self._list(lines), line, model, room, *self._room("WORK", c_int64, n)))
         return None if broken is None else list(model[:n])
+
+    def show_line(self, n: int, lines: Sequence[Line], line: Line) -> Optional[No]:
+        """Why does every way to meet the list meet this line, too? A refutation of the list
+        against the line, in which the opposite line has the number UTVPI_MOST_LINES; None
+        where some way to meet the list breaks the line."""
+        lent = [self._room(name, c_uint32, n) for name in ("REFUTATION", "IDENTIFIERS")]
+        broken = self._checked(self._call["utvpi_show_line"](
+            n, *self._list(lines), line, *_flat(lent), *self._room("WORK", c_int64, n)))
+        return _refutation(*(buffer for buffer, _ in lent)) if broken is None else None
+
+    def check_shown(self, n: int, lines: Sequence[Line], line: Line,
+                    showing: Sequence[int]) -> Optional[int]:
+        """Does this showing show that every way to meet the list meets the line? None for a
+        yes, or the index of the number where it breaks."""
+        return self._checked(self._call["utvpi_check_shown"](
+            n, *self._list_bytes(lines), *self._list_bytes([line]), *_number_bytes(showing)))
 
     def tree_first(self, n: int, lines: Sequence[Line],
                    tree: Sequence[int]) -> Optional[tuple[int, list[int]]]:
@@ -381,11 +415,16 @@ class Library:
         """A buffer for n variables. With too many of them the library looks at none."""
         return _lent(number, self.header.room(name, min(n, self.header.number("MOST_VARIABLES"))))
 
-    def _outputs(self, n: int) -> list[tuple[Any, int]]:
-        """The six buffers that deciding is lent."""
+    def _outputs(self, n: int, work: str = "WORK") -> list[tuple[Any, int]]:
+        """The six buffers that deciding is lent, with a work area of the room so named."""
         kinds = [("MODEL", MODEL), ("BOUNDS", c_int64), ("GROUPS", c_uint32),
-                 ("REFUTATION", c_uint32), ("IDENTIFIERS", c_uint32), ("WORK", c_int64)]
+                 ("REFUTATION", c_uint32), ("IDENTIFIERS", c_uint32), (work, c_int64)]
         return [self._room(name, number, n) for name, number in kinds]
+
+    def _pair(self, pair: _Pair) -> Pair:
+        self._checked(pair.result)
+        return Pair((_bound(pair.plus[0]), _bound(pair.plus[1])),
+                    (_bound(pair.minus[0]), _bound(pair.minus[1])))
 
     def _answer(self, n: int, result: int, outputs: list[tuple[Any, int]]) -> Answer:
         model, bounds, groups, refutation, identifiers, _ = (buffer for buffer, _ in outputs)
@@ -393,8 +432,7 @@ class Library:
             return Yes(list(model[:n]),
                        [(_bound(bounds[2 * v]), _bound(bounds[2 * v + 1])) for v in range(n)],
                        [(groups[2 * v], groups[2 * v + 1] == 1) for v in range(n)])
-        steps = refutation[1] + refutation[2]
-        return No(list(refutation[: 3 + steps]), list(identifiers[:steps]))
+        return _refutation(refutation, identifiers)
 
     def _checked(self, result: int) -> Optional[int]:
         """None for a yes, the k of a no; anything else is raised."""
@@ -403,7 +441,7 @@ class Library:
             number, place = divmod(-result, unit)
             raise Refused(number, place, self.refusal_text(number))
         if result == self.header.number("UNSOLVABLE"):
-            raise Unsolvable("no whole numbers meet the list")
+            raise Unsolvable("no whole numbers meet the lines")
         return None if result == 0 else result - self.header.number("NO")
 
     def _written(self, written: Any) -> None:
@@ -414,3 +452,14 @@ class Library:
 def _flat(buffers: Iterable[tuple[Any, int]]) -> list[Any]:
     """Buffers and lengths, one behind the other."""
     return [part for buffer in buffers for part in buffer]
+
+
+def _number_bytes(numbers: Iterable[int]) -> tuple[Any, int]:
+    """The bytes of a refutation's numbers, and how many there are."""
+    return _read(c_uint8, b"".join(number.to_bytes(4, "little") for number in numbers))
+
+
+def _refutation(refutation: Any, identifiers: Any) -> No:
+    """What stands in the buffers of a refutation and of its identifiers."""
+    steps = refutation[1] + refutation[2]
+    return No(list(refutation[: 3 + steps]), list(identifiers[:steps]))

@@ -16,6 +16,14 @@ const ROOMS: [&str; 6] = [
     "WORK_ROOM",
 ];
 
+/// What else goes by n, and the functions that say it: the rooms of the work area for
+/// differences and of a session's state, and the greatest bound of a shown line.
+const BY_N: [(&str, &str); 3] = [
+    ("DIFFERENCES_WORK_ROOM", "differences_work_room"),
+    ("SESSION_ROOM", "session_room"),
+    ("MOST_SHOWN_BOUND", "most_shown_bound"),
+];
+
 /// The repository, in which the package has a folder.
 fn root() -> PathBuf {
     PathBuf::from(env::var_os("CARGO_MANIFEST_DIR").unwrap()).join("..")
@@ -42,7 +50,7 @@ pub fn link() {
 }
 
 /// Writes what the repository's header defines under these names, given without UTVPI_, as
-/// constants, and the rooms of the buffers and of a session's state as functions, for
+/// constants, and the rooms of the buffers and what else goes by n as functions, for
 /// src/limits.rs to take in.
 pub fn write_limits(names: &[&str]) {
     write_limits_of(&root().join("include/utvpi.h"), names);
@@ -62,10 +70,12 @@ pub fn write_limits_of(header: &Path, names: &[&str]) {
     items.push(format!(
         "const fn rooms(n: usize) -> [usize; {count}] {{ [{rooms}] }}"
     ));
-    let room = of_n("SESSION_ROOM");
-    items.push(format!(
-        "const fn session_room(n: usize) -> usize {{ {room} }}"
-    ));
+    for (name, function) in BY_N {
+        let value = of_n(name);
+        items.push(format!(
+            "const fn {function}(n: usize) -> usize {{ {value} }}"
+        ));
+    }
     let rust: String = items
         .iter()
         .map(|item| format!("{ALLOW}\npub {item}\n"))
@@ -74,9 +84,8 @@ pub fn write_limits_of(header: &Path, names: &[&str]) {
     fs::write(out.join("limits.rs"), rust).unwrap();
 }
 
-/// The header has more parentheses than Rust asks for, and the room of a state is the same
-/// for each n.
-const ALLOW: &str = "#[allow(unused_parens, unused_variables, clippy::double_parens)]";
+/// The header has more parentheses than Rust asks for, and the benchmark does not show lines.
+const ALLOW: &str = "#[allow(dead_code, unused_parens, clippy::double_parens)]";
 
 /// The formula that the header defines under a name, given without UTVPI_.
 fn defined(header: &str, name: &str) -> String {
@@ -85,14 +94,16 @@ fn defined(header: &str, name: &str) -> String {
     })
 }
 
-/// The formula that the header defines under this name, without its casts to size_t, and
-/// with their own formulas in place of other names. What stands in brackets behind the
+/// The formula that the header defines under this name, without its casts, and with their own formulas in place of other names. What stands in brackets behind the
 /// name of a formula of n is put in place of n.
 fn formula(header: &str, name: &str) -> Option<String> {
     let text = header.replace("\\\n", " ");
     let start = format!("#define {name} ");
     let found = text.lines().find_map(|line| line.strip_prefix(&start))?;
-    let mut formula = found.trim().replace("(size_t)", "");
+    let mut formula = found
+        .trim()
+        .replace("(size_t)", "")
+        .replace("(int64_t)", "");
     while let Some(at) = formula.find("UTVPI_") {
         let of_name = |c: char| c.is_ascii_uppercase() || c == '_';
         let behind = formula[at..].find(|c| !of_name(c));

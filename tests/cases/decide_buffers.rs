@@ -5,14 +5,15 @@
 
 use std::thread;
 
-use utvpi_tests::buffers::{cut_by, needed, Buffers, BUFFERS, OUTPUTS};
+use utvpi_tests::buffers::{needed, Buffers};
 use utvpi_tests::chance::Chance;
 use utvpi_tests::closure;
-use utvpi_tests::damage::{damaged_list, refused_lists};
+use utvpi_tests::damage::damaged_list;
 use utvpi_tests::decision::{decide, decide_in, Decision, Verdict};
 use utvpi_tests::limits::{LINE_NUMBERS, MOST_N, SMALL_VARIABLES};
 use utvpi_tests::lines::{identified, zero, Line};
 use utvpi_tests::make_lists::{small, Shape};
+use utvpi_tests::short_buffers::Engine;
 
 /// Some lists for these tests: most tiny, few larger.
 fn some_list(chance: &mut Chance) -> (u64, Vec<Line>) {
@@ -29,57 +30,25 @@ fn some_list(chance: &mut Chance) -> (u64, Vec<Line>) {
     }
 }
 
-/// Each set of buffers may be one too short: the first short output is named,
-/// and the work area comes last.
+const ENGINE: Engine = Engine { needed, decide_in };
+
 #[test]
 fn which_buffer_is_short() {
     let mut chance = Chance::new(70);
     let lists = [vec![], vec![zero(-1)], vec![zero(1)]].map(|lines| identified(&lines).concat());
     for n in [0, 1, 2, 5, MOST_N] {
-        for short in 0..1 << BUFFERS {
-            let full = needed(n);
-            let lengths = cut_by(full, short);
-            let first = (0..BUFFERS).find(|&at| lengths[at] < full[at]);
-            for list in &lists {
-                let mut buffers = Buffers::new(&mut chance, lengths);
-                let verdict = decide_in(&mut buffers, n, list).verdict;
-                match first {
-                    Some(OUTPUTS) => assert_eq!(verdict, Verdict::Refused(8, 0)),
-                    Some(at) => assert_eq!(verdict, Verdict::Refused(7, at + 1)),
-                    None => assert!(!matches!(verdict, Verdict::Refused(..))),
-                }
-            }
-        }
+        ENGINE.names_the_first_short(&mut chance, n, &lists);
     }
 }
 
-/// A buffer of no numbers at all is as short as any.
 #[test]
 fn empty_buffers() {
-    let mut chance = Chance::new(71);
-    for n in [1, 3, MOST_N] {
-        for at in 0..BUFFERS {
-            let mut lengths = needed(n);
-            lengths[at] = 0;
-            let mut buffers = Buffers::new(&mut chance, lengths);
-            let verdict = decide_in(&mut buffers, n, &[]).verdict;
-            let due = if at == OUTPUTS { (8, 0) } else { (7, at + 1) };
-            assert_eq!(verdict, Verdict::Refused(due.0, due.1));
-        }
-    }
+    ENGINE.names_an_empty_one(&mut Chance::new(71));
 }
 
-/// The list's refusals go before those of the buffers.
 #[test]
 fn list_refusals_go_first() {
-    let mut chance = Chance::new(72);
-    for (n, list, due) in refused_lists() {
-        for short in 0..1 << BUFFERS {
-            let mut buffers = Buffers::new(&mut chance, cut_by(needed(2), short));
-            let verdict = decide_in(&mut buffers, n, &list).verdict;
-            assert_eq!(verdict, Verdict::Refused(due.0, due.1), "{list:?}");
-        }
-    }
+    ENGINE.looks_at_the_list_first(&mut Chance::new(72));
 }
 
 /// Lists damaged in every way, in buffers of which some are short: the refusal
@@ -91,11 +60,7 @@ fn damaged_lists() {
     let mut decided = 0;
     for _ in 0..60_000 {
         let (n, lines) = some_list(&mut chance);
-        let mut lengths = needed(n);
-        if chance.one_in(6) {
-            let at = chance.below(BUFFERS);
-            lengths[at] = lengths[at].saturating_sub(chance.between(1, 3) as usize);
-        }
+        let lengths = ENGINE.sometimes_short(&mut chance, n);
         let (n, list) = damaged_list(&mut chance, n, &lines.concat());
         let mut buffers = Buffers::new(&mut chance, lengths);
         match decide_in(&mut buffers, n, &list).verdict {

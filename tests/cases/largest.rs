@@ -1,9 +1,9 @@
 //! Lists of the most variables and the most lines: decided and compared with
 //! another method, written to a file and read back, their refutations taken in
-//! pieces; and every call on one of them in a thread with little stack, those of a
-//! session too, those on trees, and those for seconds.
+//! pieces; and how much stack every call on one of them takes, that for differences
+//! too, those of a session, those on trees, and those for seconds.
 
-use std::thread;
+use std::hint::black_box;
 
 use utvpi_tests::buffers::{needed, Buffers};
 use utvpi_tests::bytes;
@@ -11,11 +11,12 @@ use utvpi_tests::chance::Chance;
 use utvpi_tests::closure;
 use utvpi_tests::decision::{decide, own_groups, Decision, Reason, Solved, Verdict};
 use utvpi_tests::decision::{MINUS, PLUS};
+use utvpi_tests::differences::{self, NOT_DIFFERENCE};
 use utvpi_tests::document::largest;
 use utvpi_tests::files::{read, write};
 use utvpi_tests::library;
-use utvpi_tests::limits::SHORTER_NEITHER;
-use utvpi_tests::limits::{LARGEST_BOUND, LAST_VARIABLE, MOST_FILE, MOST_LINES};
+use utvpi_tests::limits::{rooms, SHORTER_NEITHER};
+use utvpi_tests::limits::{LARGEST_BOUND, LAST_VARIABLE, LINE_BYTES, MOST_FILE, MOST_LINES};
 use utvpi_tests::limits::{MOST_N, MOST_NUMBERS, MOST_RECORDERS, MOST_STACK, MOST_VARIABLES, NO};
 use utvpi_tests::lines::{identify, line, lone, zero, Line};
 use utvpi_tests::make_lists::Shape;
@@ -23,6 +24,7 @@ use utvpi_tests::records::{self, List};
 use utvpi_tests::second::Answer;
 use utvpi_tests::seconds::{Table, FORMS, LARGEST_COUNT};
 use utvpi_tests::sessions::Session;
+use utvpi_tests::stack;
 use utvpi_tests::trees::{deepest, Tree};
 
 /// The decision on a list of the most variables and lines, which both checkers
@@ -185,17 +187,63 @@ fn random_lists() {
     }
 }
 
-/// What a thread itself takes of its stack, beside the calls.
-const OWN_STACK: usize = 16 * 1024;
+/// What this does, which takes no more stack than this, to the byte; what stands here
+/// between the thread and the call counts with it.
+fn within_stack<T: Send>(most: usize, calls: impl FnOnce() -> T + Send) -> T {
+    let (result, taken) = stack::taken(2 * MOST_STACK, calls);
+    println!("{taken} bytes of stack, of {most}");
+    assert!(taken <= most, "{taken} bytes of stack");
+    result
+}
 
-/// What this does, in a thread that has no more stack than the header asks for: a call
-/// that takes more ends the whole test.
+/// The same with no more than the header says.
 fn with_little_stack<T: Send>(calls: impl FnOnce() -> T + Send) -> T {
-    let little = thread::Builder::new().stack_size(MOST_STACK + OWN_STACK);
-    thread::scope(|scope| {
-        let calls = little.spawn_scoped(scope, calls);
-        calls.unwrap().join().unwrap()
-    })
+    within_stack(MOST_STACK, calls)
+}
+
+/// The stack that the header has for all else than a list, marks of its lines and a
+/// refutation.
+const LAST_PART: usize = MOST_STACK
+    - size_of::<Line>() * (MOST_LINES + 1)
+    - MOST_LINES
+    - size_of::<u32>() * rooms(MOST_VARIABLES)[3];
+
+/// The calls that hold none of these take no more than that: deciding among them, a yes and
+/// both noes.
+#[test]
+fn the_least_stack() {
+    let mut chance = Chance::new(131);
+    let lists = [
+        largest(),
+        chain(&mut chance, LAST_VARIABLE),
+        level(&mut chance, 7),
+    ];
+    let mut buffers = Buffers::new(&mut chance, needed(MOST_N));
+    for lines in lists {
+        let numbers = lines.concat();
+        within_stack(LAST_PART, || buffers.call(MOST_N, &numbers));
+        let refutation = buffers.refutation.lent();
+        let mut file = vec![0; records::size(&numbers)];
+        within_stack(LAST_PART, || {
+            let kept = library::refutation_take(library::refutation_begin(), &numbers, 1);
+            library::refutation_end(kept, MOST_N, &numbers);
+            library::shorter(MOST_N, &numbers, refutation, refutation);
+            library::write_list(MOST_N, &numbers, &mut file);
+        });
+    }
+}
+
+/// What is measured is there: arrays that a function fills.
+#[test]
+fn stack_is_measured() {
+    fn filled<const SIZE: usize>() -> usize {
+        let array = black_box([SIZE as u8; SIZE]);
+        array.iter().map(|&byte| usize::from(byte)).sum()
+    }
+    let (_, few) = stack::taken(MOST_STACK, filled::<8_192>);
+    let (_, many) = stack::taken(MOST_STACK, filled::<40_960>);
+    assert!((8_192..12_288 + 8_192).contains(&few), "{few}");
+    assert!(many - few >= 40_960 - 8_192, "{few} {many}");
 }
 
 /// Every call on the largest list.
@@ -223,18 +271,51 @@ fn little_stack() {
             other.implied_pair(MOST_N, &numbers, [0, 1]).result,
             other.implied_line(MOST_N, &numbers, lines[0]),
             other.implied_line(MOST_N, &numbers, zero(-1)),
+            other.show_line(MOST_N, &numbers, lines[0]),
+            other.show_line(MOST_N, &numbers, zero(-1)),
+            library::check_shown(MOST_N, &packed, &packed[..LINE_BYTES], &proposed),
             library::shorter(MOST_N, &numbers, &walk, &walk).which as i64,
         ]
     });
     let [at_0, at_3] = [0, 3].map(|place| Answer::No(place).code());
-    let (bytes, lines) = (size as i64, MOST_LINES as i64);
+    let files = [size as i64, MOST_LINES as i64];
+    let shown = [0, at_0, at_3];
     let neither = SHORTER_NEITHER as i64;
-    let due = [0, at_3, at_0, bytes, lines, 0, 0, 0, at_0, neither];
-    assert_eq!(results, due);
+    let due = [
+        &[0, at_3, at_0],
+        &files[..],
+        &[0, 0, 0, at_0],
+        &shown,
+        &[neither],
+    ]
+    .concat();
+    assert_eq!(results[..], due);
     assert_eq!(again, numbers);
 }
 
-/// The calls of a session: its start, and the last line that it may have.
+/// Deciding differences: a list that can be met, one that can't, and one that is refused.
+#[test]
+fn little_stack_for_differences() {
+    let shape = differences::Shape {
+        n: MOST_VARIABLES,
+        count: MOST_LINES,
+        largest: LARGEST_BOUND,
+    };
+    let mut chance = Chance::new(130);
+    let met = shape.met(&mut chance);
+    let mut clashing = shape.round_walk(&mut chance);
+    clashing[1] = line(1, 0, -1, 0, -1);
+    let refused = Answer::Refused(NOT_DIFFERENCE, 0).code();
+    for (lines, due) in [(met, 0), (clashing, NO as i64), (largest(), refused)] {
+        let numbers = lines.concat();
+        let mut buffers = Buffers::new(&mut chance, differences::needed(MOST_N));
+        let result = within_stack(LAST_PART, || buffers.differences(MOST_N, &numbers));
+        assert_eq!(result, due);
+    }
+}
+
+/// The calls of a session: its start, the last line that it may have, and one that makes a
+/// no; its start and its questions hold no list.
 #[test]
 fn little_stack_in_a_session() {
     let mut lines = largest();
@@ -253,6 +334,17 @@ fn little_stack_in_a_session() {
     });
     assert_eq!(results, [0; 3]);
     assert!(started == Session::new(MOST_N).state() && state == session.state());
+    let clash = with_little_stack(|| buffers.add(&mut state, zero(-1)));
+    assert_eq!(clash, NO as i64);
+    with_little_stack(|| library::session_withdraw(&mut state));
+    let results = within_stack(LAST_PART, || {
+        [
+            library::session_start(MOST_N, &mut started),
+            library::session_implied(&state, zero(0)),
+            library::session_pair(&state, 0, 0).result,
+        ]
+    });
+    assert_eq!(results, [0; 3]);
 }
 
 /// All lines of the largest list, one of them as deep as a line may stand.
@@ -292,7 +384,7 @@ fn little_stack_for_seconds() {
     let table = Table::of(&[(FORMS[1], 3.0); MOST_RECORDERS]);
     let (recorders, counts) = ([0; MOST_VARIABLES], [LARGEST_COUNT; MOST_VARIABLES]);
     let mut seconds = vec![0.0; MOST_VARIABLES];
-    let results = with_little_stack(|| {
+    let results = within_stack(LAST_PART, || {
         [
             library::model_seconds(FORMS[0], 0.5, &counts, &mut seconds),
             library::events_seconds(table.events(&recorders, &counts), &mut seconds),

@@ -1,14 +1,20 @@
 //! Lines in another order: the same verdict, on a yes the same model, bounds and groups,
-//! on a no the same kind, from every call that decides. And how large the numbers get that
+//! on a no the same kind, from every call that decides, both engines and the calls on trees
+//! among them. And how large the numbers get that
 //! deciding and the questions write: within the sizes that are proved, which chains reach.
 
 use utvpi_tests::chance::Chance;
 use utvpi_tests::decision::{decide, Reason, Solved, Verdict};
+use utvpi_tests::differences;
 use utvpi_tests::implied::{implied, pair, Implied, Pair};
 use utvpi_tests::limits::{LARGEST_BOUND, LAST_VARIABLE, MOST_N, SMALL_VARIABLES};
 use utvpi_tests::lines::{identified, line, lone, Line};
 use utvpi_tests::make_lists::{small, Shape};
+use utvpi_tests::make_trees::{self, list_to_pick_from};
 use utvpi_tests::session_calls;
+use utvpi_tests::sessions::FRONT;
+use utvpi_tests::tree_calls::{Asked, First};
+use utvpi_tests::trees::Tree;
 
 /// The lines in another order.
 fn rearranged(chance: &mut Chance, lines: &[Line]) -> Vec<Line> {
@@ -85,6 +91,82 @@ fn deciding() {
     seen.must_have(60);
 }
 
+/// Deciding differences, by the engine for them.
+#[test]
+fn deciding_differences() {
+    let mut chance = Chance::new(145);
+    let (mut yes, mut no) = (0, 0);
+    for at in 0..3_000 {
+        let n = match at % 8 {
+            0 => 1 + chance.below(SMALL_VARIABLES),
+            _ => chance.below(6),
+        };
+        let lines = differences::Shape::of(&mut chance, n).list(&mut chance);
+        let due = differences::decide(&mut chance, n as u64, &lines).verdict;
+        yes += usize::from(matches!(due, Verdict::Yes(_)));
+        no += usize::from(due == Verdict::No(Reason::ClosedWalk));
+        for _ in 0..3 {
+            let other = rearranged(&mut chance, &lines);
+            let found = differences::decide(&mut chance, n as u64, &other).verdict;
+            assert_eq!(found, due, "n: {n}\n{lines:?}\n{other:?}");
+        }
+    }
+    assert!(yes >= 500 && no >= 500, "{yes} {no}");
+}
+
+/// The answers to a tree over lines: the first choice with its model, and each choice
+/// decided.
+fn answers(chance: &mut Chance, n: u64, lines: &[Line], tree: &Tree) -> (First, Vec<Verdict>) {
+    let numbers = tree.numbers();
+    let asked = Asked {
+        n,
+        list: lines.as_flattened(),
+        tree: &numbers,
+    };
+    let choices = 0..asked.choices().unwrap().len();
+    let decided = choices.map(|choice| asked.decide(chance, choice).verdict);
+    let verdicts = decided.map(apart_from_order).collect();
+    (asked.first(chance), verdicts)
+}
+
+/// Both calls on trees: the tree has the lines' new numbers, so that its choices pick the
+/// same lines.
+#[test]
+fn trees() {
+    let mut chance = Chance::new(146);
+    let mut seen = Seen::default();
+    let (mut at_once, mut later, mut never) = (0, 0, 0);
+    for round in 0..800 {
+        let n = chance.pick(&[2, 3, 5, 8, 13]);
+        let (lines, own) = list_to_pick_from(&mut chance, n, round % 2 == 1);
+        let shape = make_trees::Shape::of(&mut chance, lines.len());
+        let tree = shape.full_tree(&mut chance, own, 40);
+        let due = answers(&mut chance, n, &lines, &tree);
+        due.1.iter().for_each(|verdict| seen.count(verdict));
+        match due.0 {
+            First::Yes(0, _) => at_once += 1,
+            First::Yes(..) => later += 1,
+            First::No => never += 1,
+            First::Refused(number, place) => panic!("refused: {number} at {place}"),
+        }
+        for _ in 0..2 {
+            let order = chance.order(lines.len());
+            let other: Vec<Line> = order.iter().map(|&at| lines[at]).collect();
+            let mut places = vec![0; lines.len()];
+            for (place, &line) in order.iter().enumerate() {
+                places[line] = place;
+            }
+            let renamed = tree.renamed(&places);
+            let found = answers(&mut chance, n, &other, &renamed);
+            assert_eq!(found, due, "n: {n}\n{lines:?}\n{tree:?}\n{other:?}");
+        }
+    }
+    let counts = [at_once, later, never];
+    println!("{seen:?} {counts:?}");
+    seen.must_have(30);
+    assert!(counts.iter().all(|&count| count >= 20), "{counts:?}");
+}
+
 /// Both questions: the pair of any two variables, and lines of the list itself, their
 /// opposites and others.
 #[test]
@@ -120,7 +202,8 @@ fn what_a_list_implies() {
 }
 
 /// Sessions: lines added in another order. A session ends with a no, so that only lists
-/// of which a no comes with the last line in both orders are compared to the end.
+/// of which a no comes with the last line in both orders are compared to the end. After a yes
+/// the table of the state is the same.
 #[test]
 fn sessions() {
     let mut chance = Chance::new(142);
@@ -132,22 +215,26 @@ fn sessions() {
         }
         let orders = [lines.clone(), rearranged(&mut chance, &lines)];
         let ends = orders.map(|lines| last_answer(&mut chance, n, &lines));
-        if let [Some(one), Some(other)] = ends {
-            yes += usize::from(matches!(one, Verdict::Yes(_)));
+        if let [Some((one, table)), Some((other, same))] = ends {
+            let is_yes = matches!(one, Verdict::Yes(_));
+            yes += usize::from(is_yes);
             no += usize::from(matches!(one, Verdict::No(_)));
             assert_eq!(apart_from_order(one), apart_from_order(other), "{lines:?}");
+            assert!(!is_yes || table == same, "{lines:?}");
         }
     }
     assert!(yes >= 100 && no >= 10, "{yes} {no}");
 }
 
-/// The answer to the last line; none where a line before it was answered with a no.
-fn last_answer(chance: &mut Chance, n: u64, lines: &[Line]) -> Option<Verdict> {
+/// The answer to the last line, and the table then; none where a line before it was answered
+/// with a no.
+fn last_answer(chance: &mut Chance, n: u64, lines: &[Line]) -> Option<(Verdict, Vec<i64>)> {
     let mut session = session_calls::Pair::start(chance, n);
     for (at, &line) in lines.iter().enumerate() {
         let verdict = session.add(chance, line);
         if at + 1 == lines.len() {
-            return Some(verdict);
+            let table = FRONT..session.second.room();
+            return Some((verdict, session.numbers()[table].to_vec()));
         }
         if let Verdict::No(_) = verdict {
             return None;

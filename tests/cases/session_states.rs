@@ -1,17 +1,19 @@
 //! States that no call left: numbers that are no state, states with lines that no rule
 //! allows, and any numbers. Each call ends, with what is due, and a refusal changes
-//! nothing.
+//! nothing. `session_tables.rs` has states whose table is not that of their lines.
 
 use utvpi_tests::buffers::{cut_by, needed, OUTPUTS};
 use utvpi_tests::chance::Chance;
 use utvpi_tests::damage::{fault_sets, faulty_line, first_fault};
 use utvpi_tests::decision::Verdict;
+use utvpi_tests::implied::{self, Implied};
 use utvpi_tests::limits::{session_room, LINE_NUMBERS, MOST_LINES, MOST_VARIABLES};
 use utvpi_tests::lines::{lone, misplaced, zero, X};
 use utvpi_tests::make_lists::small;
 use utvpi_tests::second::Answer::{self, Refused};
-use utvpi_tests::session_calls::{both_calls, met, within_a_minute, Pair};
-use utvpi_tests::sessions::{Session, COUNT, FLAG, HEAD, NO_STATE, VARIABLES};
+use utvpi_tests::session_calls::{both_calls, met, standing, within_a_minute, Pair};
+use utvpi_tests::session_questions::{ask, Answers, Asked};
+use utvpi_tests::sessions::{Head, Session, COUNT, FLAG, HEAD, NO_STATE, VARIABLES};
 
 /// Numbers that do not fit 32 bits, some of which have low bits that look fine.
 const WIDE: [i64; 8] = [
@@ -66,7 +68,8 @@ fn no_states(chance: &mut Chance) -> Vec<Vec<i64>> {
     all
 }
 
-/// Numbers that are no state are refused as 7 at place 6, whatever else is wrong.
+/// Numbers that are no state are refused as 7 at place 6, whatever else is wrong; by the
+/// questions, which look at no line, where the first three or how many there are show it.
 #[test]
 fn numbers_that_are_no_state() {
     within_a_minute(|| {
@@ -75,7 +78,16 @@ fn numbers_that_are_no_state() {
             for (line, short) in [(zero(0), 0), (zero(-1), 1), (lone(2, -1, 0), 1 << OUTPUTS)] {
                 let lengths = cut_by(needed(2), short);
                 let results = both_calls(&mut chance, &numbers, line, lengths);
-                assert_eq!(results, [NO_STATE.code(); 2], "{:?}", &numbers[..HEAD]);
+                let head = numbers.get(..HEAD);
+                assert_eq!(results, [NO_STATE.code(); 2], "{head:?}");
+                let variables = [short as u64, u64::MAX];
+                let answers = ask(&mut chance, &numbers, Asked { line, variables });
+                let refused = Answers {
+                    line: Implied::Refused(7, 6),
+                    pair: implied::Pair::Refused(7, 6),
+                };
+                let shown = Head::read(&numbers).is_none();
+                assert_eq!(answers == refused, shown, "{head:?}");
             }
         }
     });
@@ -145,6 +157,12 @@ fn changed(chance: &mut Chance) -> Vec<i64> {
     if chance.one_in(16) {
         numbers.truncate(chance.below(numbers.len()));
     }
+    // The table of the lines that stand there now.
+    if chance.one_in(2) {
+        if let Some(session) = Session::read(&numbers) {
+            session.write(&mut numbers);
+        }
+    }
     numbers
 }
 
@@ -163,43 +181,54 @@ fn rubbish(chance: &mut Chance) -> Vec<i64> {
     numbers
 }
 
-/// Whatever the numbers are, each call ends, with what is due, and a refusal changes
-/// nothing.
+/// Makes sure that all calls on a state with these numbers end, with what is due, and that a
+/// refusal changes nothing; gives back the number of that of adding a line, if it is one.
+fn all_calls(chance: &mut Chance, numbers: &[i64]) -> Option<u8> {
+    let line = faulty_line(chance, 0);
+    let read = Session::read(numbers);
+    let lengths = needed(read.as_ref().map_or(2, |session| session.n));
+    let due = read
+        .as_ref()
+        .map_or(Some(NO_STATE), |session| session.add_refusal(line, lengths));
+    let [added, withdrawn] = both_calls(chance, numbers, line, lengths);
+    let variables = [0, 1].map(|_| chance.below(4) as u64);
+    ask(chance, numbers, Asked { line, variables });
+    let taken = read.map_or(Err(NO_STATE), |mut session| session.withdraw());
+    assert_eq!(withdrawn, taken.map_or_else(Answer::code, |()| 0));
+    match due {
+        Some(Refused(number, place)) => {
+            assert_eq!(added, Refused(number, place).code());
+            Some(number)
+        }
+        _ => {
+            assert!(added >= 0, "{added}");
+            None
+        }
+    }
+}
+
+/// All calls on states that were changed, and on rubbish.
 #[test]
 fn any_numbers() {
     within_a_minute(|| {
         let mut chance = Chance::new(156);
-        let (mut refused, mut answered) = ([0; 32], 0);
-        for at in 0..20_000 {
-            let numbers = if at % 16 == 0 {
-                rubbish(&mut chance)
-            } else {
-                changed(&mut chance)
+        let (mut refused, mut answered, mut right) = ([0; 32], 0, 0);
+        for at in 0..8_000 {
+            let numbers = match at % 16 {
+                0 => rubbish(&mut chance),
+                _ => changed(&mut chance),
             };
-            let line = faulty_line(&mut chance, 0);
-            let read = Session::read(&numbers);
-            let lengths = needed(read.as_ref().map_or(2, |session| session.n));
-            let due = read
-                .as_ref()
-                .map_or(Some(NO_STATE), |session| session.add_refusal(line, lengths));
-            let [added, withdrawn] = both_calls(&mut chance, &numbers, line, lengths);
-            match due {
-                Some(Refused(number, place)) => {
-                    assert_eq!(added, Refused(number, place).code());
-                    refused[usize::from(number)] += 1;
-                }
-                _ => {
-                    assert!(added >= 0, "{added}");
-                    answered += 1;
-                }
+            if let Some(number) = all_calls(&mut chance, &numbers) {
+                refused[usize::from(number)] += 1;
+            } else {
+                answered += 1;
+                right += usize::from(standing(&numbers).is_some());
             }
-            let taken = read.map_or(Err(NO_STATE), |mut session| session.withdraw());
-            assert_eq!(withdrawn, taken.map_or_else(Answer::code, |()| 0));
         }
-        println!("{answered} answered, refused by number {refused:?}");
-        assert!(answered >= 1_000);
+        println!("{answered} answered, {right} of them right, refused by number {refused:?}");
+        assert!(right >= 400 && answered - right >= 400);
         for number in [4, 5, 6, 7, 12, 13, 30] {
-            assert!(refused[number] >= 100, "refusal {number} in {refused:?}");
+            assert!(refused[number] >= 40, "refusal {number} in {refused:?}");
         }
     });
 }

@@ -6,6 +6,7 @@ use utvpi_tests::buffers::{needed, Buffers, BUFFERS};
 use utvpi_tests::chance::Chance;
 use utvpi_tests::damage::{fault_sets, faulty_line};
 use utvpi_tests::decision::{Reason, Solved, Verdict};
+use utvpi_tests::implied::opposite;
 use utvpi_tests::limits::{MOST_LINES, MOST_N, MOST_VARIABLES};
 use utvpi_tests::lines::{line, lone, misplaced, zero, Line, BOUND};
 use utvpi_tests::make::left_side;
@@ -303,6 +304,36 @@ fn the_most_lines() {
             assert_eq!(pair.withdraw(), Ok(()));
         }
     }
+}
+
+/// Sessions of many variables: lines come and go, among them some that make a no.
+#[test]
+fn many_variables() {
+    let mut chance = Chance::new(147);
+    let (mut yes, mut no) = (0, 0);
+    for (n, count) in [(30, 200), (64, 60), (120, 20), (MOST_N, 12)] {
+        let values: Vec<i64> = (0..n).map(|_| chance.between(-50, 50)).collect();
+        let lines = met(&mut chance, &values, count).lines;
+        let mut pair = Pair::start(&mut chance, n);
+        for line in lines {
+            assert!(matches!(pair.add(&mut chance, line), Verdict::Yes(_)));
+            yes += 1;
+            // What this line forbids, or a line that says nothing new.
+            let last = chance.pick(&[opposite(line), line]);
+            let before = pair.numbers().to_vec();
+            match pair.add(&mut chance, last) {
+                Verdict::No(_) => no += 1,
+                verdict => assert!(matches!(verdict, Verdict::Yes(_) | Verdict::Refused(6, _))),
+            }
+            if pair.second.refuted || chance.one_in(3) {
+                let kept = pair.second.lines.last() == Some(&last);
+                assert_eq!(pair.withdraw(), Ok(()));
+                assert_eq!(pair.numbers() == before, kept);
+            }
+        }
+    }
+    println!("{yes} yes, {no} no");
+    assert!(yes >= 250 && no >= 100);
 }
 
 /// As many lines as there may be, each added, and each withdrawn.

@@ -9,7 +9,7 @@ use utvpi_tests::limits::{LARGEST_BOUND, MOST_CHOICES, MOST_DEPTH, MOST_LINES, M
 use utvpi_tests::lines::{identified, line, lone, of_message, zero, Line, BOUND};
 use utvpi_tests::make::left_side;
 use utvpi_tests::make_lists::{near_zero, small, tied};
-use utvpi_tests::make_trees::Shape;
+use utvpi_tests::make_trees::{list_to_pick_from, Shape};
 use utvpi_tests::tree_calls::{lines_of, Asked, First};
 use utvpi_tests::trees::{all_lines, any_line, deepest, Picked, Tree};
 use utvpi_tests::{brute, closure, make_lists};
@@ -193,17 +193,7 @@ fn larger_trees() {
     let mut seen = Seen::default();
     for round in 0..400 {
         let n = chance.pick(&[2, 3, 5, 8, 13]);
-        let mut lines = if round % 2 == 0 {
-            make_lists::Shape::of(&mut chance, n).list(&mut chance)
-        } else {
-            let values = near_zero(&mut chance, n);
-            tied(&mut chance, &values)
-        };
-        // Behind them lines of which two clash, two do by halves, and one is false.
-        let own = lines.len();
-        let more = [lone(-1, 0, -4), lone(1, 0, 3), zero(-3)];
-        let halves = [line(1, 1, 1, 1, 7), line(-1, 1, -1, 1, -7)];
-        lines.extend(identified(&[&more[..], &halves].concat()));
+        let (lines, own) = list_to_pick_from(&mut chance, n, round % 2 == 1);
         let shape = Shape::of(&mut chance, lines.len());
         let tree = shape.full_tree(&mut chance, own, MOST_CHOICES);
         let list = (n, &lines[..]);

@@ -113,8 +113,28 @@ impl Buffers {
 
     /// Buffers long enough for n variables, some of them longer.
     pub fn enough(chance: &mut Chance, n: u64) -> Buffers {
-        let lengths = needed(n).map(|length| length + chance.pick(&[0, 0, 1, 7]));
+        Buffers::at_least(chance, needed(n))
+    }
+
+    /// Buffers of these lengths, some of them longer.
+    pub fn at_least(chance: &mut Chance, lengths: Lengths) -> Buffers {
+        let lengths = lengths.map(|length| length + chance.pick(&[0, 0, 1, 7]));
         Buffers::new(chance, lengths)
+    }
+
+    /// Others with the numbers of these within such rooms.
+    pub fn within(&self, rooms: Lengths, others: &Buffers) -> Buffers {
+        fn put<T: Copy>(room: usize, from: &Guarded<T>, to: &mut Guarded<T>) {
+            to.lent_mut()[..room].copy_from_slice(&from.lent()[..room]);
+        }
+        let mut both = others.clone();
+        put(rooms[0], &self.model, &mut both.model);
+        put(rooms[1], &self.bounds, &mut both.bounds);
+        put(rooms[2], &self.groups, &mut both.groups);
+        put(rooms[3], &self.refutation, &mut both.refutation);
+        put(rooms[4], &self.identifiers, &mut both.identifiers);
+        put(rooms[5], &self.work, &mut both.work);
+        both
     }
 
     pub fn lengths(&self) -> Lengths {
@@ -145,6 +165,11 @@ impl Buffers {
         library::decide(n, list, self.lent())
     }
 
+    /// The result of deciding a list of differences in these buffers.
+    pub fn differences(&mut self, n: u64, list: &[i32]) -> i64 {
+        library::decide_differences(n, list, self.lent())
+    }
+
     /// What two variables of a list imply about each other, with this work area.
     pub fn implied_pair(&mut self, n: u64, list: &[i32], [x, y]: [u64; 2]) -> ImpliedPair {
         library::implied_pair(n, list, x, y, self.work.lent_mut())
@@ -154,6 +179,14 @@ impl Buffers {
     pub fn implied_line(&mut self, n: u64, list: &[i32], line: Line) -> i64 {
         let (model, work) = (&mut self.model, &mut self.work);
         library::implied_line(n, list, line, model.lent_mut(), work.lent_mut())
+    }
+
+    /// The result of showing a line, with this refutation, these identifiers and this work
+    /// area.
+    pub fn show_line(&mut self, n: u64, list: &[i32], line: Line) -> i64 {
+        let (refutation, identifiers) = (&mut self.refutation, &mut self.identifiers);
+        let (refutation, identifiers) = (refutation.lent_mut(), identifiers.lent_mut());
+        library::show_line(n, list, line, refutation, identifiers, self.work.lent_mut())
     }
 
     /// The first choice of a tree that can be met, with this model and this work area.

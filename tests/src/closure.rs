@@ -49,6 +49,21 @@ pub fn distances(n: usize, lines: &[Line]) -> Option<Distances> {
     solvable.then_some(Distances(square))
 }
 
+/// The least sums of walks between all points, in the row of a point those to it, with the
+/// highest number where there is no walk; none where a closed walk is negative.
+pub fn table(n: usize, lines: &[Line]) -> Option<Vec<i64>> {
+    let mut square = Square::new(n, lines);
+    if !square.close() {
+        return None;
+    }
+    let ends = (0..2 * n).flat_map(|to| (0..2 * n).map(move |from| (from, to)));
+    let sums = ends.map(|(from, to)| match square.at(from, to) {
+        NONE => i64::MAX,
+        sum => sum,
+    });
+    Some(sums.collect())
+}
+
 impl Distances {
     /// The greatest x + y, x - y, -x + y and -x - y: of a point and the opposite of another.
     pub fn sums(&self, x: usize, y: usize) -> Sums {

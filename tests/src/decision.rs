@@ -1,7 +1,7 @@
 //! Decides a list with the library and makes sure of all that must hold of any
 //! answer: that both checkers accept it, and that nothing else is written.
 
-use crate::buffers::{needed, Buffers};
+use crate::buffers::{needed, Buffers, Lengths};
 use crate::bytes;
 use crate::chance::Chance;
 use crate::limits::NO;
@@ -88,6 +88,7 @@ pub fn decide_in(buffers: &mut Buffers, n: u64, list: &[i32]) -> Decision {
         list,
         due,
         result,
+        rooms: needed,
     };
     call.decision(&before, buffers)
 }
@@ -99,6 +100,8 @@ pub struct Call<'a> {
     pub list: &'a [i32],
     pub due: Option<Answer>,
     pub result: i64,
+    /// The rooms of the buffers for n variables.
+    pub rooms: fn(u64) -> Lengths,
 }
 
 impl Call<'_> {
@@ -109,6 +112,7 @@ impl Call<'_> {
             list,
             due,
             result,
+            rooms,
         } = *self;
         let shown = || format!("n: {n}\nlist: {list:?}");
         let mut allowed = before.clone();
@@ -120,8 +124,8 @@ impl Call<'_> {
                 };
                 Decision::only(Verdict::Refused(number, place))
             }
-            (None, 0) => yes(n, list, buffers, &mut allowed),
-            (None, A_NO) => no(n, list, buffers, &mut allowed),
+            (None, 0) => yes(n, list, rooms(n), buffers, &mut allowed),
+            (None, A_NO) => no(n, list, rooms(n), buffers, &mut allowed),
             (None, _) => panic!("the result is {result}\n{}", shown()),
         };
         if *buffers != allowed {
@@ -140,9 +144,9 @@ pub fn widened(values: &[i32]) -> Vec<i64> {
     values.iter().copied().map(i64::from).collect()
 }
 
-/// Reads a yes, and lets `allowed` have what may be written with it.
-fn yes(n: u64, list: &[i32], buffers: &Buffers, allowed: &mut Buffers) -> Decision {
-    let [model, bounds, groups, .., work] = needed(n);
+/// Reads a yes, and lets `allowed` have what may be written with it, in these rooms.
+fn yes(n: u64, list: &[i32], rooms: Lengths, buffers: &Buffers, allowed: &mut Buffers) -> Decision {
+    let [model, bounds, groups, .., work] = rooms;
     let values = &buffers.model.lent()[..model];
     let solved = Solved {
         model: widened(values),
@@ -169,9 +173,9 @@ fn groups_of(numbers: &[u32]) -> Vec<Group> {
     numbers.chunks(2).map(group).collect()
 }
 
-/// Reads a no, and lets `allowed` have what may be written with it.
-fn no(n: u64, list: &[i32], buffers: &Buffers, allowed: &mut Buffers) -> Decision {
-    let [_, _, _, room, _, work] = needed(n);
+/// Reads a no, and lets `allowed` have what may be written with it, in these rooms.
+fn no(n: u64, list: &[i32], rooms: Lengths, buffers: &Buffers, allowed: &mut Buffers) -> Decision {
+    let [_, _, _, room, _, work] = rooms;
     let lent = &buffers.refutation.lent()[..room];
     let shown = || format!("n: {n}\nlist: {list:?}\nrefutation: {lent:?}");
     let steps = u64::from(lent[1]) + u64::from(lent[2]);

@@ -5,6 +5,7 @@ use crate::buffers::{needed, Buffers};
 use crate::bytes;
 use crate::chance::Chance;
 use crate::decision::{widened, Verdict};
+use crate::library::ImpliedPair;
 use crate::limits::{LINE_NUMBERS, NO, UNSOLVABLE};
 use crate::lines::{line, Line, BOUND, X, Y};
 use crate::make::left_side;
@@ -28,6 +29,14 @@ pub enum Implied {
     No(Vec<i64>),
     Unsolvable,
     Refused(u8, usize),
+}
+
+impl From<Answer> for Implied {
+    /// A refusal.
+    fn from(refused: Answer) -> Implied {
+        let (number, place) = parts(refused);
+        Implied::Refused(number, place)
+    }
 }
 
 /// The lengths that the model and the work area for n variables have to have.
@@ -75,15 +84,10 @@ fn parts(refused: Answer) -> (u8, usize) {
     }
 }
 
-/// Asks for two variables with a work area of this length.
-pub fn pair_in(chance: &mut Chance, n: u64, list: &[i32], [x, y]: [u64; 2], work: usize) -> Pair {
-    let mut buffers = lent(chance, 0, work);
-    let mut allowed = buffers.clone();
-    let read = list.to_vec();
-    let found = buffers.implied_pair(n, list, [x, y]);
-    let shown = || format!("{found:?}\nn: {n}, x: {x}, y: {y}\nlist: {list:?}");
+/// What asking for two variables returned, where this is what it is to be refused with, if it
+/// is to: the four numbers must be 0 unless they are the answer.
+pub fn read_pair(found: ImpliedPair, due: Option<Answer>, shown: impl Fn() -> String) -> Pair {
     let sums: Sums = [found.plus, found.minus].concat().try_into().unwrap();
-    let due = pair_refusal(n, list, x, y, work);
     let pair = match (due, found.result) {
         (Some(refused), result) => {
             assert_eq!(result, refused.code(), "{refused:?} is due\n{}", shown());
@@ -99,6 +103,18 @@ pub fn pair_in(chance: &mut Chance, n: u64, list: &[i32], [x, y]: [u64; 2], work
     if !matches!(pair, Pair::Sums(_)) {
         assert_eq!(sums, [0; 4], "{}", shown());
     }
+    pair
+}
+
+/// Asks for two variables with a work area of this length.
+pub fn pair_in(chance: &mut Chance, n: u64, list: &[i32], [x, y]: [u64; 2], work: usize) -> Pair {
+    let mut buffers = lent(chance, 0, work);
+    let mut allowed = buffers.clone();
+    let read = list.to_vec();
+    let found = buffers.implied_pair(n, list, [x, y]);
+    let shown = || format!("{found:?}\nn: {n}, x: {x}, y: {y}\nlist: {list:?}");
+    let due = pair_refusal(n, list, x, y, work);
+    let pair = read_pair(found, due, shown);
     if due.is_none() {
         allowed.work.lent_mut()[..rooms(n)[1]].fill(0);
     }
@@ -131,8 +147,7 @@ pub fn implied_in(
     let implied = match (due, result) {
         (Some(refused), _) => {
             assert_eq!(result, refused.code(), "{refused:?} is due\n{}", shown());
-            let (number, place) = parts(refused);
-            Implied::Refused(number, place)
+            refused.into()
         }
         (None, 0) => Implied::Yes,
         (None, _) if result == NO as i64 => {

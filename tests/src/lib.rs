@@ -9,6 +9,7 @@ pub mod chance;
 pub mod closure;
 pub mod damage;
 pub mod decision;
+pub mod differences;
 pub mod document;
 pub mod files;
 pub mod implied;
@@ -24,8 +25,12 @@ pub mod second;
 pub mod seconds;
 pub mod seen;
 pub mod session_calls;
+pub mod session_questions;
 pub mod sessions;
+pub mod short_buffers;
 pub mod shorter;
+pub mod showing;
+pub mod stack;
 pub mod tree_calls;
 pub mod trees;
 
@@ -56,6 +61,25 @@ pub fn refutation(n: u64, list: &[u8], refutation: &[u8]) -> Answer {
             list,
             "refutation",
             bytes::show(refutation, NUMBER_BYTES),
+        );
+    }
+    answer
+}
+
+/// The answer on a showing, after making sure that the library and the second
+/// implementation agree on it.
+pub fn shown(n: u64, list: &[u8], line: &[u8], showing: &[u8]) -> Answer {
+    let answer = second::check_shown(n, list, line, showing);
+    let result = library::check_shown(n, list, line, showing);
+    if result != answer.code() {
+        let proposed = [line, showing].map(|bytes| bytes::show(bytes, NUMBER_BYTES));
+        differ(
+            result,
+            answer,
+            n,
+            list,
+            "line and showing",
+            proposed.join("; "),
         );
     }
     answer

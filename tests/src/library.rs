@@ -121,6 +121,24 @@ extern "C" {
         work_len: usize,
     ) -> i64;
 
+    fn utvpi_decide_differences(
+        n: u64,
+        list: *const i32,
+        list_len: usize,
+        model: *mut i32,
+        model_len: usize,
+        bounds: *mut i64,
+        bounds_len: usize,
+        groups: *mut u32,
+        groups_len: usize,
+        refutation: *mut u32,
+        refutation_len: usize,
+        identifiers: *mut u32,
+        identifiers_len: usize,
+        work: *mut i64,
+        work_len: usize,
+    ) -> i64;
+
     fn utvpi_session_start(n: u64, state: *mut i64, state_len: usize) -> i64;
 
     fn utvpi_session_add(
@@ -143,6 +161,10 @@ extern "C" {
 
     fn utvpi_session_withdraw(state: *mut i64, state_len: usize) -> i64;
 
+    fn utvpi_session_pair(state: *const i64, state_len: usize, x: u64, y: u64) -> ImpliedPair;
+
+    fn utvpi_session_implied(state: *const i64, state_len: usize, line: LineByValue) -> i64;
+
     fn utvpi_implied_pair(
         n: u64,
         list: *const i32,
@@ -162,6 +184,29 @@ extern "C" {
         model_len: usize,
         work: *mut i64,
         work_len: usize,
+    ) -> i64;
+
+    fn utvpi_show_line(
+        n: u64,
+        list: *const i32,
+        list_len: usize,
+        line: LineByValue,
+        refutation: *mut u32,
+        refutation_len: usize,
+        identifiers: *mut u32,
+        identifiers_len: usize,
+        work: *mut i64,
+        work_len: usize,
+    ) -> i64;
+
+    fn utvpi_check_shown(
+        n: u64,
+        list: *const u8,
+        list_len: usize,
+        line: *const u8,
+        line_len: usize,
+        showing: *const u8,
+        showing_len: usize,
     ) -> i64;
 
     fn utvpi_tree_first(
@@ -302,11 +347,30 @@ pub struct Lent<'a> {
     pub work: &'a mut [i64],
 }
 
-/// The result of `utvpi_decide`.
-pub fn decide(n: u64, list: &[i32], lent: Lent) -> i64 {
+/// What both functions that decide take and return.
+type Deciding = unsafe extern "C" fn(
+    u64,
+    *const i32,
+    usize,
+    *mut i32,
+    usize,
+    *mut i64,
+    usize,
+    *mut u32,
+    usize,
+    *mut u32,
+    usize,
+    *mut u32,
+    usize,
+    *mut i64,
+    usize,
+) -> i64;
+
+/// The result of the one or the other.
+fn decide_by(function: Deciding, n: u64, list: &[i32], lent: Lent) -> i64 {
     // The function stays within the lengths and keeps no pointer.
     unsafe {
-        utvpi_decide(
+        function(
             n,
             list.as_ptr(),
             list.len(),
@@ -324,6 +388,16 @@ pub fn decide(n: u64, list: &[i32], lent: Lent) -> i64 {
             lent.work.len(),
         )
     }
+}
+
+/// The result of `utvpi_decide`.
+pub fn decide(n: u64, list: &[i32], lent: Lent) -> i64 {
+    decide_by(utvpi_decide, n, list, lent)
+}
+
+/// The result of `utvpi_decide_differences`.
+pub fn decide_differences(n: u64, list: &[i32], lent: Lent) -> i64 {
+    decide_by(utvpi_decide_differences, n, list, lent)
 }
 
 /// The result of `utvpi_session_start`.
@@ -362,6 +436,18 @@ pub fn session_withdraw(state: &mut [i64]) -> i64 {
     unsafe { utvpi_session_withdraw(state.as_mut_ptr(), state.len()) }
 }
 
+/// What `utvpi_session_pair` returns.
+pub fn session_pair(state: &[i64], x: u64, y: u64) -> ImpliedPair {
+    // The function stays within the length and keeps no pointer.
+    unsafe { utvpi_session_pair(state.as_ptr(), state.len(), x, y) }
+}
+
+/// The result of `utvpi_session_implied`.
+pub fn session_implied(state: &[i64], line: Line) -> i64 {
+    // The function stays within the length and keeps no pointer.
+    unsafe { utvpi_session_implied(state.as_ptr(), state.len(), LineByValue::new(line)) }
+}
+
 /// What `utvpi_implied_pair` returns.
 pub fn implied_pair(n: u64, list: &[i32], x: u64, y: u64, work: &mut [i64]) -> ImpliedPair {
     // The function stays within the lengths and keeps no pointer.
@@ -391,6 +477,48 @@ pub fn implied_line(n: u64, list: &[i32], line: Line, model: &mut [i32], work: &
             model.len(),
             work.as_mut_ptr(),
             work.len(),
+        )
+    }
+}
+
+/// The result of `utvpi_show_line`.
+pub fn show_line(
+    n: u64,
+    list: &[i32],
+    line: Line,
+    refutation: &mut [u32],
+    identifiers: &mut [u32],
+    work: &mut [i64],
+) -> i64 {
+    // The function stays within the lengths and keeps no pointer.
+    unsafe {
+        utvpi_show_line(
+            n,
+            list.as_ptr(),
+            list.len(),
+            LineByValue::new(line),
+            refutation.as_mut_ptr(),
+            refutation.len(),
+            identifiers.as_mut_ptr(),
+            identifiers.len(),
+            work.as_mut_ptr(),
+            work.len(),
+        )
+    }
+}
+
+/// The result of `utvpi_check_shown`.
+pub fn check_shown(n: u64, list: &[u8], line: &[u8], showing: &[u8]) -> i64 {
+    // The function only reads, within the lengths.
+    unsafe {
+        utvpi_check_shown(
+            n,
+            list.as_ptr(),
+            list.len(),
+            line.as_ptr(),
+            line.len(),
+            showing.as_ptr(),
+            showing.len(),
         )
     }
 }

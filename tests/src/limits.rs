@@ -8,8 +8,9 @@
 // SHORTER_NEITHER, SHORTER_FIRST and SHORTER_SECOND; LINE_NUMBERS; of files
 // RECORD_HEAD, VARIABLES_BYTES, KIND_VARIABLES, KIND_LINE, KIND_END and
 // KIND_IDENTIFIED_LINE; of results NO, UNSOLVABLE and REFUSAL_UNIT; rooms(n), the room
-// that each buffer of deciding needs, in their order; and session_room(n), that of a
-// session's state: build.rs reads them.
+// that each buffer of deciding needs, in their order; differences_work_room(n), that of the
+// work area for differences; session_room(n), that of a session's state; and
+// most_shown_bound(n), the greatest bound of a shown line: build.rs reads them.
 include!(concat!(env!("OUT_DIR"), "/limits.rs"));
 
 /// The most variables, as n is given, and the number of the last of them.

@@ -1,9 +1,28 @@
 //! Makes trees at random: some that are not refused, some with many choices, some too deep;
-//! and damages their numbers.
+//! lists for them; and damages their numbers.
 
 use crate::chance::Chance;
 use crate::limits::MOST_DEPTH;
+use crate::lines::{identified, line, lone, zero, Line};
+use crate::make_lists::{self, near_zero, tied};
 use crate::trees::{Tree, ALL_OF, ANY_OF, LEAF};
+
+/// A list of n variables, at least two, whose lines trees pick from: with variables that are
+/// tied, or of any shape; behind so many of these lines of which two clash, two do by halves,
+/// and one is false.
+pub fn list_to_pick_from(chance: &mut Chance, n: u64, with_ties: bool) -> (Vec<Line>, usize) {
+    let mut lines = if with_ties {
+        let values = near_zero(chance, n);
+        tied(chance, &values)
+    } else {
+        make_lists::Shape::of(chance, n).list(chance)
+    };
+    let own = lines.len();
+    let more = [lone(-1, 0, -4), lone(1, 0, 3), zero(-3)];
+    let halves = [line(1, 1, 1, 1, 7), line(-1, 1, -1, 1, -7)];
+    lines.extend(identified(&[&more[..], &halves].concat()));
+    (lines, own)
+}
 
 /// What a tree is made of: over how many lines, how deep at most, with how many children of
 /// a node at most.

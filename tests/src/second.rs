@@ -4,7 +4,9 @@
 //! then looks at them rule by rule.
 
 use crate::buffers::{needed, Lengths, BUFFERS, OUTPUTS};
-use crate::limits::{LARGEST_BOUND, LARGEST_VALUE, LAST_IDENTIFIER, LINE_BYTES, LINE_NUMBERS};
+use crate::limits::{
+    most_shown_bound, LARGEST_BOUND, LARGEST_VALUE, LAST_IDENTIFIER, LINE_BYTES, LINE_NUMBERS,
+};
 use crate::limits::{MOST_LINES, MOST_N, MOST_REFUTATION, NO, NUMBER_BYTES, REFUSAL_UNIT};
 
 const MOST_REFUTATION_BYTES: usize = NUMBER_BYTES * MOST_REFUTATION;
@@ -44,8 +46,13 @@ struct Line {
 }
 
 impl Line {
-    /// The number of the refusal that this line asks for, if any.
+    /// The number of the refusal that this line asks for, if any, as a line of a list.
     fn refusal(&self, n: u64) -> Option<u8> {
+        self.refusal_within(n, LARGEST_BOUND)
+    }
+
+    /// The same with this greatest bound.
+    fn refusal_within(&self, n: u64, largest: i64) -> Option<u8> {
         let coefficient_ok = |c: i32| [-1, 0, 1].contains(&c);
         let variable_ok = |c: i32, v: i32| {
             if c == 0 {
@@ -60,7 +67,7 @@ impl Line {
             Some(5)
         } else if self.a == 0 && self.b != 0 {
             Some(12)
-        } else if i64::from(self.d).abs() > LARGEST_BOUND {
+        } else if i64::from(self.d).abs() > largest {
             Some(6)
         } else if self.identifier < 0 || self.identifier > LAST_IDENTIFIER {
             Some(13)
@@ -150,6 +157,15 @@ fn lines_of(numbers: &[i32]) -> Vec<Line> {
     numbers.chunks(LINE_NUMBERS).map(line).collect()
 }
 
+/// The lines whose bytes these are.
+fn lines_in(bytes: &[u8]) -> Vec<Line> {
+    let numbers: Vec<i32> = bytes
+        .chunks(NUMBER_BYTES)
+        .map(|four| i32::from_le_bytes(four.try_into().unwrap()))
+        .collect();
+    lines_of(&numbers)
+}
+
 /// The list's lines, or what it is refused with.
 fn read_list(n: u64, list: &[u8]) -> Result<Vec<Line>, Answer> {
     if n > MOST_N {
@@ -161,11 +177,7 @@ fn read_list(n: u64, list: &[u8]) -> Result<Vec<Line>, Answer> {
     if list.len() / LINE_BYTES > MOST_LINES {
         return Err(Answer::Refused(3, 0));
     }
-    let numbers: Vec<i32> = list
-        .chunks(NUMBER_BYTES)
-        .map(|four| i32::from_le_bytes(four.try_into().unwrap()))
-        .collect();
-    let lines = lines_of(&numbers);
+    let lines = lines_in(list);
     for (place, line) in lines.iter().enumerate() {
         if let Some(number) = line.refusal(n) {
             return Err(Answer::Refused(number, place));
@@ -206,6 +218,67 @@ pub fn check_refutation(n: u64, list: &[u8], refutation: &[u8]) -> Answer {
             Some((place, _)) => Answer::No(place),
             None => Answer::Yes,
         },
+    }
+}
+
+/// What `utvpi_check_shown` is to answer: the showing is a refutation of the list with
+/// zero, zero lines up to the most lines and the opposite line behind these.
+pub fn check_shown(n: u64, list: &[u8], line: &[u8], showing: &[u8]) -> Answer {
+    let mut lines = match read_list(n, list) {
+        Ok(lines) => lines,
+        Err(refused) => return refused,
+    };
+    let line = match read_shown(n, lines.len(), line) {
+        Ok(line) => line,
+        Err(refused) => return refused,
+    };
+    if showing.len() > MOST_REFUTATION_BYTES {
+        return Answer::Refused(11, 0);
+    }
+    let nothing = lines_of(&[0; LINE_NUMBERS])[0];
+    lines.resize(MOST_LINES, nothing);
+    lines.push(Line {
+        a: -line.a,
+        b: -line.b,
+        d: -line.d - 1,
+        ..line
+    });
+    match break_in(&lines, showing) {
+        Some((place, _)) => Answer::No(place),
+        None => Answer::Yes,
+    }
+}
+
+/// The line that is to be shown behind so many lines, or what it is refused with.
+fn read_shown(n: u64, place: usize, line: &[u8]) -> Result<Line, Answer> {
+    if line.len() != LINE_BYTES {
+        return Err(Answer::Refused(2, place));
+    }
+    let line = lines_in(line)[0];
+    match line.refusal_within(n, most_shown_bound(n as usize) as i64) {
+        Some(number) => Err(Answer::Refused(number, place)),
+        None => Ok(line),
+    }
+}
+
+/// What `utvpi_show_line` is to refuse, if it is to, in buffers of these lengths: those of
+/// the refutation, the identifiers and the work area.
+pub fn show_refusal(n: u64, list: &[i32], line: &[i32], lengths: [usize; 3]) -> Option<Answer> {
+    if let Some(refused) = list_refusal(n, list) {
+        return Some(refused);
+    }
+    let shown = lines_of(line)[0];
+    if let Some(number) = shown.refusal_within(n, most_shown_bound(n as usize) as i64) {
+        return Some(Answer::Refused(number, list.len() / LINE_NUMBERS));
+    }
+    let [.., refutation, identifiers, work] = needed(n);
+    let short = |at: usize, room: usize| lengths[at] < room;
+    if short(0, refutation) {
+        Some(Answer::Refused(7, 4))
+    } else if short(1, identifiers) {
+        Some(Answer::Refused(7, 5))
+    } else {
+        short(2, work).then_some(Answer::Refused(8, 0))
     }
 }
 
@@ -255,10 +328,12 @@ pub fn list_refusal(n: u64, list: &[i32]) -> Option<Answer> {
 /// What `utvpi_decide` is to refuse this list with, if it is to, in buffers of these
 /// lengths.
 pub fn decide_refusal(n: u64, list: &[i32], lengths: Lengths) -> Option<Answer> {
-    if let Some(refused) = list_refusal(n, list) {
-        return Some(refused);
-    }
-    match (0..BUFFERS).find(|&at| lengths[at] < needed(n)[at])? {
+    list_refusal(n, list).or_else(|| short_refusal(needed(n), lengths))
+}
+
+/// What buffers of these lengths are refused with, if they are, where these are needed.
+pub fn short_refusal(needed: Lengths, lengths: Lengths) -> Option<Answer> {
+    match (0..BUFFERS).find(|&at| lengths[at] < needed[at])? {
         OUTPUTS => Some(Answer::Refused(8, 0)),
         output => Some(Answer::Refused(7, output + 1)),
     }

@@ -6,15 +6,16 @@ use std::sync::mpsc::{channel, RecvTimeoutError};
 use std::thread;
 use std::time::Duration;
 
-use crate::buffers::{Buffers, Guarded, Lengths};
+use crate::buffers::{needed, Buffers, Guarded, Lengths};
 use crate::chance::Chance;
 use crate::closure;
 use crate::decision::{decide, Call, Decision, Verdict};
 use crate::library;
+use crate::limits::LINE_NUMBERS;
 use crate::lines::Line;
 use crate::make::lines_met_by;
 use crate::second::Answer;
-use crate::sessions::Session;
+use crate::sessions::{Session, FRONT, HEAD};
 
 /// Both.
 #[derive(Clone, Debug)]
@@ -24,6 +25,9 @@ pub struct Pair {
     state: Guarded<i64>,
     due: Guarded<i64>,
     pub second: Session,
+    /// Whether calls can lead to the state. Of one to which they can't, any numbers may be
+    /// the table.
+    stands: bool,
 }
 
 impl Pair {
@@ -36,6 +40,7 @@ impl Pair {
             due: state.clone(),
             state,
             second,
+            stands: true,
         };
         pair.start_again(n);
         pair
@@ -45,14 +50,29 @@ impl Pair {
     pub fn at(chance: &mut Chance, second: Session) -> Pair {
         let mut pair = Pair::start(chance, second.n);
         second.write(pair.state.lent_mut());
-        Pair { second, ..pair }
+        second.write(pair.due.lent_mut());
+        let stands = second.stands();
+        Pair {
+            second,
+            stands,
+            ..pair
+        }
     }
 
     /// Starts a session where this one was.
     pub fn start_again(&mut self, n: u64) {
         assert_eq!(library::session_start(n, self.state.lent_mut()), 0);
         self.second = Session::new(n);
+        self.stands = true;
+        self.second.write(self.due.lent_mut());
         self.must_be_due();
+    }
+
+    /// Has other numbers written to the table of the state, which is none then.
+    pub fn spoil(&mut self, write: impl FnOnce(&mut [i64])) {
+        let table = FRONT..self.second.room();
+        write(&mut self.state.lent_mut()[table]);
+        self.stands = false;
     }
 
     /// The numbers of the state and those behind it.
@@ -62,7 +82,10 @@ impl Pair {
 
     /// Makes sure that the state, all that is behind it and the guards are as is due.
     fn must_be_due(&mut self) {
-        self.second.write(self.due.lent_mut());
+        if !self.stands {
+            let table = FRONT..self.second.room();
+            self.due.lent_mut()[table.clone()].copy_from_slice(&self.state.lent()[table]);
+        }
         if self.state != self.due {
             let pairs = self.state.lent().iter().zip(self.due.lent());
             let place = pairs.take_while(|(found, due)| found == due).count();
@@ -83,11 +106,13 @@ impl Pair {
             list: lines.as_flattened(),
             due,
             result: buffers.add(self.state.lent_mut(), line),
+            rooms: needed,
         };
         let decision = call.decision(&before, buffers);
         if due.is_none() {
             let refuted = matches!(decision.verdict, Verdict::No(_));
             self.second.add(line, refuted);
+            self.second.write(self.due.lent_mut());
         }
         self.must_be_due();
         decision
@@ -110,6 +135,9 @@ impl Pair {
         let due = self.second.withdraw();
         let code = due.map_or_else(Answer::code, |()| 0);
         assert_eq!(library::session_withdraw(self.state.lent_mut()), code);
+        if due.is_ok() {
+            self.second.write(self.due.lent_mut());
+        }
         self.must_be_due();
         due
     }
@@ -125,42 +153,109 @@ pub fn met(chance: &mut Chance, values: &[i64], count: usize) -> Session {
 }
 
 /// A buffer with these numbers, between guards.
-fn lent(chance: &mut Chance, numbers: &[i64]) -> Guarded<i64> {
-    let mut state = Guarded::new(numbers.len(), || chance.next() as i64);
+pub fn lent(chance: &mut Chance, numbers: &[i64]) -> Guarded<i64> {
+    let guard = chance.next() as i64;
+    let mut state = Guarded::new(numbers.len(), || guard);
     state.lent_mut().copy_from_slice(numbers);
     state
 }
 
+/// The session whose state these numbers begin with, if calls can lead to it.
+pub fn standing(numbers: &[i64]) -> Option<Session> {
+    let session = Session::read(numbers)?;
+    let table = session.table()?;
+    let behind = &numbers[HEAD + LINE_NUMBERS * session.lines.len()..FRONT];
+    let zeros = behind.iter().all(|&number| number == 0);
+    let is_due = zeros && numbers[FRONT..].starts_with(&table) && session.stands();
+    is_due.then_some(session)
+}
+
+/// Makes sure that a call left a state as it was but for the head, the numbers of the line
+/// that came or went, whose number this is, and the table: they must be those of a session.
+/// Where no calls lead to what the state was before, any numbers may be the table.
+fn left_as(session: &Session, line: usize, before: &Guarded<i64>, state: &Guarded<i64>) {
+    let mut due = before.clone();
+    let numbers = due.lent_mut();
+    let mut front = vec![0; FRONT];
+    session.write_front(&mut front);
+    let at = HEAD + LINE_NUMBERS * line;
+    for part in [0..HEAD, at..at + LINE_NUMBERS] {
+        numbers[part.clone()].copy_from_slice(&front[part]);
+    }
+    let room = FRONT..session.room();
+    let table = match standing(before.lent()) {
+        Some(_) => session.table().unwrap(),
+        None => state.lent()[room.clone()].to_vec(),
+    };
+    numbers[room].copy_from_slice(&table);
+    assert!(*state == due, "{session:?}");
+}
+
 /// The results of adding a line, in buffers of these lengths, and of withdrawing, each to
-/// a state with these numbers. A refusal must leave all as it was; else the state must be
-/// taken for the session with the line, or without its last, and the answer must be that
-/// to all its lines.
+/// a state with these numbers.
 pub fn both_calls(chance: &mut Chance, numbers: &[i64], line: Line, lengths: Lengths) -> [i64; 2] {
-    let state = lent(chance, numbers);
-    let mut without = state.clone();
-    let withdrawn = library::session_withdraw(without.lent_mut());
-    let mut with = state.clone();
-    let mut buffers = Buffers::new(chance, lengths);
-    let before = buffers.clone();
-    let added = buffers.add(with.lent_mut(), line);
-    if withdrawn < 0 {
-        assert!(without == state, "{withdrawn}");
+    let (withdrawn, _) = withdraw_from(chance, numbers);
+    let (added, _) = add_to(chance, numbers, line, lengths);
+    [added, withdrawn]
+}
+
+/// The result of withdrawing a line from a state with these numbers, and what it is then. A
+/// refusal must leave all as it was; else the state must be that of the session without its
+/// last line.
+pub fn withdraw_from(chance: &mut Chance, numbers: &[i64]) -> (i64, Vec<i64>) {
+    let mut state = lent(chance, numbers);
+    let before = state.clone();
+    let result = library::session_withdraw(state.lent_mut());
+    if result < 0 {
+        assert!(state == before, "{result}");
     } else {
         let mut session = Session::read(numbers).unwrap();
         assert_eq!(session.withdraw(), Ok(()));
-        assert_eq!(Session::read(without.lent()), Some(session));
-        assert!(without.has_guards_of(&state));
+        left_as(&session, session.lines.len(), &before, &state);
     }
-    if added < 0 {
-        assert!(with == state && buffers == before, "{added}");
+    (result, state.lent().to_vec())
+}
+
+/// The result of adding a line, in buffers of these lengths, to a state with these numbers,
+/// and what it is then. A refusal must leave all as it was; else the state must be that of the
+/// session with the line, and the answer that to all its lines; of numbers to which no calls
+/// lead, a yes may be wrong.
+pub fn add_to(
+    chance: &mut Chance,
+    numbers: &[i64],
+    line: Line,
+    lengths: Lengths,
+) -> (i64, Vec<i64>) {
+    let mut state = lent(chance, numbers);
+    let before = state.clone();
+    let mut buffers = Buffers::new(chance, lengths);
+    let old = buffers.clone();
+    let result = buffers.add(state.lent_mut(), line);
+    if result < 0 {
+        assert!(state == before && buffers == old, "{result}");
     } else {
         let mut session = Session::read(numbers).unwrap();
-        session.add(line, added > 0);
-        answers(&session, added, &before, &buffers);
-        assert_eq!(Session::read(with.lent()), Some(session));
-        assert!(with.has_guards_of(&state));
+        session.add(line, result > 0);
+        match standing(numbers) {
+            Some(_) => answers(&session, result, &old, &buffers),
+            None => no_or_any_yes(&session, result, &old, &buffers),
+        }
+        left_as(&session, session.lines.len() - 1, &before, &state);
     }
-    [added, withdrawn]
+    (result, state.lent().to_vec())
+}
+
+/// Makes sure that this result, and what is left in the buffers, is a no to all lines of a
+/// session, whatever its table was, or a yes that may be wrong: then nothing is written but
+/// the rooms of model, bounds and groups, and that of the work area is all zeros.
+fn no_or_any_yes(session: &Session, result: i64, before: &Buffers, buffers: &Buffers) {
+    if result != 0 {
+        return answers(session, result, before, buffers);
+    }
+    let [model, bounds, groups, .., work] = needed(session.n);
+    let mut allowed = buffers.within([model, bounds, groups, 0, 0, 0], before);
+    allowed.work.lent_mut()[..work].fill(0);
+    assert!(*buffers == allowed, "{session:?}");
 }
 
 /// Makes sure that this result, and what is left in the buffers, answer to all lines of
@@ -171,6 +266,7 @@ fn answers(session: &Session, result: i64, before: &Buffers, buffers: &Buffers) 
         list: session.lines.as_flattened(),
         due: None,
         result,
+        rooms: needed,
     };
     let verdict = closure::verdict(session.n as usize, &session.lines);
     assert_eq!(call.decision(before, buffers).verdict, verdict);

@@ -1,11 +1,14 @@
 //! A second implementation of sessions: the lines in a vector, from which the numbers of
 //! the state are written, and into which any numbers are read. It was written from the
-//! description alone and shares nothing with the library.
+//! description alone and shares nothing with the library: the table of the state is made of
+//! all lines each time.
 
 use crate::buffers::Lengths;
-use crate::limits::{session_room, LINE_NUMBERS, MOST_LINES, MOST_N};
+use crate::closure;
+use crate::decision::Verdict;
+use crate::limits::{session_room, LINE_NUMBERS, MOST_LINES, MOST_N, MOST_NUMBERS};
 use crate::lines::Line;
-use crate::second::{decide_refusal, Answer};
+use crate::second::{decide_refusal, list_refusal, Answer};
 
 /// The numbers of a state before those of its lines: n, how many lines there are, and
 /// whether the last answer was a no.
@@ -14,8 +17,51 @@ pub const VARIABLES: usize = 0;
 pub const COUNT: usize = 1;
 pub const FLAG: usize = 2;
 
+/// The numbers before the table.
+pub const FRONT: usize = HEAD + MOST_NUMBERS;
+
 /// What numbers that are no state, or too few for one, are refused with.
 pub const NO_STATE: Answer = Answer::Refused(7, 6);
+
+/// What a state says before its lines.
+#[derive(Clone, Copy, Debug, PartialEq, Eq)]
+pub struct Head {
+    pub n: u64,
+    pub count: usize,
+    pub refuted: bool,
+}
+
+impl Head {
+    /// What these numbers say, if they can be those of a state; those of lines may be any.
+    pub fn read(numbers: &[i64]) -> Option<Head> {
+        let [n, count, flag] = *numbers.first_chunk::<HEAD>()?;
+        let n = u64::try_from(n).ok().filter(|&n| n <= MOST_N)?;
+        let count = usize::try_from(count)
+            .ok()
+            .filter(|&count| count <= MOST_LINES)?;
+        let refuted = match flag {
+            0 => false,
+            1 => true,
+            _ => return None,
+        };
+        let head = Head { n, count, refuted };
+        (numbers.len() >= session_room(n as usize)).then_some(head)
+    }
+
+    /// What asking for a line is to be refused with, if it is to.
+    pub fn line_refusal(&self, line: Line) -> Option<Answer> {
+        match list_refusal(self.n, &line)? {
+            Answer::Refused(number, _) => Some(Answer::Refused(number, self.count)),
+            _ => unreachable!(),
+        }
+    }
+
+    /// What asking for two variables is to be refused with, if it is to.
+    pub fn pair_refusal(&self, variables: [u64; 2]) -> Option<Answer> {
+        let beyond = variables.iter().position(|&variable| variable >= self.n);
+        beyond.map(|place| Answer::Refused(5, place))
+    }
+}
 
 /// What a session is to hold.
 #[derive(Clone, Debug, PartialEq, Eq)]
@@ -40,6 +86,31 @@ impl Session {
         session_room(self.n as usize)
     }
 
+    /// The lines whose table is kept: after a no those before the last.
+    fn kept(&self) -> &[Line] {
+        let last = usize::from(self.refuted && !self.lines.is_empty());
+        &self.lines[..self.lines.len() - last]
+    }
+
+    /// Whether calls of a session can lead to it: its lines are valid, and the last answer
+    /// was right, and the one before it a yes.
+    pub fn stands(&self) -> bool {
+        let solvable = |lines: &[Line]| {
+            let verdict = closure::verdict(self.n as usize, lines);
+            matches!(verdict, Verdict::Yes(_))
+        };
+        list_refusal(self.n, self.lines.as_flattened()).is_none()
+            && solvable(&self.lines) != self.refuted
+            && (!self.refuted || solvable(self.kept()))
+    }
+
+    /// The table of its state, where its lines have one.
+    pub fn table(&self) -> Option<Vec<i64>> {
+        let valid = list_refusal(self.n, self.kept().as_flattened()).is_none();
+        let table = || closure::table(self.n as usize, self.kept());
+        valid.then(table).flatten()
+    }
+
     /// The numbers of its state.
     pub fn state(&self) -> Vec<i64> {
         let mut numbers = vec![-1; self.room()];
@@ -47,9 +118,18 @@ impl Session {
         numbers
     }
 
-    /// Writes its state to the front of these numbers.
+    /// Writes its state to the front of these numbers; where its lines have no table, that
+    /// is left as it is.
     pub fn write(&self, numbers: &mut [i64]) {
-        let (head, rest) = numbers[..self.room()].split_at_mut(HEAD);
+        self.write_front(numbers);
+        if let Some(table) = self.table() {
+            numbers[FRONT..self.room()].copy_from_slice(&table);
+        }
+    }
+
+    /// Writes what stands before the table.
+    pub fn write_front(&self, numbers: &mut [i64]) {
+        let (head, rest) = numbers[..FRONT].split_at_mut(HEAD);
         let (lines, behind) = rest.split_at_mut(LINE_NUMBERS * self.lines.len());
         head[VARIABLES] = self.n as i64;
         head[COUNT] = self.lines.len() as i64;
@@ -62,18 +142,8 @@ impl Session {
 
     /// The session that these numbers are taken for, if they are taken for one.
     pub fn read(numbers: &[i64]) -> Option<Session> {
-        let [n, count, flag] = *numbers.first_chunk::<HEAD>()?;
-        let n = u64::try_from(n).ok().filter(|&n| n <= MOST_N)?;
-        let most = MOST_LINES as i64;
-        if !(0..=most).contains(&count) || numbers.len() < session_room(n as usize) {
-            return None;
-        }
-        let refuted = match flag {
-            0 => false,
-            1 => true,
-            _ => return None,
-        };
-        let numbers = numbers[HEAD..].iter().take(LINE_NUMBERS * count as usize);
+        let Head { n, count, refuted } = Head::read(numbers)?;
+        let numbers = numbers[HEAD..].iter().take(LINE_NUMBERS * count);
         let numbers = numbers.map(|&number| i32::try_from(number).ok());
         let numbers = numbers.collect::<Option<Vec<i32>>>()?;
         let lines = numbers.chunks(LINE_NUMBERS);

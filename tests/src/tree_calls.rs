@@ -1,7 +1,7 @@
 //! The two calls on trees, made of the library: what each returns, and what it leaves in the
 //! lent buffers and around them, must be what is due.
 
-use crate::buffers::{Buffers, Lengths};
+use crate::buffers::{needed, Buffers, Lengths};
 use crate::chance::Chance;
 use crate::decision::{widened, Call, Decision, Verdict};
 use crate::implied::rooms;
@@ -158,6 +158,7 @@ impl Asked<'_> {
             list: &list,
             due: None,
             result,
+            rooms: needed,
         };
         let decision = call.decision(before, after);
         let steps = decision.refutation.iter().skip(3);

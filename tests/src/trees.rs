@@ -59,6 +59,19 @@ impl Tree {
         numbers
     }
 
+    /// The tree with other numbers for its lines: for line k the one at index k.
+    pub fn renamed(&self, numbers: &[usize]) -> Tree {
+        let each = |children: &[Tree]| {
+            let renamed = children.iter().map(|child| child.renamed(numbers));
+            renamed.collect()
+        };
+        match self {
+            Tree::Line(line) => Tree::Line(numbers[*line]),
+            Tree::AllOf(children) => Tree::AllOf(each(children)),
+            Tree::AnyOf(children) => Tree::AnyOf(each(children)),
+        }
+    }
+
     /// How many choices each node has, in reading order, itself first. Numbers that are too
     /// large for any use stay at the highest.
     pub fn counts(&self) -> Vec<u128> {

@@ -28,7 +28,7 @@ const REFUSAL_UNIT: usize = 100_000;
 // The bytes of a number of a list or a refutation, and of a line.
 pub const NUMBER_BYTES: usize = 4;
 
-const LINE_BYTES: usize = NUMBER_BYTES * LINE_SIZE;
+pub const LINE_BYTES: usize = NUMBER_BYTES * LINE_SIZE;
 // The numbers of the longest list.
 pub const MOST_NUMBERS: usize = LINE_SIZE * MAX_LINES;
 

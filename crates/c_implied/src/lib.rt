@@ -17,7 +17,7 @@ pub struct CPair {
 }
 
 // The number that an outcome is returned as.
-fn outcome_code(outcome: PairOutcome) -> i64
+pub fn outcome_code(outcome: PairOutcome) -> i64
     requires { ⌜ Below refusalUnit outcome ⌝ }
     ensures { λ k. ⌜ k ≡ outcomeCode outcome ⌝ }
 {

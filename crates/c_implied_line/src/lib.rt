@@ -11,7 +11,7 @@ ghost use Rattle.c_codes.specs.Codes.{refusalUnit};
 ghost use Rattle.c_implied_line.specs.Calls.{lineCode, LineReturns};
 
 // The number that an answer on a line is returned as.
-fn line_code(a: LineAnswer) -> i64
+pub fn line_code(a: LineAnswer) -> i64
     requires { ⌜ Below refusalUnit a ⌝ }
     ensures { λ k. ⌜ k ≡ lineCode a ⌝ }
 {

@@ -2,12 +2,12 @@
 use mathlib.Core.Path.{_≡_, refl, sym, ap, _∙_}
 use mathlib.Core.Bool.{Bool, true, false, cond}
 use mathlib.Core.List.{List, [], _∷_, _++_}
-use Prim.Native.Nat.{ℕ, _+_, _^_, _<_, _≤_}
+use Prim.Native.Nat.{ℕ, zero, suc, _+_, _^_, _<_, _≤_}
 use native.Mathlib.Omega.{arith}
 use borrow.Author.Tests.{lt-ltb, le-ltb, ltb-true, ltb-false}
 use lib.Dec.{ltb}
 use lib.IntN.{ℤ}
-use lib.ListN.{length}
+use lib.ListN.{length, getD}
 use Rattle.lines.specs.declared.Refusal.the-variants.{LongRefutation}
 use Rattle.lines.specs.declared.Validity.{Validity}
 use Rattle.lines.specs.declared.Validity.the-variants.{Valid, Refused}
@@ -50,6 +50,12 @@ take-joined L s (P ∷ Ps) = take-joined L (takeAll L s P) Ps ∙ sym (take-appe
 abbrev pub Words : List ℕ → Type 0
 Words [] = Unit {0}
 Words (r ∷ R) = (r < 2 ^ 32) × Words R
+
+-- also the 0 beyond
+pub words-at : (R : List ℕ) → Words R → (i : ℕ) → getD R i 0 < 2 ^ 32
+words-at [] w i = omega arith
+words-at (r ∷ R) w zero = w .0
+words-at (r ∷ R) w (suc i) = words-at R (w .1) i
 
 pub words-snoc : (R : List ℕ) (r : ℕ) → Words R → r < 2 ^ 32 → Words (R ++ r ∷ [])
 words-snoc [] r w h = (h, tt)

@@ -70,7 +70,7 @@ endAnswer n L s = unlessRefused (validityOf n L orElse refuseIf (ltb maxRefutati
 pub names-ok : (L : List ℤ) (k : ℕ) → namesValid L k ≡ true → NamedOk maxVariables L k
 unfolding namesValid
 names-ok L k e h =
-    line-works maxVariables (lineAt L (k / 2)) (line-ok maxVariables 0 (lineAt L (k / 2)) (go (lineValidity maxVariables 0 (lineAt L (k / 2))) (rw (lt-ltb (k / 2) (lineCount L) h) at e)))
+    line-works maxConstant maxVariables (lineAt L (k / 2)) (omega arith) (line-ok maxVariables 0 (lineAt L (k / 2)) (go (lineValidity maxVariables 0 (lineAt L (k / 2))) (rw (lt-ltb (k / 2) (lineCount L) h) at e)))
   where
     go : (v : Validity) → isValid v ≡ true → v ≡ Valid
     go Valid z = refl

@@ -256,7 +256,7 @@ impl Progress {
 }
 
 // The progress after all numbers of a refutation.
-fn read_all(list: &[i32], refutation: &[u32]) -> Progress
+pub fn read_all(list: &[i32], refutation: &[u32]) -> Progress
     requires { ⌜ LinesOk maxVariables (now list) × (length (now refutation) ≤ maxRefutation) ⌝ }
     ensures { λ r. ⌜ (r ≡ run (now (list .entry)) start (now (refutation .entry))) × Small maxWeight r ⌝ }
 {

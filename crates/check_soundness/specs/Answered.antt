@@ -26,7 +26,7 @@ use Rattle.check_soundness.specs.Place.{placeIn}
 use Rattle.check_soundness.specs.Sound.{accepts-nothing-solved, accepts-longer}
 
 -- yes and no, by the checker's rule
-verdict-yes : (s : Progress) → (verdict s ≡ Yes) ↔ (accepted s ≡ true)
+pub verdict-yes : (s : Progress) → (verdict s ≡ Yes) ↔ (accepted s ≡ true)
 unfolding verdict
 verdict-yes s = (go (accepted s), (λ e. rw e))
   where

@@ -16,7 +16,7 @@ use Rattle.lines.specs.Line.{linesOf}
 use Rattle.lines.specs.Limits.{maxVariables}
 use Rattle.decide_rows.specs.Table.{tableStart}
 use Rattle.lines.specs.Refusal.{validityOf}
-use Rattle.lines.specs.Valid.{LinesOk, Workable, or-valid, workable}
+use Rattle.lines.specs.Valid.{LinesOk, Workable, or-valid, workable, modellable}
 use Rattle.theory_bounds.specs.Table.{tableModel}
 use Rattle.decide_stored_table.specs.Table.{tableOf}
 use Rattle.decide_yes.specs.Table.{tableFor, short-table, model-agrees, bounds-agree, groups-agree, table-closed, model-ready}
@@ -41,9 +41,23 @@ unlessRefused (validity.Refused r) a = Refused r
 abbrev pub NotRefused : Answer → Type 0
 NotRefused a = (r : Refusal) → a ≡ Refused r → ⊥
 
+-- by what is refused, whichever engine refuses it, and by the verdict
+abbrev pub judged : Validity → ℕ → List ℤ → Answer
+judged v n L = unlessRefused v (cond (verdictOf n (linesOf L)) Yes No)
+
+module _ (n : ℕ) (L : List ℤ) (v : Validity) where
+  pub judged-refused : (r : Refusal) → v ≡ validity.Refused r → Refused r ≡ judged v n L
+  judged-refused r e = sym (ap (λ (u : Validity). judged u n L) e)
+
+  pub judged-yes : v ≡ Valid → verdictOf n (linesOf L) ≡ true → Yes ≡ judged v n L
+  judged-yes e t = sym (rw (e, t))
+
+  pub judged-no : v ≡ Valid → verdictOf n (linesOf L) ≡ false → No ≡ judged v n L
+  judged-no e t = sym (rw (e, t))
+
 -- buffers are given by their lengths
 unfoldable pub decideAnswer : ℕ → List ℤ → Lengths → Answer
-decideAnswer n L s = unlessRefused (decideValidity n L s) (cond (verdictOf n (linesOf L)) Yes No)
+decideAnswer n L s = judged (decideValidity n L s) n L
 
 -- ---- what the lent buffers hold, whichever engine decides: by the room of its work area
 -- the work area with zeros in its named part
@@ -159,16 +173,16 @@ ok-decide n L b o = rw (o .list) (room-valid n (lengthsOf b) (o .rooms))
 module _ (n : ℕ) (L : List ℤ) (b : Lent) where
   pub refused : (r : Refusal) → validityFor n L b ≡ validity.Refused r → Decided n L (Refused r) b b
   unfolding decideAnswer
-  refused r e = record { is = sym (ap (λ (v : Validity). unlessRefused v (cond (verdictOf n (linesOf L)) Yes No)) e); leaves = refl }
+  refused r e = record { is = judged-refused n L (validityFor n L b) r e; leaves = refl }
 
   module _ (e : validityFor n L b ≡ Valid) where
     answer-yes : verdictOf n (linesOf L) ≡ true → Yes ≡ answerFor n L b
     unfolding decideAnswer
-    answer-yes v = sym (rw (e, v))
+    answer-yes v = judged-yes n L (validityFor n L b) e v
 
     answer-no : verdictOf n (linesOf L) ≡ false → No ≡ answerFor n L b
     unfolding decideAnswer
-    answer-no v = sym (rw (e, v))
+    answer-no v = judged-no n L (validityFor n L b) e v
 
     pub search-ready : SearchReady n L (b .refutation) (b .work)
     search-ready = let o = decide-ok n L b e in record { valid = workable n L (o .list); room = refutation-room workRoom (o .rooms); work-room = omega (arith, used-room n, work-room workRoom (o .rooms)) }
@@ -205,7 +219,7 @@ module _ (n : ℕ) (L : List ℤ) (b : Lent) where
         answers-ready =
             let o = decide-ok n L b e in
             subst (λ (t : List ℤ). AnswersReady n t (b .model) (b .bounds) (b .groups)) (sym table-is)
-            (record { table = short-table n L (ok .variables) (ok .lines); closed = table-closed n L ok (k .verdict); small = model-ready n L ok (k .verdict); model-room = model-room workRoom (o .rooms); bounds-room = bounds-room workRoom (o .rooms); groups-room = groups-room workRoom (o .rooms) })
+            (record { table = short-table n L (ok .variables) (ok .lines); closed = table-closed n L ok (k .verdict); small = model-ready n L ok (k .verdict) (modellable n L (o .list)); model-room = model-room workRoom (o .rooms); bounds-room = bounds-room workRoom (o .rooms); groups-room = groups-room workRoom (o .rooms) })
 
         pub decided-yes : (m bs : List ℤ) (g : List ℕ)
             → (m ≡ tabulate n (tableModel n (tableOf (2 * n) (tableIn n w₁))) ++ drop (modelRoom n) (b .model))

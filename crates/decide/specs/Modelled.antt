@@ -8,7 +8,7 @@ use lib.ListN.{length, drop}
 use Rattle.integers.specs.Laws.{never}
 use Rattle.integers.specs.Sequence.{tabulate}
 use Rattle.lines.specs.Line.{linesOf}
-use Rattle.lines.specs.Valid.{Workable}
+use Rattle.lines.specs.Valid.{Workable, Modellable}
 use Rattle.theory_bounds.specs.Table.{tableModel}
 use Rattle.theory_bounds.specs.Answers.{modelOf}
 use Rattle.decide_buffers.specs.Room.{modelRoom}
@@ -19,6 +19,7 @@ use Rattle.decide.specs.Searched.{SearchReady, Searched, tableIn}
 
 pub record ModelAsked (n : ℕ) (L model : List ℤ) (R : List ℕ) (w : List ℤ) : Type 0 where
   pub search : SearchReady n L R w
+  pub modellable : Modellable n L
   pub room : modelRoom n ≤ length model
 
 -- before: model, R and w; after: model′, R′ and w′
@@ -42,7 +43,7 @@ module _ (n : ℕ) (L model : List ℤ) (R : List ℕ) (w : List ℤ) (a : Model
       pub model-asked : ModelReady n (tableIn n w₁) model
       model-asked =
           subst (λ (t : List ℤ). ModelReady n t model) (sym table-is)
-          (record { table = short-table n L (ok .variables) (ok .lines); closed = table-closed n L ok (k .verdict); room = a .room; small = model-ready n L ok (k .verdict) })
+          (record { table = short-table n L (ok .variables) (ok .lines); closed = table-closed n L ok (k .verdict); room = a .room; small = model-ready n L ok (k .verdict) (a .modellable) })
 
       pub modelled : (m : List ℤ) → m ≡ tabulate n (tableModel n (tableOf (2 * n) (tableIn n w₁))) ++ drop (modelRoom n) model → Modelled n L model R w m R₁ w₁ false
       modelled m h =

@@ -24,10 +24,11 @@ use Rattle.theory_bounds.specs.Points.{variableOf, variable-below, which, oppos
 use Rattle.theory_bounds.specs.Tight.{Table, halves, tight}
 use Rattle.lines.specs.Limits.{absentLeast}
 use Rattle.theory_bounds.specs.Answers.{leastOf, boundAt, bound-least, bound-greatest, groupPoint, groupAt, group-variable, group-sign}
+use Rattle.theory_bounds.specs.Agree.{groups-same}
 use Rattle.decide_rows.specs.Stored.{stored}
 use Rattle.decide_rows.specs.Read.{noWalk, distanceOf, Short, maxDistance}
 use Rattle.decide_stored_table.specs.Sum.{minus-is}
-use Rattle.decide_stored_table.specs.Table.{tableOf, MirroredTable, entry-back, halves-short, half-back}
+use Rattle.decide_stored_table.specs.Table.{tableOf, byRows, ShortTable, MirroredTable, halves-short, half-back, rows-back, rows-halves, rows-agree}
 
 -- the half of the point p, from the bound of its variable: a plus point's is the greatest value, a minus point's the least negated
 abbrev pub halfBy : ℕ → ℤ → ℤ
@@ -46,7 +47,7 @@ pub record HalfReady (bounds : List ℤ) (p : ℕ) : Type 0 where
   pub short : Short maxDistance (distanceOf (halfIn bounds p))
 
 pub record GroupsReady (n : ℕ) (t bounds : List ℤ) : Type 0 where
-  pub table : MirroredTable n t
+  pub table : ShortTable n t
   pub room : 2 * n ≤ length bounds
   pub written : (i : ℕ) → i < 2 * n → number bounds i ≡ boundAt (tableOf (2 * n) t) i
 
@@ -104,7 +105,7 @@ module _ (n : ℕ) (t bounds : List ℤ) (ok : GroupsReady n t bounds) where
       let e : number bounds (opposite (point x 1)) ≡ leastOf (halves D (point x 1)) = ap (number bounds) (opposite-minus x ∙ z) ∙ ok .written (2 * x) (omega arith) ∙ bound-least D x in
       minus-point (point x 1) (number bounds (opposite (point x 1))) a
       ∙ ap (λ (b : ℤ). cond (eqZ b absentLeast) noWalk (negℤ b)) e
-      ∙ least-back (halves D (point x 1)) (halves-short n t (ok .table .table) (point x 1) (minus-below n x h))
+      ∙ least-back (halves D (point x 1)) (halves-short n t (ok .table) (point x 1) (minus-below n x h))
 
   half-is : (p : ℕ) → p < 2 * n → halfIn bounds p ≡ stored (halves D p)
   half-is p h =
@@ -115,19 +116,22 @@ module _ (n : ℕ) (t bounds : List ℤ) (ok : GroupsReady n t bounds) where
       at q e i = subst (λ (r : ℕ). halfIn bounds r ≡ stored (halves D r)) (sym e) i
 
   half-read : (p : ℕ) → p < 2 * n → distanceOf (halfIn bounds p) ≡ halves D p
-  half-read p h = half-back n t (ok .table .table) p h (halfIn bounds p) (half-is p h)
+  half-read p h = half-back n t (ok .table) p h (halfIn bounds p) (half-is p h)
 
   pub half-ready : (p : ℕ) → p < 2 * n → HalfReady bounds p
-  half-ready p h = record { inside = omega (arith, opposite-below n p h, ok .room); short = rw (half-read p h) (halves-short n t (ok .table .table) p h) }
+  half-ready p h = record { inside = omega (arith, opposite-below n p h, ok .room); short = rw (half-read p h) (halves-short n t (ok .table) p h) }
 
   -- a distance that was read
-  pub tight-read : (p q : ℕ) → p < 2 * n → q < 2 * n → (z : ℤ) → z ≡ stored (D p q) → stored (tightIn bounds (distanceOf z) p q) ≡ stored (tight D p q)
+  pub tight-read : (p q : ℕ) → p < 2 * n → q < 2 * n → (z : ℤ) → z ≡ stored (byRows (2 * n) t p q) → stored (tightIn bounds (distanceOf z) p q) ≡ stored (tight (byRows (2 * n) t) p q)
   unfolding tight
   tight-read p q hp hq z e =
-      ap stored (ap₂ minD (entry-back (2 * n) t p q z e) (ap₂ (λ (a b : Distance). a ⊞ b) (half-read p hp) (half-read (opposite q) (opposite-below n q hq))))
+      ap stored (ap₂ minD (rows-back (2 * n) t p q z e) (ap₂ (λ (a b : Distance). a ⊞ b) (half-by-rows p hp) (half-by-rows (opposite q) (opposite-below n q hq))))
+    where
+      half-by-rows : (p : ℕ) → p < 2 * n → distanceOf (halfIn bounds p) ≡ halves (byRows (2 * n) t) p
+      half-by-rows p h = half-read p h ∙ sym (rows-halves (2 * n) t p)
 
 -- ---- the bounds as they are written
-pub groups-ready : (n : ℕ) (t rest bounds : List ℤ) → MirroredTable n t → bounds ≡ tabulate (2 * n) (boundAt (tableOf (2 * n) t)) ++ rest → GroupsReady n t bounds
+pub groups-ready : (n : ℕ) (t rest bounds : List ℤ) → ShortTable n t → bounds ≡ tabulate (2 * n) (boundAt (tableOf (2 * n) t)) ++ rest → GroupsReady n t bounds
 groups-ready n t rest bounds m e =
     let f = boundAt (tableOf (2 * n) t) in
     let l : length (tabulate (2 * n) f) ≡ 2 * n = length-tabulate (2 * n) f in
@@ -136,6 +140,10 @@ groups-ready n t rest bounds m e =
       room = omega (arith, ap length e, length-append (tabulate (2 * n) f) rest, l);
       written = λ i h. ap (λ (b : List ℤ). number b i) e ∙ List·getD-append (tabulate (2 * n) f) rest (pos 0) i (omega (arith, l)) ∙ getD-tabulate (2 * n) i f (pos 0) h;
     }
+
+-- ---- a mirrored table is read as it is
+pub groups-are : (n : ℕ) (t : List ℤ) → MirroredTable n t → tabulate (2 * n) (groupAt (byRows (2 * n) t)) ≡ tabulate (2 * n) (groupAt (tableOf (2 * n) t))
+groups-are n t m = groups-same n (byRows (2 * n) t) (tableOf (2 * n) t) (rows-agree n t m)
 
 -- ---- two more numbers of the groups: the variable and the sign of the point of x
 pub pair-filled : (D : Table) (d : List ℕ) (x p : ℕ) → 2 * x + 1 < length d → p ≡ groupPoint D x

@@ -15,7 +15,7 @@ ghost use Rattle.theory_bounds.specs.Tight.{halves};
 ghost use Rattle.theory_bounds.specs.Answers.{boundAt, greatestOf, leastOf, samePoints, groupPoint, groupAt};
 ghost use Rattle.decide_rows.specs.Stored.{stored};
 ghost use Rattle.decide_rows.specs.Read.{distanceOf};
-ghost use Rattle.decide_stored_table.specs.Table.{tableOf, ShortTable};
+ghost use Rattle.decide_stored_table.specs.Table.{tableOf, byRows, ShortTable};
 ghost use Rattle.decide_bounds_groups.specs.Grouping.{halfIn, tightIn, HalfReady, GroupsReady};
 
 // Written for a least value that is absent.
@@ -93,10 +93,11 @@ fn tight_by(bounds: &[i64], distance: i64, p: usize, q: usize) -> i64
     )
 }
 
-// Whether p and q have the same value in every solution. Both distances are read in the rows of p and its opposite.
+// Whether p and a point q before it have the same value in every solution. Both distances are read in the rows of p and its
+// opposite.
 fn same_points(table: &[i64], n: usize, bounds: &[i64], p: usize, q: usize) -> bool
-    requires { ⌜ GroupsReady n (now table) (now bounds) × (p < 2 * n) × (q < 2 * n) ⌝ }
-    ensures { λ b. ⌜ b ≡ samePoints (tableOf (2 * n) (now (table .entry))) p q ⌝ }
+    requires { ⌜ GroupsReady n (now table) (now bounds) × (p < 2 * n) × (q < p) ⌝ }
+    ensures { λ b. ⌜ b ≡ samePoints (byRows (2 * n) (now (table .entry))) p q ⌝ }
 {
     if 0 < tight_by(bounds, mirrored_at(table, n, p, q), p, q) {
         return false;
@@ -107,7 +108,7 @@ fn same_points(table: &[i64], n: usize, bounds: &[i64], p: usize, q: usize) -> b
 // The lowest point that has the value of x in every solution: the plus point of x at the latest.
 fn group_point(table: &[i64], n: usize, bounds: &[i64], x: usize) -> usize
     requires { ⌜ GroupsReady n (now table) (now bounds) × (x < n) ⌝ }
-    ensures { λ r. ⌜ r ≡ groupPoint (tableOf (2 * n) (now (table .entry))) x ⌝ }
+    ensures { λ r. ⌜ r ≡ groupPoint (byRows (2 * n) (now (table .entry))) x ⌝ }
 {
     let own = 2 * x;
     let mut p = 0;
@@ -123,7 +124,7 @@ fn group_point(table: &[i64], n: usize, bounds: &[i64], x: usize) -> usize
 // The groups of all n variables, whose bounds are written: of each the variable of its lowest point, then the sign.
 pub fn write_groups(table: &[i64], n: usize, bounds: &[i64], groups: &mut [u32])
     requires { ⌜ GroupsReady n (now table) (now bounds) × (2 * n ≤ length (now groups)) ⌝ }
-    ensures { λ _. ⌜ now (groups .exit) ≡ tabulate (2 * n) (groupAt (tableOf (2 * n) (now (table .entry)))) ++ drop (2 * n) (now (groups .entry)) ⌝ }
+    ensures { λ _. ⌜ now (groups .exit) ≡ tabulate (2 * n) (groupAt (byRows (2 * n) (now (table .entry)))) ++ drop (2 * n) (now (groups .entry)) ⌝ }
 {
     let mut x = 0;
     while x < n {

@@ -1,3 +1,4 @@
 pub mod Limit
 pub mod Value
 pub mod Written
+pub mod Values

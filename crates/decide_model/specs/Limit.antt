@@ -10,20 +10,21 @@ use mir.Syntax.{w32, w64}
 use mir.Val.{SFits}
 use Rattle.integers.specs.Integer.{_⩽_, Within}
 use Rattle.integers.specs.Linear.{ints, zs}
-use Rattle.lines.specs.Limits.{maxVariables, workConstant}
+use Rattle.lines.specs.Limits.{maxVariables, modelConstant}
 use Rattle.lines.specs.Line.{number, assignmentOf}
-use Rattle.steps.specs.Point.{point, value}
-use Rattle.theory_walks.specs.Distance.{Distance, some, Below, minD, _⊞_}
+use Rattle.steps.specs.Point.{point, opposite}
+use Rattle.theory_walks.specs.Distance.{Distance, some, minD, _⊞_}
+use Rattle.theory_bounds.specs.Points.{opposite-below}
 use Rattle.theory_bounds.specs.Tight.{Table, halves}
 use Rattle.theory_bounds.specs.Extend.{below, limit}
 use Rattle.decide_rows.specs.Stored.{stored}
 use Rattle.decide_rows.specs.Read.{distanceOf, Short, maxDistance, short-more}
-use Rattle.decide_stored_table.specs.Sum.{maxTight, maxSum, read-back, min-short, sum-short}
-use Rattle.decide_stored_table.specs.Table.{tableOf, ShortTable, MirroredTable, entry-back, halves-short}
+use Rattle.decide_stored_table.specs.Sum.{maxTight, maxSum, read-back, min-short, sum-short, half-short}
+use Rattle.decide_stored_table.specs.Table.{ShortTable}
 
 -- a model's values lie within plus and minus this
 abbrev pub maxModel : ℕ
-maxModel = maxVariables * workConstant
+maxModel = maxVariables * modelConstant
 
 -- the greatest value of p, given that of x
 abbrev pub byValue : Table → ℕ → ℕ → ℤ → Distance
@@ -33,21 +34,21 @@ byValue T p x v = minD (T p (point x 0) ⊞ some v) (T p (point x 1) ⊞ some (n
 abbrev pub limitOf : Table → List ℤ → ℕ → ℕ → Distance
 limitOf D values x p = limit D (halves D) (assignmentOf values) (below x) p
 
+-- the variables' points stand before p
 pub record LimitReady (n p : ℕ) (t values : List ℤ) : Type 0 where
-  pub table : MirroredTable n t
+  pub table : ShortTable n t
   pub within : p < 2 * n
-  pub count : length values ≤ n
+  pub before : 2 * length values ≤ p
   pub small : (k : ℕ) → k < length values → Within maxModel (number values k)
 
 -- what is asked for the value of the next variable
 pub record ValueReady (n : ℕ) (t values : List ℤ) : Type 0 where
-  pub table : MirroredTable n t
+  pub table : ShortTable n t
   pub count : length values < n
   pub small : (k : ℕ) → k < length values → Within maxModel (number values k)
-  pub below-halves : (q : ℕ) → q < 2 * length values → Below (value (assignmentOf values) q) (halves (tableOf (2 * n) t) q)
 
-pub limit-ready : (n p : ℕ) (t values : List ℤ) → ValueReady n t values → p < 2 * length values + 2 → LimitReady n p t values
-limit-ready n p t values r h = record { table = r .table; within = omega (arith, r .count); count = omega (arith, r .count); small = r .small }
+pub limit-ready : (n p : ℕ) (t values : List ℤ) → ValueReady n t values → 2 * length values ≤ p → p < 2 * length values + 2 → LimitReady n p t values
+limit-ready n p t values r h l = record { table = r .table; within = omega (arith, r .count); before = h; small = r .small }
 
 pub plus-point : (x : ℕ) → 2 * x ≡ point x 0
 plus-point x = omega arith
@@ -79,22 +80,27 @@ value-back v h = read-back (some v) (short-more (omega arith) (some-short maxMod
 pub value-short : (v : ℤ) → Within maxModel v → Short maxTight (distanceOf v)
 value-short v h = rw (value-back v h) (short-more (omega arith) (some-short maxModel v h))
 
-module _ (n : ℕ) (t : List ℤ) (ok : ShortTable n t) where
-  abbrev D : Table
-  D = tableOf (2 * n) t
+-- ---- a distance and a value
+module _ (d : Distance) (short : Short maxDistance d) where
+  pub with-value-short : (v : ℤ) → Within maxModel v → Short (maxDistance + maxModel) (d ⊞ some v)
+  with-value-short v h = sum-short _ _ maxDistance maxModel short (some-short maxModel v h)
 
-  -- ---- an entry and a value
-  module _ (p q : ℕ) (hp : p < 2 * n) (hq : q < 2 * n) (z : ℤ) (e : z ≡ stored (D p q)) where
+  -- as it was read
+  module _ (z : ℤ) (e : z ≡ stored d) where
+    back : distanceOf z ≡ d
+    back = ap distanceOf e ∙ read-back d (short-more (omega arith) short)
+
     pub entry-short : Short maxTight (distanceOf z)
-    entry-short = rw (entry-back (2 * n) t p q z e) (short-more (omega arith) (ok .short p q hp hq))
+    entry-short = rw back (short-more (omega arith) short)
 
-    pub sum-back : (v : ℤ) → Within maxModel v → stored (distanceOf z ⊞ distanceOf v) ≡ stored (D p q ⊞ some v)
-    sum-back v h = ap₂ (λ (a b : Distance). stored (a ⊞ b)) (entry-back (2 * n) t p q z e) (value-back v h)
+    pub sum-back : (v : ℤ) → Within maxModel v → stored (distanceOf z ⊞ distanceOf v) ≡ stored (d ⊞ some v)
+    sum-back v h = ap₂ (λ (a b : Distance). stored (a ⊞ b)) back (value-back v h)
 
+module _ (n : ℕ) (D : Table) (ok : (u v : ℕ) → u < 2 * n → v < 2 * n → Short maxDistance (D u v)) where
   -- ---- one variable more
   module _ (p x : ℕ) (hp : p < 2 * n) (hx : x < n) (v : ℤ) (h : Within maxModel v) where
     part-short : (q : ℕ) (w : ℤ) → q < 2 * n → Within maxModel w → Short (maxDistance + maxModel) (D p q ⊞ some w)
-    part-short q w hq hw = sum-short _ _ maxDistance maxModel (ok .short p q hp hq) (some-short maxModel w hw)
+    part-short q w hq hw = with-value-short (D p q) (ok p q hp hq) w hw
 
     by-short : Short (maxDistance + maxModel) (byValue D p x v)
     by-short = min-short _ _ (maxDistance + maxModel) (part-short (point x 0) v (omega arith) h) (part-short (point x 1) (negℤ v) (omega arith) (minus-within maxModel v h))
@@ -110,8 +116,8 @@ module _ (n : ℕ) (t : List ℤ) (ok : ShortTable n t) where
   -- ---- the loop
   module _ (values : List ℤ) (few : length values ≤ n) (small : (k : ℕ) → k < length values → Within maxModel (number values k)) (p : ℕ) (hp : p < 2 * n) where
     pub limit-short : (x : ℕ) → x ≤ length values → Short (maxDistance + maxModel) (limitOf D values x p)
-    unfolding limit
-    limit-short zero h = short-more (omega arith) (halves-short n t ok p hp)
+    unfolding limit halves
+    limit-short zero h = short-more (omega arith) (half-short _ maxDistance (ok p (opposite p) hp (opposite-below n p hp)))
     limit-short (suc x) h =
         min-short _ _ (maxDistance + maxModel) (limit-short x (omega arith)) (by-short p x hp (omega arith) (number values x) (small x h))
 

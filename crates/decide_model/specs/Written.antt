@@ -25,7 +25,10 @@ use Rattle.decide_rows.specs.Read.{distanceOf}
 use Rattle.decide_stored_table.specs.Table.{tableOf, ShortTable}
 use Rattle.decide_model.specs.Limit.{maxModel, limitOf, value-fits}
 
--- the value of the next variable, given those of the first ones
+-- the value of the next variable, given those of the first ones: by the distances, and by the tightened ones
+abbrev pub pickOf : Table → List ℤ → ℤ
+pickOf D values = pick D (halves D) (assignmentOf values) (below (length values)) (length values)
+
 abbrev pub nextOf : Table → List ℤ → ℤ
 nextOf D values = pick (tight D) (halves D) (assignmentOf values) (below (length values)) (length values)
 
@@ -55,25 +58,26 @@ module _ (T : Table) (h : ℕ → Distance) where
   pick-cong s t k f =
       ap₂ near (limit-cong T h s t (below k) (point k 0) (λ x i. f x (below-lt x k i))) (limit-cong T h s t (below k) (point k 1) (λ x i. f x (below-lt x k i)))
 
-  pub next-is : (n k : ℕ) → k < n → (s : Assignment) → ((x : ℕ) → x < k → s x ≡ model T h n x) → pick T h s (below k) k ≡ model T h n k
+  next-is : (n k : ℕ) → k < n → (s : Assignment) → ((x : ℕ) → x < k → s x ≡ model T h n x) → pick T h s (below k) k ≡ model T h n k
   next-is n k l s f =
       pick-cong s (model T h k) k (λ x i. f x i ∙ model-stays n x (omega arith) ∙ sym (model-stays k x i)) ∙ sym (model-picks n k l)
 
--- the two ends that were read back: no value is above its half, so that the distances give the limits of the tightened table
-pub pick-back : (D : Table) (values : List ℤ) (k : ℕ) → ((q : ℕ) → q < 2 * k → Below (value (assignmentOf values) q) (halves D q))
-    → (u l : ℤ) → distanceOf u ≡ limitOf D values k (point k 0) → distanceOf l ≡ limitOf D values k (point k 1)
-    → near (distanceOf u) (distanceOf l) ≡ pick (tight D) (halves D) (assignmentOf values) (below k) k
+-- the two ends that were read back
+pub pick-back : (D : Table) (values : List ℤ) (u l : ℤ) → let k = length values in
+    distanceOf u ≡ limitOf D values k (point k 0) → distanceOf l ≡ limitOf D values k (point k 1) → near (distanceOf u) (distanceOf l) ≡ pickOf D values
 unfolding pick
-pick-back D values k inside u l e f = ap₂ near (e ∙ same (point k 0)) (f ∙ same (point k 1))
+pick-back D values u l e f = ap₂ near e f
+
+-- where no value is above its half, the distances give the limits of the tightened table
+pub pick-untightened : (D : Table) (values : List ℤ) → ((q : ℕ) → q < 2 * length values → Below (value (assignmentOf values) q) (halves D q)) → pickOf D values ≡ nextOf D values
+unfolding pick
+pick-untightened D values inside = ap₂ near (same (point (length values) 0)) (same (point (length values) 1))
   where
-    same : (p : ℕ) → limitOf D values k p ≡ limit (tight D) (halves D) (assignmentOf values) (below k) p
-    same p = sym (limit-untightened D (assignmentOf values) (below k) (λ q i. inside q (below-of-variable k q (below-lt (variableOf q) k i))) p)
+    same : (p : ℕ) → limitOf D values (length values) p ≡ limit (tight D) (halves D) (assignmentOf values) (below (length values)) p
+    same p = sym (limit-untightened D (assignmentOf values) (below (length values)) (λ q i. inside q (below-of-variable (length values) q (below-lt (variableOf q) (length values) i))) p)
 
--- ---- the loop, after k values
-module _ (n : ℕ) (t m : List ℤ) (ok : ModelReady n t m) where
-  abbrev D : Table
-  D = tableOf (2 * n) t
-
+-- ---- the loop, after k values: of any table
+module _ (n : ℕ) (D : Table) (m : List ℤ) (room : n ≤ length m) where
   abbrev values : ℕ → List ℤ
   values k = tabulate k (tableModel n D)
 
@@ -87,35 +91,35 @@ module _ (n : ℕ) (t m : List ℤ) (ok : ModelReady n t m) where
     part-at : (x : ℕ) → x < k → number (take k w) x ≡ tableModel n D x
     part-at x h = ap (λ (v : List ℤ). number v x) part-is ∙ getD-tabulate k x (tableModel n D) (pos 0) h
 
-    pub part-small : (x : ℕ) → x < length (take k w) → Within maxModel (number (take k w) x)
-    part-small x h =
+    pub part-small : ((x : ℕ) → x < n → Within maxModel (tableModel n D x)) → (x : ℕ) → x < length (take k w) → Within maxModel (number (take k w) x)
+    part-small small x h =
         let i : x < k = rw part-length at h in
-        rw (part-at x i) (ok .small x (omega arith))
+        rw (part-at x i) (small x (omega arith))
 
     -- the model is a solution, so that no value is above its half
-    pub part-below-halves : (q : ℕ) → q < 2 * length (take k w) → Below (value (assignmentOf (take k w)) q) (halves D q)
-    part-below-halves q h z u =
+    pub part-below-halves : ClosedTable n D → (q : ℕ) → q < 2 * length (take k w) → Below (value (assignmentOf (take k w)) q) (halves D q)
+    part-below-halves closed q h z u =
         let i : q < 2 * k = rw part-length at h in
         let a = up-inv u in
         let e : value (assignmentOf (take k w)) q ≡ value (tableModel n D) q = value-cong (assignmentOf (take k w)) (tableModel n D) q (part-at (variableOf q) (variable-below k q i)) in
-        rw e (le-trans (half-sound n D (ok .closed) (tableModel n D) (model-solves n D (ok .closed)) q (omega arith) (a .0) (a .1)) (a .2))
+        rw e (le-trans (half-sound n D closed (tableModel n D) (model-solves n D closed) q (omega arith) (a .0) (a .1)) (a .2))
 
     value-is : pick (tight D) (halves D) (assignmentOf (take k w)) (below k) k ≡ tableModel n D k
     unfolding tableModel
     value-is = next-is (tight D) (halves D) n k l (assignmentOf (take k w)) part-at
 
-    next-value : nextOf D (take k w) ≡ tableModel n D k
+    pub next-value : nextOf D (take k w) ≡ tableModel n D k
     next-value = ap (λ (j : ℕ). pick (tight D) (halves D) (assignmentOf (take k w)) (below j) j) part-length ∙ value-is
 
     -- the next value is small enough for its place
-    pub next-fits : (v : ℤ) → v ≡ nextOf D (take k w) → SFits w32 v
-    next-fits v q = value-fits v (rw (q ∙ next-value) (ok .small k l))
+    pub next-fits : ((x : ℕ) → x < n → Within maxModel (tableModel n D x)) → (v : ℤ) → v ≡ nextOf D (take k w) → SFits w32 v
+    next-fits small v q = value-fits v (rw (q ∙ next-value) (small k l))
 
     pub written-more : (v : ℤ) → v ≡ nextOf D (take k w) → set w k v ≡ values (k + 1) ++ drop (k + 1) m
     written-more v q =
         let a : v ≡ tableModel n D k = q ∙ next-value in
         ap₂ (λ (x : List ℤ) (y : ℤ). set x k y) e a
-        ∙ grow (values k) k (tableModel n D k) (pos 0) m (length-tabulate k (tableModel n D)) (omega (arith, ok .room))
+        ∙ grow (values k) k (tableModel n D k) (pos 0) m (length-tabulate k (tableModel n D)) (omega (arith, room))
         ∙ ap (λ (x : List ℤ). x ++ drop (k + 1) m) (sym (tabulate-add k 1 (tableModel n D) ∙ ap (λ (j : ℕ). values k ++ tableModel n D j ∷ []) z))
       where
         z : k + 0 ≡ k

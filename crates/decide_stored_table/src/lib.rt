@@ -10,7 +10,7 @@ ghost use Rattle.theory_bounds.specs.Tight.{halves};
 ghost use Rattle.decide_rows.specs.Stored.{stored};
 ghost use Rattle.decide_rows.specs.Read.{distanceOf, Short, maxDistance};
 ghost use Rattle.decide_stored_table.specs.Sum.{maxTight};
-ghost use Rattle.decide_stored_table.specs.Table.{tableOf, ShortTable, MirroredTable};
+ghost use Rattle.decide_stored_table.specs.Table.{tableOf, byRows, ShortTable};
 
 // The smaller of two distances: NO_WALK is above every number.
 pub fn smaller(a: i64, b: i64) -> i64
@@ -42,11 +42,11 @@ pub fn entry_at(table: &[i64], n: usize, u: usize, v: usize) -> i64
     table[at]
 }
 
-// The distance from u to v, read where the distance between their opposites stands: those from one point then stand in
-// one row.
+// The distance from u to a point v before it, read where the distance between their opposites stands: those from one point
+// then stand in one row.
 pub fn mirrored_at(table: &[i64], n: usize, u: usize, v: usize) -> i64
-    requires { ⌜ MirroredTable n (now table) × (u < 2 * n) × (v < 2 * n) ⌝ }
-    ensures { λ r. ⌜ r ≡ stored (tableOf (2 * n) (now (table .entry)) u v) ⌝ }
+    requires { ⌜ ShortTable n (now table) × (u < 2 * n) × (v < u) ⌝ }
+    ensures { λ r. ⌜ r ≡ stored (byRows (2 * n) (now (table .entry)) u v) ⌝ }
 {
     entry_at(table, n, opposite_of(v), opposite_of(u))
 }

@@ -1,5 +1,5 @@
 -- The stored table of a list holds the distances themselves: so the model, bounds and groups read off it are those of the definitions.
-use mathlib.Core.Path.{_≡_, sym, ap, _∙_}
+use mathlib.Core.Path.{_≡_, ap, _∙_}
 use mathlib.Core.Bool.{true}
 use mathlib.Core.List.{List}
 use Prim.Native.Nat.{ℕ, _*_, _<_, _≤_}
@@ -9,37 +9,24 @@ use lib.IntN.{ℤ, natAbs}
 use Rattle.integers.specs.Integer.{Within}
 use Rattle.integers.specs.Laws.{abs-within}
 use Rattle.integers.specs.Sequence.{tabulate, tabulate-cong}
-use Rattle.lines.specs.Limits.{maxVariables, workConstant}
+use Rattle.lines.specs.Limits.{maxVariables, modelConstant}
 use Rattle.lines.specs.Line.{linesOf, assignmentOf}
-use Rattle.lines.specs.Valid.{LinesOk, Workable}
-use Rattle.steps.specs.Point.{opposite}
+use Rattle.lines.specs.Valid.{LinesOk, Workable, Modellable}
 use Rattle.steps.specs.Step.{stepsOf}
 use Rattle.theory_walks.specs.Row.{best}
-use Rattle.theory_bounds.specs.Points.{opposite-below}
 use Rattle.theory_bounds.specs.Tight.{Table}
 use Rattle.theory_bounds.specs.Table.{ClosedTable, tableModel}
 use Rattle.theory_bounds.specs.Answers.{modelOf, boundAt, boundsOf, groupAt, groupsOf}
 use Rattle.theory_bounds.specs.Verdict.{distances, verdictOf}
 use Rattle.theory_answers.specs.Meaning.{closed, model-is-model, model-value}
-use Rattle.theory_answers.specs.Small.{all-above, model-small}
+use Rattle.theory_answers.specs.Small.{works-above, model-small}
 use Rattle.theory_answers.specs.Decided.{lines-ok}
 use Rattle.decide_rows.specs.Read.{distanceOf, short-more}
 use Rattle.decide_rows.specs.Table.{storedTable, table-length, stored-at, best-short}
 use Rattle.decide_stored_table.specs.Sum.{read-back}
-use Rattle.decide_stored_table.specs.Table.{tableOf, ShortTable}
+use Rattle.decide_stored_table.specs.Table.{tableOf, ShortTable, closed-same}
 use Rattle.decide_model.specs.Limit.{maxModel}
-use Rattle.theory_bounds.specs.Agree.{Agree, halves-same, table-model-same, bounds-same, groups-same}
-
--- ---- two tables with the same distances between the points of n variables are closed alike
-module _ (n : ℕ) (D E : Table) (same : Agree (2 * n) D E) where
-  closed-same : ClosedTable n E → ClosedTable n D
-  closed-same c =
-      record {
-        diagonal = λ i h. same i i h h ∙ c .diagonal i h;
-        triangle = λ i j k hi hj hk. rw (same i k hi hk, same i j hi hj, same j k hj hk) (c .triangle i j k hi hj hk);
-        mirrored = λ i j hi hj. same i j hi hj ∙ c .mirrored i j hi hj ∙ sym (same (opposite j) (opposite i) (opposite-below n j hj) (opposite-below n i hi));
-        consistent = λ i h a b e f. c .consistent i h a b (sym (halves-same n D E same i h) ∙ e) (sym (halves-same n D E same (opposite i) (opposite-below n i h)) ∙ f);
-      }
+use Rattle.theory_bounds.specs.Agree.{Agree, table-model-same, bounds-same, groups-same}
 
 -- ---- the stored table of a list
 abbrev pub tableFor : ℕ → List ℤ → List ℤ
@@ -75,19 +62,23 @@ module _ (n : ℕ) (L : List ℤ) (few : n ≤ maxVariables) (ok : LinesOk n L) 
   groups-agree = groups-same n D (distances n (linesOf L)) agree
 
 -- ---- on a yes, the table is closed and the model's values are small
-small-within : (n : ℕ) (z : ℤ) → n ≤ maxVariables → natAbs z ≤ n * workConstant → Within maxModel z
-small-within n z l h = abs-within maxModel z (omega (arith, mul-le-mul-right workConstant l))
+small-within : (n : ℕ) (z : ℤ) → n ≤ maxVariables → natAbs z ≤ n * modelConstant → Within maxModel z
+small-within n z l h = abs-within maxModel z (omega (arith, mul-le-mul-right modelConstant l))
 
 module _ (n : ℕ) (L : List ℤ) (valid : Workable n L) (yes-verdict : verdictOf n (linesOf L) ≡ true) where
   pub table-closed : ClosedTable n (tableOf (2 * n) (tableFor n L))
   table-closed =
       closed-same n (tableOf (2 * n) (tableFor n L)) (distances n (linesOf L)) (agree n L (valid .variables) (valid .lines)) (closed n (linesOf L) (lines-ok n L valid) yes-verdict)
 
-  pub model-ready : (k : ℕ) → k < n → Within maxModel (tableModel n (tableOf (2 * n) (tableFor n L)) k)
-  model-ready k h =
-      let a = lines-ok n L valid in
-      let e : tableModel n (tableOf (2 * n) (tableFor n L)) k ≡ tableModel n (distances n (linesOf L)) k =
-      table-model-same n (tableOf (2 * n) (tableFor n L)) (distances n (linesOf L)) (agree n L (valid .variables) (valid .lines)) k in
-      let b : natAbs (assignmentOf (modelOf n (linesOf L)) k) ≤ n * workConstant =
-      model-small n workConstant (linesOf L) a (all-above n (linesOf L) a) (assignmentOf (modelOf n (linesOf L))) (model-is-model n (linesOf L) a yes-verdict) k h in
-      rw e (small-within n _ (valid .variables) (rw (model-value n (linesOf L) a yes-verdict k h) at b))
+  module _ (modelled : Modellable n L) where
+    pub model-within : (k : ℕ) → k < n → Within maxModel (assignmentOf (modelOf n (linesOf L)) k)
+    model-within k h =
+        let a = lines-ok n L valid in
+        small-within n _ (valid .variables)
+        (model-small n modelConstant (linesOf L) a (works-above modelConstant n L modelled) (assignmentOf (modelOf n (linesOf L))) (model-is-model n (linesOf L) a yes-verdict) k h)
+
+    pub model-ready : (k : ℕ) → k < n → Within maxModel (tableModel n (tableOf (2 * n) (tableFor n L)) k)
+    model-ready k h =
+        let e : tableModel n (tableOf (2 * n) (tableFor n L)) k ≡ tableModel n (distances n (linesOf L)) k =
+        table-model-same n (tableOf (2 * n) (tableFor n L)) (distances n (linesOf L)) (agree n L (valid .variables) (valid .lines)) k in
+        rw e (rw (model-value n (linesOf L) (lines-ok n L valid) yes-verdict k h) at (model-within k h))

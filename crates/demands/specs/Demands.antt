@@ -1,14 +1,16 @@
 -- What was demanded, in the words of docs/SPECIFICATION.md, each statement proved by citing the rest: here of deciding, of the answers and of the checkers, in
 -- Exported.antt of what C gets, in Files.antt of files and the program, in Sessions.antt of sessions, in Implied.antt and ImpliedLine.antt of what a list
--- implies, in Trees.antt of conditions with alternatives, in Seconds.antt of models in seconds, in Shorter.antt of the shorter of two refutations, in Order.antt of the order of lines, in Small.antt of how
--- large the answers are.
+-- implies, in Showing.antt, ShowingExported.antt and Learned.antt of showings, in Trees.antt of conditions with alternatives, in Seconds.antt of models in
+-- seconds, in Shorter.antt of the shorter of two refutations, in Differences.antt of the engine for differences, in Order.antt of the order of lines, in
+-- Small.antt of how large the answers are.
 --
 -- A reader has to believe the meaning of the words (`Solves`, `Written` in theory_answers/specs/Semantics.antt, `Refutes` and `BreaksAt` in check_soundness/specs),
--- the table of refusals (`refusalTable` in Refusals.antt, with `lentRooms` in decide_buffers/specs/Room.antt) and what a call is (`Call` in Calls.antt), and
--- nothing of how the answers are computed.
+-- the table of refusals (`refusalTable` in Refusals.antt, with `lentRoomsBy` in decide_buffers/specs/Room.antt) and what a call is (`CallOf` in Calls.antt: of
+-- either engine that decides), and nothing of how the answers are computed.
 --
--- The promises of the code are equations, for every input: `decide` promises `Decided` (decide/specs/Decided.antt), `check_model` answers
--- `modelAnswer`, `check_refutation` answers `refutationAnswer`, `shorter` hands back `shorterSlice`, the exported functions return `DecideReturns`,
+-- The promises of the code are equations, for every input: `decide` promises `Decided` (decide/specs/Decided.antt), `decide_differences`
+-- `DifferencesDecided` (differences/specs/Decided.antt), `check_model` answers
+-- `modelAnswer`, `check_refutation` answers `refutationAnswer`, `shorter` hands back `shorterSlice`, the exported functions return `DecideReturns`, `DifferencesReturn`,
 -- `checkModel`, `checkRefutation`, `refutationBegin`, `refutationTake`, `refutationEnd` and `shorterReturned`, and `report_input`, which the program calls,
 -- promises `InputReported` (file_report/specs/Input.antt). src/lib.rt calls both checkers and `shorter` on buffers that could be written, and proves that
 -- every buffer is left as it was.
@@ -61,13 +63,13 @@ use Rattle.theory_answers.specs.Same.{same-verdict, same-written}
 use Rattle.decide_buffers.specs.Room.{Lent, modelRoom, boundsRoom, groupsRoom}
 use Rattle.decide.specs.declared.Answer.{Answer}
 use Rattle.decide.specs.declared.Answer.the-variants as decide
-use Rattle.decide.specs.Decided.{cleared, Decided, DecideOk}
+use Rattle.decide.specs.Decided.{clearedTo, Decided, DecideOk}
 use Rattle.decide_identifiers.specs.Identifiers.{stepAt, identifiersOf, length-identifiers, identifier-whole}
 use Rattle.decide.specs.Parts.{modelIn, boundsIn, groupsIn, refutationIn, identifiersIn, model-in, bounds-in, groups-in, refutation-in, identifiers-in}
 use Rattle.demands.specs.Cases.{AllHold, cases, all-cases}
 use Rattle.demands.specs.Exists.{a-call}
 use Rattle.demands.specs.Shown.{model-accepted}
-use Rattle.demands.specs.Calls.{Call, call-valid, call-yes, call-no, verdict-yes, verdict-no, on-yes, on-no, call-written, call-work, beyond-model, beyond-bounds, beyond-groups, call-due, call-identifiers, call-answer}
+use Rattle.demands.specs.Calls.{Engine, roomOf, CallOf, Call, call-valid, call-yes, call-no, verdict-yes, verdict-no, on-yes, on-no, call-written, call-work, beyond-model, beyond-bounds, beyond-groups, call-due, call-identifiers, call-answer}
 use Rattle.demands.specs.Refusals.{Asked, deciding, checking-model, listTable, refusalTable, NoneApplies, FirstApplies, IsRefused}
 use Rattle.demands.specs.Refused.{table-refuses, table-valid, table-passes, list-valid}
 
@@ -119,7 +121,7 @@ calls-exist n L before ok = a-call n L before ok
 
 -- ---- demand 2: the answer is yes exactly if whole numbers exist that meet every line
 
-pub record RightAnswer (n : ℕ) (L : List ℤ) (c : Call n L) : Type 0 where
+pub record RightAnswer {e : Engine} (n : ℕ) (L : List ℤ) (c : CallOf e n L) : Type 0 where
   pub yes-exactly : (c .answer ≡ decide.Yes) ↔ Solvable (linesOf L)
   pub no-exactly : (c .answer ≡ decide.No) ↔ (Solvable (linesOf L) → ⊥)
   -- On a yes the one model, the tightest bounds and the groups are written; what lies beyond them, and the refutation, is untouched.
@@ -138,9 +140,9 @@ pub record RightAnswer (n : ℕ) (L : List ℤ) (c : Call n L) : Type 0 where
   pub refutation-only : c .answer ≡ decide.No → c .after .refutation ≡ refutationIn (c .after) ++ drop (length (refutationIn (c .after))) (c .before .refutation)
   pub identifiers-only : c .answer ≡ decide.No → c .after .identifiers ≡ identifiersIn (c .after) ++ drop (length (identifiersIn (c .after))) (c .before .identifiers)
   -- The named part of the work area is all zeros, and the rest is untouched.
-  pub work : c .after .work ≡ cleared n (c .before .work)
+  pub work : c .after .work ≡ clearedTo (roomOf e n) (c .before .work)
 
-pub right-answer : (n : ℕ) (L : List ℤ) (c : Call n L) → RightAnswer n L c
+pub right-answer : {e : Engine} (n : ℕ) (L : List ℤ) (c : CallOf e n L) → RightAnswer n L c
 right-answer n L c =
     let v = call-valid c in
     let o = workable n L v in
@@ -194,8 +196,8 @@ pub record GoOnSharing (K : List ℤ) (before after : List ℕ) (x y : ℕ) : Ty
   pub equal : SameSign before x y → SameSign after x y
   pub different : (SameSign before x y → ⊥) → (SameSign after x y → ⊥) ⊎ (AlwaysZero (linesOf K) x × AlwaysZero (linesOf K) y)
 
--- One claim over any two calls that were not refused, on a list and on one that begins with all its lines.
-pub record NothingUnlearned (n : ℕ) (L M : List ℤ) (c : Call n L) (d : Call n (L ++ M)) : Type 0 where
+-- One claim over any two calls that were not refused, each of either engine, on a list and on one that begins with all its lines.
+pub record NothingUnlearned {e f : Engine} (n : ℕ) (L M : List ℤ) (c : CallOf e n L) (d : CallOf f n (L ++ M)) : Type 0 where
   -- A no hands over a refutation of the due kind, and the checker accepts it.
   pub shown : c .answer ≡ decide.No → ShowsNo n L (refutationIn (c .after))
   -- The answer is no exactly if the checker accepts some refutation, whoever proposed it.
@@ -217,7 +219,7 @@ pub record NothingUnlearned (n : ℕ) (L M : List ℤ) (c : Call n L) (d : Call 
   pub model : c .answer ≡ decide.Yes → d .answer ≡ decide.Yes
       → (modelIn n (d .after) ≡ modelIn n (c .after)) ↔ Solves (linesOf M) (assignmentOf (modelIn n (c .after)))
 
-pub nothing-unlearned : (n : ℕ) (L M : List ℤ) (c : Call n L) (d : Call n (L ++ M)) → NothingUnlearned n L M c d
+pub nothing-unlearned : {e f : Engine} (n : ℕ) (L M : List ℤ) (c : CallOf e n L) (d : CallOf f n (L ++ M)) → NothingUnlearned n L M c d
 nothing-unlearned n L M c d =
     let v = call-valid c in
     let u = call-valid d in
@@ -250,14 +252,15 @@ nothing-unlearned n L M c d =
     shown : c .answer ≡ decide.No → ShowsNo n L (refutationIn (c .after))
     shown e = shows-no n L (refutationIn (c .after)) (call-valid c) (call-due c e)
 
--- Answers depend on the solutions alone: two lists with the same solutions have the same verdict, model, bounds and groups, whatever stood in the buffers.
-pub record SameAnswers (n : ℕ) (L M : List ℤ) (c : Call n L) (d : Call n M) : Type 0 where
+-- Answers depend on the solutions alone: two lists with the same solutions have the same verdict, model, bounds and groups, whatever stood in the buffers
+-- and whichever engine was asked.
+pub record SameAnswers {e f : Engine} (n : ℕ) (L M : List ℤ) (c : CallOf e n L) (d : CallOf f n M) : Type 0 where
   pub answer : c .answer ≡ d .answer
   pub model : c .answer ≡ decide.Yes → modelIn n (c .after) ≡ modelIn n (d .after)
   pub bounds : c .answer ≡ decide.Yes → boundsIn n (c .after) ≡ boundsIn n (d .after)
   pub groups : c .answer ≡ decide.Yes → groupsIn n (c .after) ≡ groupsIn n (d .after)
 
-pub answers-by-solutions-alone : (n : ℕ) (L M : List ℤ) (c : Call n L) (d : Call n M) → SameSolutions (linesOf L) (linesOf M) → SameAnswers n L M c d
+pub answers-by-solutions-alone : {e f : Engine} (n : ℕ) (L M : List ℤ) (c : CallOf e n L) (d : CallOf f n M) → SameSolutions (linesOf L) (linesOf M) → SameAnswers n L M c d
 answers-by-solutions-alone n L M c d same =
     record {
       answer = answer;
@@ -298,13 +301,13 @@ nothing-else n L m b g v w = let o = workable n L v in (written-model n L o m b 
 -- On a yes, two group entries tell all that holds of two events in every solution. Sharing a group variable is an equivalence up to sign: x and y have the
 -- same one exactly if x = y in every solution or x = -y in every solution. The signs say which: x = y exactly if both entries are equal, variable and sign;
 -- x = -y exactly if the variables are equal and the signs differ, or both are always 0.
-pub record GroupsTell (n : ℕ) (L : List ℤ) (c : Call n L) (x y : ℕ) : Type 0 where
+pub record GroupsTell {e : Engine} (n : ℕ) (L : List ℤ) (c : CallOf e n L) (x y : ℕ) : Type 0 where
   pub shared : SameVariable (groupsIn n (c .after)) x y ↔ (Equal (linesOf L) x y ⊎ Mirrored (linesOf L) x y)
   pub equal : (SameVariable (groupsIn n (c .after)) x y × SameSign (groupsIn n (c .after)) x y) ↔ Equal (linesOf L) x y
   pub mirrored : ((SameVariable (groupsIn n (c .after)) x y × (SameSign (groupsIn n (c .after)) x y → ⊥)) ⊎ (AlwaysZero (linesOf L) x × AlwaysZero (linesOf L) y))
       ↔ Mirrored (linesOf L) x y
 
-pub groups-tell : (n : ℕ) (L : List ℤ) (c : Call n L) → c .answer ≡ decide.Yes → (x y : ℕ) → x < n → y < n → GroupsTell n L c x y
+pub groups-tell : {e : Engine} (n : ℕ) (L : List ℤ) (c : CallOf e n L) → c .answer ≡ decide.Yes → (x y : ℕ) → x < n → y < n → GroupsTell n L c x y
 groups-tell n L c e x y h k =
     let w = call-written c e in
     record {
@@ -389,7 +392,7 @@ pub record EachIdentifier (L : List ℤ) (R I : List ℕ) : Type 0 where
   pub each : (i : ℕ) → i < stepsIn R → pos (getD I i 0) ≡ lineAt L (stepAt R i / 2) .identifier
 
 -- Nothing falls out: so it is of every no.
-pub identifiers-come-back : (n : ℕ) (L : List ℤ) (c : Call n L) → c .answer ≡ decide.No → EachIdentifier L (refutationIn (c .after)) (identifiersIn (c .after))
+pub identifiers-come-back : {e : Engine} (n : ℕ) (L : List ℤ) (c : CallOf e n L) → c .answer ≡ decide.No → EachIdentifier L (refutationIn (c .after)) (identifiersIn (c .after))
 identifiers-come-back n L c e =
     let R = refutationIn (c .after) in
     rw (call-identifiers c e)
@@ -397,7 +400,7 @@ identifiers-come-back n L c e =
 
 -- Two calls, on lists that differ only in identifiers: the same answer, on a yes the same model, bounds and groups, on a no the same kind; and the checker
 -- gives every refutation the same answer against both.
-pub record NothingElseChanges (n : ℕ) (L M : List ℤ) (c : Call n L) (d : Call n M) : Type 0 where
+pub record NothingElseChanges {e f : Engine} (n : ℕ) (L M : List ℤ) (c : CallOf e n L) (d : CallOf f n M) : Type 0 where
   pub same-answer : c .answer ≡ d .answer
   pub same-model : c .answer ≡ decide.Yes → modelIn n (c .after) ≡ modelIn n (d .after)
   pub same-bounds : c .answer ≡ decide.Yes → boundsIn n (c .after) ≡ boundsIn n (d .after)
@@ -405,7 +408,7 @@ pub record NothingElseChanges (n : ℕ) (L M : List ℤ) (c : Call n L) (d : Cal
   pub same-kind : c .answer ≡ decide.No → kindOf (refutationIn (c .after)) ≡ kindOf (refutationIn (d .after))
   pub checked-alike : (R : List ℕ) → refutationAnswer n L R ≡ refutationAnswer n M R
 
-pub identifiers-change-nothing : (n : ℕ) (L M : List ℤ) → OnlyIdentifiers L M → (c : Call n L) (d : Call n M) → NothingElseChanges n L M c d
+pub identifiers-change-nothing : {e f : Engine} (n : ℕ) (L M : List ℤ) → OnlyIdentifiers L M → (c : CallOf e n L) (d : CallOf f n M) → NothingElseChanges n L M c d
 identifiers-change-nothing n L M o c d =
     let s = lines-same L M o in
     let same = call-answer c ∙ ap (λ (t : Bool). cond t decide.Yes decide.No) (same-verdict-bare n (linesOf L) (linesOf M) s) ∙ sym (call-answer d) in

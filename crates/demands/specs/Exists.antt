@@ -13,7 +13,7 @@ use Rattle.decide_buffers.specs.Room.{Lent}
 use Rattle.decide.specs.declared.Answer.the-variants.{Yes, No, Refused}
 use Rattle.decide.specs.Decided.{unlessRefused, decideAnswer, DecideOk, ok-decide}
 use Rattle.demands.specs.Calls.{Call}
-use Rattle.demands.specs.DecideVersions.{right, right-keeps}
+use Rattle.demands.specs.RightVersion.{right, right-keeps}
 
 -- the call of the version that keeps the promise
 pub call-from : (n : ℕ) (L : List ℤ) (b : Lent) → DecideOk n L b → Call n L

@@ -23,9 +23,8 @@ use Rattle.check_model.specs.Model.{modelAnswer}
 use Rattle.check_refutation.specs.Answer.{refutationAnswer}
 use Rattle.check_pieces.specs.Cut.{Words}
 use Rattle.decide_buffers.specs.Room.{Lent}
-use Rattle.decide.specs.Decided.{answerFor}
 use Rattle.decide.specs.Parts.{modelIn, refutationIn}
-use Rattle.demands.specs.Calls.{Returned, returned-call, returned-unchanged, call-accepted}
+use Rattle.demands.specs.Calls.{Engine, answerBy, ReturnsBy, Returned, engine-below, returned-call, returned-unchanged, call-accepted}
 use Rattle.demands.specs.Refusals.{Asked, refusalTable, FirstApplies, returned}
 use Rattle.demands.specs.Refused.{table-refuses, code-refused}
 use Rattle.c_codes.specs.Codes.{refusalUnit, refusalCode, noCode}
@@ -34,48 +33,49 @@ use Rattle.c_codes.specs.ListBytes.{numberBytes, bytesValidity}
 use Rattle.c_checking.specs.Calls.{modelOfBytes, refutationOfBytes, checkModel, checkRefutation}
 use Rattle.c_checking.specs.Laws.{model-bytes-below, refutation-bytes-below}
 use Rattle.c_checking.specs.Returned.{BytesBreakAt, returned-yes, returned-no}
-use Rattle.c_checking.specs.Bytes.{list-in-bytes, refutation-in-bytes, model-in-bytes}
+use Rattle.c_codes.specs.InBytes.{list-in-bytes}
+use Rattle.c_checking.specs.Bytes.{refutation-in-bytes, model-in-bytes}
 use Rattle.c_pieces.specs.Pieces.{refutationBegin, refutationEnd, takeEach, each-answered}
-use Rattle.c_deciding.specs.Calls.{decideCode, DecideReturns}
-use Rattle.c_deciding.specs.Laws.{decision-below, decisions-apart}
+use Rattle.c_deciding.specs.Calls.{decideCode}
+use Rattle.c_deciding.specs.Laws.{decisions-apart}
 use Rattle.demands.specs.Accepted.{accepted-words, accepted-refutation, accepted-model}
 use Rattle.demands.specs.Pieces.{each-checked}
 use Rattle.demands.specs.Demands.{ValidFor, Accepted, right-answer, nothing-against-a-solution}
 
--- A returned 0 or 1,000,000 is a call that was not refused, so that demands 1 to 3 hold of it: 0 is its yes and 1,000,000 its no, and what the buffers
+-- Of both functions that decide a list: a returned 0 or 1,000,000 is a call that was not refused, so that demands 1 to 3 hold of it: 0 is its yes and 1,000,000 its no, and what the buffers
 -- held before and after is what the call found and left.
-pub returned-is-a-call : (n : ℕ) (L : List ℤ) (r : ℤ) (b a : Lent) → DecideReturns n L r b a → pos 0 ⩽ r → Returned n L r b a
-returned-is-a-call n L r b a d = returned-call d
+pub returned-is-a-call : (e : Engine) (n : ℕ) (L : List ℤ) (r : ℤ) (b a : Lent) → ReturnsBy e n L r b a → pos 0 ⩽ r → Returned e n L r b a
+returned-is-a-call e n L r b a d = returned-call e n L r b a d
 
 -- A returned refusal leaves every lent buffer as it was.
-pub returned-refusal-changes-nothing : (n : ℕ) (L : List ℤ) (r : ℤ) (b a : Lent) → DecideReturns n L r b a → r ⋖ pos 0 → a ≡ b
-returned-refusal-changes-nothing n L r b a d = returned-unchanged d
+pub returned-refusal-changes-nothing : (e : Engine) (n : ℕ) (L : List ℤ) (r : ℤ) (b a : Lent) → ReturnsBy e n L r b a → r ⋖ pos 0 → a ≡ b
+returned-refusal-changes-nothing e n L r b a d = returned-unchanged e n L r b a d
 
 -- After a no, the refutation that was left is accepted.
-pub left-refutation-is-accepted : (n : ℕ) (L : List ℤ) (b a : Lent) → DecideReturns n L (pos noCode) b a → Accepted n L (refutationIn a)
-left-refutation-is-accepted n L b a d =
-    let c = returned-call d (omega arith) in
+pub left-refutation-is-accepted : (e : Engine) (n : ℕ) (L : List ℤ) (b a : Lent) → ReturnsBy e n L (pos noCode) b a → Accepted n L (refutationIn a)
+left-refutation-is-accepted e n L b a d =
+    let c = returned-call e n L _ b a d (omega arith) in
     subst (λ (x : Lent). Accepted n L (refutationIn x)) (c .after) (call-accepted (c .call) (c .no .1 refl))
 
 -- So the exported check of the list and of that refutation, each as its bytes, returns 0.
-pub returned-no-is-shown : (n : ℕ) (L : List ℤ) (b a : Lent) → DecideReturns n L (pos noCode) b a → checkRefutation n (int32Bytes L) (nat32Bytes (refutationIn a)) ≡ pos 0
-returned-no-is-shown n L b a d = accepted-refutation n L (refutationIn a) (left-refutation-is-accepted n L b a d)
+pub returned-no-is-shown : (e : Engine) (n : ℕ) (L : List ℤ) (b a : Lent) → ReturnsBy e n L (pos noCode) b a → checkRefutation n (int32Bytes L) (nat32Bytes (refutationIn a)) ≡ pos 0
+returned-no-is-shown e n L b a d = accepted-refutation n L (refutationIn a) (left-refutation-is-accepted e n L b a d)
 
 -- So do the exported calls that take its numbers one by one.
-pub returned-no-is-shown-in-pieces : (n : ℕ) (L : List ℤ) (b a : Lent) → DecideReturns n L (pos noCode) b a → refutationEnd n L (takeEach L refutationBegin (refutationIn a)) ≡ pos 0
-returned-no-is-shown-in-pieces n L b a d =
-    let s = left-refutation-is-accepted n L b a d in
+pub returned-no-is-shown-in-pieces : (e : Engine) (n : ℕ) (L : List ℤ) (b a : Lent) → ReturnsBy e n L (pos noCode) b a → refutationEnd n L (takeEach L refutationBegin (refutationIn a)) ≡ pos 0
+returned-no-is-shown-in-pieces e n L b a d =
+    let s = left-refutation-is-accepted e n L b a d in
     each-answered n L (refutationIn a) (accepted-words n L (refutationIn a) s) ∙ ap checkCode s
 
 -- After a yes, the model checker says yes to the model that was left.
-pub left-model-is-accepted : (n : ℕ) (L : List ℤ) (b a : Lent) → DecideReturns n L (pos 0) b a → modelAnswer n L (modelIn n a) ≡ Yes
-left-model-is-accepted n L b a d =
-    let c = returned-call d (omega arith) in
+pub left-model-is-accepted : (e : Engine) (n : ℕ) (L : List ℤ) (b a : Lent) → ReturnsBy e n L (pos 0) b a → modelAnswer n L (modelIn n a) ≡ Yes
+left-model-is-accepted e n L b a d =
+    let c = returned-call e n L _ b a d (omega arith) in
     subst (λ (x : Lent). modelAnswer n L (modelIn n x) ≡ Yes) (c .after) (right-answer n L (c .call) .yes-is-shown (c .yes .1 refl))
 
 -- So the exported check of the list and of that model, each as its bytes, returns 0.
-pub returned-yes-is-shown : (n : ℕ) (L : List ℤ) (b a : Lent) → DecideReturns n L (pos 0) b a → checkModel n (int32Bytes L) (int64Bytes (modelIn n a)) ≡ pos 0
-returned-yes-is-shown n L b a d = accepted-model n L (modelIn n a) (left-model-is-accepted n L b a d)
+pub returned-yes-is-shown : (e : Engine) (n : ℕ) (L : List ℤ) (b a : Lent) → ReturnsBy e n L (pos 0) b a → checkModel n (int32Bytes L) (int64Bytes (modelIn n a)) ≡ pos 0
+returned-yes-is-shown e n L b a d = accepted-model n L (modelIn n a) (left-model-is-accepted e n L b a d)
 
 -- Bytes change no answer: on the bytes of numbers of 32 bits, of a model's values 64, the exported checks answer as the checkers do on the numbers.
 pub list-bytes-as-numbers : (n : ℕ) (L : List ℤ) → ((i : ℕ) → SFits w32 (number L i)) → bytesValidity n (int32Bytes L) ≡ validityOf n L
@@ -134,5 +134,5 @@ model-answers-apart n k b c m l = answers-apart _ _ (model-bytes-below n b m) (m
 pub refutation-answers-apart : (n k : ℕ) (b c r s : List ℕ) → checkRefutation n b r ≡ checkRefutation k c s → refutationOfBytes n b r ≡ refutationOfBytes k c s
 refutation-answers-apart n k b c r s = answers-apart _ _ (refutation-bytes-below n b r) (refutation-bytes-below k c s)
 
-pub decisions-returned-apart : (n k : ℕ) (L M : List ℤ) (b c : Lent) → decideCode (answerFor n L b) ≡ decideCode (answerFor k M c) → answerFor n L b ≡ answerFor k M c
-decisions-returned-apart n k L M b c = decisions-apart _ _ (decision-below n L b) (decision-below k M c)
+pub decisions-returned-apart : (e f : Engine) (n k : ℕ) (L M : List ℤ) (b c : Lent) → decideCode (answerBy e n L b) ≡ decideCode (answerBy f k M c) → answerBy e n L b ≡ answerBy f k M c
+decisions-returned-apart e f n k L M b c = decisions-apart _ _ (engine-below e n L b) (engine-below f k M c)

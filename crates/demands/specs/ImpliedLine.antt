@@ -1,7 +1,7 @@
 -- What was asked of the line question, in the words of docs/SPECIFICATION.md, each statement proved by citing the rest: does every solution of a list meet a line?
 --
--- A reader has to believe the meaning of the words (`Implies`, `Breaks` and `BreakingModel` in implied_line/specs/Meaning.antt, over `opposite` in
--- implied_line/specs/Opposite.antt and the words of Demands.antt), the table of refusals here and what a call is (`LineCall`), and nothing of how the answers
+-- A reader has to believe the meaning of the words (`Implies` and `Breaks` in lines/specs/Line.antt, `BreakingModel` in implied_line/specs/Meaning.antt, over `opposite` in
+-- opposite_line/specs/Opposite.antt and the words of Demands.antt), the table of refusals here and what a call is (`LineCall`), and nothing of how the answers
 -- are computed. The promise of the code is `AnswersLine` (implied_line/specs/Answer.antt), for every input; the exported function returns `LineReturns`.
 use mathlib.Core.Path.{_≡_, refl, sym, ap, ap₂, subst, _∙_}
 use mathlib.Core.Logic.{_↔_, Iff·trans}
@@ -20,7 +20,7 @@ use Rattle.lines.specs.declared.Line.{Line}
 use Rattle.lines.specs.declared.Refusal.{Refusal}
 use Rattle.lines.specs.declared.Validity.{Validity}
 use Rattle.lines.specs.declared.Validity.the-variants as validity
-use Rattle.lines.specs.Line.{lineCount, linesOf, Assignment, Meets, Solves, Solvable, Entails, SameSolutions}
+use Rattle.lines.specs.Line.{lineCount, linesOf, Assignment, Meets, Solves, Solvable, Entails, Implies, Breaks, SameSolutions}
 use Rattle.lines.specs.Refusal.{placeOf}
 use Rattle.lines.specs.Valid.{valid-list, workable}
 use Rattle.check_soundness.specs.Refutes.{Refutes}
@@ -33,10 +33,10 @@ use Rattle.decide_buffers.specs.Room.{modelRoom, modelRooms, ModelLent, modelLe
 use Rattle.decide.specs.Decided.{cleared}
 use Rattle.implied_line.specs.declared.LineAnswer.{LineAnswer}
 use Rattle.implied_line.specs.declared.LineAnswer.the-variants.{Implied, NotImplied, Unsolvable, Refused}
-use Rattle.implied_line.specs.Opposite.{opposite, opposed, opposed-works, meets-opposite, solves-opposed}
+use Rattle.opposite_line.specs.Opposite.{opposite, opposed, opposed-works, meets-opposite, solves-opposed}
 use Rattle.implied_line.specs.Answer.{questionValidity, judgedBy, judged, unlessRefused, impliedAnswer, answerFor, modelLeft, workLeft, AnswersLine}
 use Rattle.implied_line.specs.Judged.{LineAsked, asked}
-use Rattle.implied_line.specs.Meaning.{Implies, Breaks, BreakingModel, implies-more, breaks-before, implied-exactly, not-implied-exactly, unsolvable-exactly, breaking-model, one-breaking-model, implied-shown, shown-implied}
+use Rattle.implied_line.specs.Meaning.{BreakingModel, implies-more, breaks-before, implied-exactly, not-implied-exactly, unsolvable-exactly, breaking-model, one-breaking-model, implied-shown, shown-implied}
 use Rattle.implied_line.specs.Places.{Below, NotRefused, answered-valid}
 use Rattle.c_codes.specs.Codes.{noCode, noSolutionCode, refusalUnit, refusalCode}
 use Rattle.c_codes.specs.Apart.{no-refusal}

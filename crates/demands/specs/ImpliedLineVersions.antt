@@ -25,7 +25,7 @@ use Rattle.theory_bounds.specs.Answers.{modelOf}
 use Rattle.decide_buffers.specs.Room.{modelRoom, workRoom, ModelLent, modelLengthsOf}
 use Rattle.implied_line.specs.declared.LineAnswer.{LineAnswer}
 use Rattle.implied_line.specs.declared.LineAnswer.the-variants.{Implied, NotImplied, Unsolvable, Refused}
-use Rattle.implied_line.specs.Opposite.{opposite, opposed}
+use Rattle.opposite_line.specs.Opposite.{opposite, opposed}
 use Rattle.implied_line.specs.Answer.{questionValidity, judgedBy, judged, unlessRefused, impliedAnswer, answerFor, modelLeft, workLeft, AnswersLine}
 
 -- what a call gives back: its answer, and what the lent buffers hold after
@@ -76,10 +76,10 @@ abbrev room : ModelLent
 room = record { model = replicate (modelRoom 1) (pos 0); work = replicate (workRoom 1) (pos 0) }
 
 -- x at most 0, and x at least 1
-abbrev most : Line
+abbrev pub most : Line
 most = record { a = pos 1; x = pos 0; b = pos 0; y = pos 0; d = pos 0; identifier = pos 0 }
 
-abbrev least : Line
+abbrev pub least : Line
 least = record { a = negℤ (pos 1); x = pos 0; b = pos 0; y = pos 0; d = negℤ (pos 1); identifier = pos 0 }
 
 -- ---- a yes for every line
@@ -112,7 +112,7 @@ unfolding onlyOpposed impliedAnswer questionValidity validityOf linesValidity li
 only-opposed-breaks k = let e : Implied ≡ Unsolvable = k 1 (lineNumbers most ++ lineNumbers least) most room .is in never (cc)
 
 -- ---- its opposite line has -d, which what takes d meets too
-abbrev withBound : Line → Line
+abbrev pub withBound : Line → Line
 withBound l = record { a = negℤ (l .a); x = l .x; b = negℤ (l .b); y = l .y; d = negℤ (l .d); identifier = l .identifier }
 
 pub meetsBoth : Version

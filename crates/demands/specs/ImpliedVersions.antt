@@ -23,7 +23,7 @@ use Rattle.decide.specs.Decided.{cleared}
 use Rattle.implied_pair.specs.declared.Pair.{Pair}
 use Rattle.implied_pair.specs.Pair.{pairIn, pairValidity, PairCall, called, judged, unlessRefused, pairCall}
 use Rattle.c_codes.specs.Apart.{same-pos}
-use Rattle.demands.specs.DecideVersions.{atMost5, equalPair}
+use Rattle.demands.specs.RightVersion.{atMost5, equalPair}
 
 abbrev pub Version : Type 0
 Version = ℕ → List ℤ → ℕ → ℕ → List ℤ → PairCall

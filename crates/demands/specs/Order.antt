@@ -28,16 +28,17 @@ use Rattle.theory_order.specs.Order.{rearranged-kind}
 use Rattle.decide_buffers.specs.Room.{Lent, lengthsOf, modelRoom, boundsRoom, groupsRoom, roomsValidity, decideValidity}
 use Rattle.decide.specs.declared.Answer.{Answer}
 use Rattle.decide.specs.declared.Answer.the-variants as decide
-use Rattle.decide.specs.Decided.{NotRefused, unlessRefused, decideAnswer, answerFor, cleared, Decided}
+use Rattle.decide.specs.Decided.{NotRefused, unlessRefused, decideAnswer, answerFor, clearedTo, Decided}
 use Rattle.decide.specs.Parts.{modelIn, boundsIn, groupsIn, refutationIn}
 use Rattle.implied_line.specs.declared.LineAnswer.the-variants.{NotImplied}
-use Rattle.session.specs.Promise.{Adds}
-use Rattle.session.specs.Sequence.{Reached}
+use Rattle.session_promise.specs.Promise.{Adds}
+use Rattle.session_promise.specs.Sequence.{Reached}
 use Rattle.c_deciding.specs.Calls.{decideCode, DecideReturns}
-use Rattle.demands.specs.Calls.{Call, call-valid, call-yes, call-due, on-yes, on-no}
+use Rattle.demands.specs.Calls.{Engine, roomOf, CallOf, call-valid, call-yes, call-due, on-yes, on-no}
 use Rattle.demands.specs.Demands.{ValidFor, answers-by-solutions-alone}
 use Rattle.demands.specs.Versions.{falseList}
-use Rattle.demands.specs.DecideVersions.{Version, Keeps, roomWith, atMost5, firstLineOnly, first-line-no, first-line-yes}
+use Rattle.demands.specs.RightVersion.{Version, Keeps, roomWith, atMost5}
+use Rattle.demands.specs.DecideVersions.{firstLineOnly, first-line-no, first-line-yes}
 use Rattle.demands.specs.PairCalls.{PairAsked}
 use Rattle.demands.specs.Implied.{pair-by-solutions-alone}
 use Rattle.demands.specs.ImpliedLine.{LineCall, line-by-solutions-alone}
@@ -63,8 +64,8 @@ pub record SameButWalks (n : ℕ) (x : Answer) (a : Lent) (y : Answer) (e : Lent
   pub groups : x ≡ decide.Yes → groupsIn n a ≡ groupsIn n e
   pub kind : x ≡ decide.No → kindOf (refutationIn a) ≡ kindOf (refutationIn e)
 
--- Two calls that were not refused, on a list and on a rearrangement of it, whatever stood in the buffers.
-pub order-does-not-matter : (n : ℕ) (L M : List ℤ) → Rearranged (linesOf L) (linesOf M) → (c : Call n L) (d : Call n M) → SameButWalks n (c .answer) (c .after) (d .answer) (d .after)
+-- Two calls that were not refused, on a list and on a rearrangement of it, whatever stood in the buffers, and of either engine each.
+pub order-does-not-matter : {e f : Engine} (n : ℕ) (L M : List ℤ) → Rearranged (linesOf L) (linesOf M) → (c : CallOf e n L) (d : CallOf f n M) → SameButWalks n (c .answer) (c .after) (d .answer) (d .after)
 order-does-not-matter n L M p c d =
     let same = answers-by-solutions-alone n L M c d (same-solutions (linesOf L) (linesOf M) p) in
     record {
@@ -78,13 +79,13 @@ order-does-not-matter n L M p c d =
           ∙ sym (call-due d (sym (same .answer) ∙ e) .kind);
     }
 
--- Handed the same buffers, they leave the same in all of them, but for the refutation and the identifiers of a no.
+-- Handed the same buffers, two calls of one engine leave the same in all of them, but for the refutation and the identifiers of a no.
 pub record LeftAlike (x : Answer) (a e : Lent) : Type 0 where
   pub yes : x ≡ decide.Yes → a ≡ e
   pub no : x ≡ decide.No → (a .model ≡ e .model) × (a .bounds ≡ e .bounds) × (a .groups ≡ e .groups) × (a .work ≡ e .work)
 
-pub nothing-else-differs : (n : ℕ) (L M : List ℤ) → Rearranged (linesOf L) (linesOf M) → (c : Call n L) (d : Call n M) → c .before ≡ d .before → LeftAlike (c .answer) (c .after) (d .after)
-nothing-else-differs n L M p c d same = record { yes = after-yes; no = after-no }
+pub nothing-else-differs : {e : Engine} (n : ℕ) (L M : List ℤ) → Rearranged (linesOf L) (linesOf M) → (c : CallOf e n L) (d : CallOf e n M) → c .before ≡ d .before → LeftAlike (c .answer) (c .after) (d .after)
+nothing-else-differs {e = e} n L M p c d same = record { yes = after-yes; no = after-no }
   where
     answers : c .answer ≡ d .answer
     answers = order-does-not-matter n L M p c d .answer
@@ -93,26 +94,26 @@ nothing-else-differs n L M p c d same = record { yes = after-yes; no = after-no 
     both {A} f room {u} {v} e = ap (λ (w : List A). w ++ drop room (f (c .before))) e ∙ ap (λ (b : Lent). v ++ drop room (f b)) same
 
     after-yes : c .answer ≡ decide.Yes → c .after ≡ d .after
-    after-yes e =
-        let v = on-yes c e in
-        let w = on-yes d (sym answers ∙ e) in
-        let s = same-written n L M (workable n L (call-valid c)) (workable n M (call-valid d)) (same-solutions (linesOf L) (linesOf M) p) (call-yes c e) in
+    after-yes q =
+        let v = on-yes c q in
+        let w = on-yes d (sym answers ∙ q) in
+        let s = same-written n L M (workable n L (call-valid c)) (workable n M (call-valid d)) (same-solutions (linesOf L) (linesOf M) p) (call-yes c q) in
         let model : c .after .model ≡ d .after .model = v .model ∙ both (λ b. b .model) (modelRoom n) (s .0) ∙ sym (w .model) in
         let bounds : c .after .bounds ≡ d .after .bounds = v .bounds ∙ both (λ b. b .bounds) (boundsRoom n) (s .1) ∙ sym (w .bounds) in
         let groups : c .after .groups ≡ d .after .groups = v .groups ∙ both (λ b. b .groups) (groupsRoom n) (s .2) ∙ sym (w .groups) in
         let refutation : c .after .refutation ≡ d .after .refutation = v .refutation ∙ ap (λ (b : Lent). b .refutation) same ∙ sym (w .refutation) in
         let identifiers : c .after .identifiers ≡ d .after .identifiers = v .identifiers ∙ ap (λ (b : Lent). b .identifiers) same ∙ sym (w .identifiers) in
-        let work : c .after .work ≡ d .after .work = v .work ∙ ap (λ (b : Lent). cleared n (b .work)) same ∙ sym (w .work) in
+        let work : c .after .work ≡ d .after .work = v .work ∙ ap (λ (b : Lent). clearedTo (roomOf e n) (b .work)) same ∙ sym (w .work) in
         λ j. record { model = model j; bounds = bounds j; groups = groups j; refutation = refutation j; identifiers = identifiers j; work = work j }
 
     after-no : c .answer ≡ decide.No → (c .after .model ≡ d .after .model) × (c .after .bounds ≡ d .after .bounds) × (c .after .groups ≡ d .after .groups) × (c .after .work ≡ d .after .work)
-    after-no e =
-        let v = on-no c e in
-        let w = on-no d (sym answers ∙ e) in (
+    after-no q =
+        let v = on-no c q in
+        let w = on-no d (sym answers ∙ q) in (
           v .model ∙ ap (λ (b : Lent). b .model) same ∙ sym (w .model),
           v .bounds ∙ ap (λ (b : Lent). b .bounds) same ∙ sym (w .bounds),
           v .groups ∙ ap (λ (b : Lent). b .groups) same ∙ sym (w .groups),
-          v .work ∙ ap (λ (b : Lent). cleared n (b .work)) same ∙ sym (w .work),
+          v .work ∙ ap (λ (b : Lent). clearedTo (roomOf e n) (b .work)) same ∙ sym (w .work),
         )
 
 -- Of a valid list and a rearrangement of it, with the same buffers, the answer is one, 7 and 8 included; so is the number that the exported function returns.

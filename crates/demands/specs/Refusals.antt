@@ -1,6 +1,6 @@
 -- The specification's table of refusals: when each applies, in the order in which they go, and what it is to be the first that applies.
 -- The number and the place of each are `numberOf` and `placeOf` (lines/specs/Refusal.antt); the rooms of the lent buffers, with their refusals 7 and 8 in
--- their order, are `lentRooms` (decide_buffers/specs/Room.antt).
+-- their order, are `lentRoomsBy` the room of an engine's work area (decide_buffers/specs/Room.antt).
 use mathlib.Core.Path.{_≡_}
 use mathlib.Core.Logic.{_⊎_}
 use mathlib.Core.List.{List, [], _∷_, _++_}
@@ -10,16 +10,17 @@ use lib.ListN.{length}
 use Rattle.integers.specs.Integer.{_⩽_, _⋖_}
 use Rattle.lines.specs.declared.Line.{Line}
 use Rattle.lines.specs.declared.Refusal.{Refusal}
-use Rattle.lines.specs.declared.Refusal.the-variants.{TooManyVariables, BrokenLength, TooManyLines, BadCoefficient, BadVariable, MisplacedCoefficient, BadConstant, BadIdentifier, ShortWorkArea, WrongModelLength, BadValue, LongRefutation}
+use Rattle.lines.specs.declared.Refusal.the-variants.{TooManyVariables, BrokenLength, TooManyLines, BadCoefficient, BadVariable, MisplacedCoefficient, BadConstant, BadIdentifier, ShortWorkArea, WrongModelLength, BadValue, LongRefutation, NotDifference}
 use Rattle.lines.specs.Limits.{lineSize, maxVariables, maxLines, maxConstant, maxIdentifier, maxValue, maxRefutation}
 use Rattle.lines.specs.Line.{number, lineAt, lineCount}
 use Rattle.little_endian.specs.Bytes.{int32s, int64s}
 use Rattle.check_answers.specs.declared.CheckAnswer.the-variants as check
-use Rattle.decide_buffers.specs.Room.{Lent, Lengths, lengthsOf, Room, workRoom, lentRooms}
+use Rattle.decide_buffers.specs.Room.{Lent, Lengths, lengthsOf, Room, workRoom, differencesWorkRoom, lentRoomsBy, lentRooms}
 use Rattle.check_model.specs.Model.{modelAnswer}
 use Rattle.check_refutation.specs.Answer.{refutationAnswer}
 use Rattle.decide.specs.declared.Answer.the-variants as decide
 use Rattle.decide.specs.Decided.{answerFor}
+use Rattle.differences.specs.Decided.{differencesAnswerFor}
 use Rattle.implied_pair.specs.declared.PairOutcome.the-variants as implied
 use Rattle.implied_pair.specs.Pair.{pairCall}
 use Rattle.c_codes.specs.CheckCode.{checkCode}
@@ -28,10 +29,11 @@ use Rattle.c_checking.specs.Calls.{valueBytes, modelOfBytes, refutationOfBytes,
 use Rattle.c_deciding.specs.Calls.{decideCode}
 use Rattle.c_implied.specs.Calls.{outcomeCode}
 
--- What is asked, for n variables: to decide a list, with these lent buffers; what two variables of a list imply about each other, with this work area; to
--- check a model of a list, or a refutation; and from C both checks on bytes.
+-- What is asked, for n variables: to decide a list, with these lent buffers; the same of a list of differences, of the engine for these; what two variables
+-- of a list imply about each other, with this work area; to check a model of a list, or a refutation; and from C both checks on bytes.
 pub data Asked : Type 0 where
   deciding : (n : ℕ) (list : List ℤ) (lent : Lent) → Asked
+  deciding-differences : (n : ℕ) (list : List ℤ) (lent : Lent) → Asked
   asking-pair : (n : ℕ) (list : List ℤ) (x y : ℕ) (work : List ℤ) → Asked
   checking-model : (n : ℕ) (list values : List ℤ) → Asked
   checking-refutation : (n : ℕ) (list : List ℤ) (numbers : List ℕ) → Asked
@@ -49,6 +51,10 @@ WrongVariable n a x = ((a ≡ pos 0 → ⊥) × ((x ⋖ pos 0) ⊎ (pos n ⩽ x)
 -- the first coefficient is 0, and the second is not
 abbrev pub LoneSecond : Line → Type 0
 LoneSecond l = (l .a ≡ pos 0) × (l .b ≡ pos 0 → ⊥)
+
+-- one coefficient is 1 and the other -1, in either order; the variables may be the same
+abbrev pub IsDifference : Line → Type 0
+IsDifference l = ((l .a ≡ pos 1) × (l .b ≡ negℤ (pos 1))) ⊎ ((l .a ≡ negℤ (pos 1)) × (l .b ≡ pos 1))
 
 -- below -m or above m
 abbrev pub Outside : ℕ → ℤ → Type 0
@@ -72,15 +78,19 @@ abbrev pub rowsFrom : ℕ → ℕ → (ℕ → List Row) → List Row
 rowsFrom k zero rows = []
 rowsFrom k (suc count) rows = rows k ++ rowsFrom (k + 1) count rows
 
--- within a line 4, 5, 12, 6, 13
-abbrev pub lineTable : ℕ → ℕ → Line → List Row
-lineTable n k l =
+-- within a line 4, 5, 12, 6, 13, with a limit for d
+abbrev pub tableWithin : ℕ → ℕ → ℕ → Line → List Row
+tableWithin most n k l =
     BadCoefficient k when ((IsCoefficient (l .a) → ⊥) ⊎ (IsCoefficient (l .b) → ⊥))
     ∷ BadVariable k when (WrongVariable n (l .a) (l .x) ⊎ WrongVariable n (l .b) (l .y))
     ∷ MisplacedCoefficient k when LoneSecond l
-    ∷ BadConstant k when Outside maxConstant (l .d)
+    ∷ BadConstant k when Outside most (l .d)
     ∷ BadIdentifier k when WrongIdentifier (l .identifier)
     ∷ []
+
+-- of a list's lines
+abbrev pub lineTable : ℕ → ℕ → Line → List Row
+lineTable n k l = tableWithin maxConstant n k l
 
 -- 3; then lines from the first
 abbrev pub linesTable : ℕ → List ℤ → List Row
@@ -89,6 +99,10 @@ linesTable n L = TooManyLines when (maxLines < lineCount L) ∷ rowsFrom 0 (line
 -- 1, 2, 3; then lines from the first
 abbrev pub listTable : ℕ → List ℤ → List Row
 listTable n L = TooManyVariables when (maxVariables < n) ∷ BrokenLength when (length L % lineSize ≡ 0 → ⊥) ∷ linesTable n L
+
+-- 60: lines from the first
+abbrev pub differencesTable : List ℤ → List Row
+differencesTable L = rowsFrom 0 (lineCount L) (λ k. NotDifference k when (IsDifference (lineAt L k) → ⊥) ∷ [])
 
 -- list bytes that are no multiple of a line's give 2
 abbrev pub bytesTable : ℕ → List ℕ → List Row
@@ -107,9 +121,10 @@ roomsTable (r ∷ rs) n s = r .refusal when (r .size s < r .room n) ∷ roomsTab
 abbrev pub pairTable : ℕ → ℕ → ℕ → ℕ → List Row
 pairTable n x y size = BadVariable 0 when (n ≤ x) ∷ BadVariable 1 when (n ≤ y) ∷ ShortWorkArea when (size < workRoom n) ∷ []
 
--- then 7, 8 for deciding, 5, 8 for a pair, 9, 10 for a model, 11 for a refutation
+-- then 7, 8 for deciding, 60, 7, 8 for deciding differences, 5, 8 for a pair, 9, 10 for a model, 11 for a refutation
 abbrev pub refusalTable : Asked → List Row
 refusalTable (deciding n L lent) = listTable n L ++ roomsTable lentRooms n (lengthsOf lent)
+refusalTable (deciding-differences n L lent) = listTable n L ++ (differencesTable L ++ roomsTable (lentRoomsBy differencesWorkRoom) n (lengthsOf lent))
 refusalTable (asking-pair n L x y w) = listTable n L ++ pairTable n x y (length w)
 refusalTable (checking-model n L m) = listTable n L ++ WrongModelLength when (length m ≡ n → ⊥) ∷ valuesTable m
 refusalTable (checking-refutation n L R) = listTable n L ++ LongRefutation when (maxRefutation < length R) ∷ []
@@ -133,6 +148,7 @@ pub record FirstApplies (rows : List Row) (r : Refusal) : Type 1 where
 -- ---- what is answered
 abbrev pub IsRefused : Asked → Refusal → Type 0
 IsRefused (deciding n L lent) r = answerFor n L lent ≡ decide.Refused r
+IsRefused (deciding-differences n L lent) r = differencesAnswerFor n L lent ≡ decide.Refused r
 IsRefused (asking-pair n L x y w) r = pairCall n L x y w .answer .outcome ≡ implied.Refused r
 IsRefused (checking-model n L m) r = modelAnswer n L m ≡ check.Refused r
 IsRefused (checking-refutation n L R) r = refutationAnswer n L R ≡ check.Refused r
@@ -142,6 +158,7 @@ IsRefused (checking-refutation-bytes n b R) r = refutationOfBytes n b R ≡ chec
 -- the number that stands for the answer in C
 abbrev pub returned : Asked → ℤ
 returned (deciding n L lent) = decideCode (answerFor n L lent)
+returned (deciding-differences n L lent) = decideCode (differencesAnswerFor n L lent)
 returned (asking-pair n L x y w) = outcomeCode (pairCall n L x y w .answer .outcome)
 returned (checking-model n L m) = checkCode (modelAnswer n L m)
 returned (checking-refutation n L R) = checkCode (refutationAnswer n L R)

@@ -2,11 +2,12 @@
 --
 -- `Gives rows v` reads a computed validity along the rows: v is the refusal of the first row that applies, or valid if none does. A test that tells
 -- whether a condition holds makes one row, and one validity or else another makes the rows of both.
-use mathlib.Core.Path.{_≡_, refl, ap, subst}
+use mathlib.Core.Path.{_≡_, refl, ap, subst, _∙_}
 use mathlib.Core.Logic.{_↔_, _⊎_, inl, inr, ⊎-elim, Iff·rfl, Iff·trans}
 use mathlib.Core.Bool.{Bool, true, false, not, cond, _&&_, false≢true}
 use mathlib.Core.List.{List, [], _∷_, _++_}
 use Prim.Native.Nat.{ℕ, zero, suc, _+_, _*_, _/_, _%_, _<_, _≤_}
+use native.Mathlib.Decide.{ℕ-discrete}
 use native.Mathlib.Omega.{arith}
 use borrow.Author.Tests.{ltb-true, ltb-false, lt-ltb, le-ltb, eqb-true, eq-eqb, not-true}
 use lib.Dec.{eqb, ltb}
@@ -16,19 +17,21 @@ use lib.Signed.{leZ, ltZ}
 use Rattle.integers.specs.Integer.{_⩽_, _⋖_, eqZ, isWithin, Within}
 use Rattle.integers.specs.Linear.{ints, zs, given}
 use Rattle.integers.specs.Laws.{never, is-within, eqZ-true, eq-eqZ}
+use Rattle.integers.specs.Table.{allBelow, below-at}
+use Rattle.integers.specs.Lowest.{firstFailing, first-failing}
 use Rattle.lines.specs.declared.Line.{Line}
 use Rattle.lines.specs.declared.Refusal.{Refusal}
-use Rattle.lines.specs.declared.Refusal.the-variants.{TooManyVariables, BrokenLength, WrongModelLength, BadValue, LongRefutation}
+use Rattle.lines.specs.declared.Refusal.the-variants.{TooManyVariables, BrokenLength, WrongModelLength, BadValue, LongRefutation, NotDifference}
 use Rattle.lines.specs.declared.Validity.{Validity}
 use Rattle.lines.specs.declared.Validity.the-variants.{Valid, Refused}
 use Rattle.lines.specs.Limits.{lineSize, maxVariables, maxLines, maxConstant, maxIdentifier, maxValue, maxRefutation}
 use Rattle.lines.specs.Line.{number, lineAt, lineCount, linesOf}
-use Rattle.lines.specs.Refusal.{placeOf, _orElse_, refuseIf, coefficientsOk, variableOk, variablesOk, loneOk, constantOk, identifierOk, Rule, lineRules, firstBroken, lineValidity, linesValidity, validityOf}
+use Rattle.lines.specs.Refusal.{placeOf, _orElse_, refuseIf, coefficientsOk, variableOk, variablesOk, loneOk, constantOk, identifierOk, Rule, rulesWithin, firstBroken, lineValidity, linesValidity, validityOf}
 use Rattle.lines.specs.Laws.{validity-from, validity-past}
 use Rattle.check_answers.specs.declared.CheckAnswer.{CheckAnswer}
 use Rattle.check_answers.specs.declared.CheckAnswer.the-variants as check
 use Rattle.check_answers.specs.Answer.{NotRefused, unlessRefused, refused-when}
-use Rattle.decide_buffers.specs.Room.{Lent, Lengths, lengthsOf, Room, workRoom, lentRooms, firstShort, roomsValidity, decideValidity}
+use Rattle.decide_buffers.specs.Room.{Lent, Lengths, lengthsOf, Room, workRoom, differencesWorkRoom, lentRoomsBy, lentRooms, firstShort, roomsValidity, decideValidity}
 use Rattle.theory_bounds.specs.Verdict.{distances, verdictOf}
 use Rattle.little_endian.specs.Bytes.{le32, int32, int64, int32s, nat32s, int64s, length-firstOf}
 use Rattle.check_model.specs.Model.{valuesValidity, modelValidity}
@@ -40,8 +43,12 @@ use Rattle.check_refutation.specs.Small.{either}
 use Rattle.check_refutation.specs.Answer.{refutationValidity, verdict, refutationAnswer}
 use Rattle.check_refutation.specs.Places as refutation-places
 use Rattle.decide.specs.declared.Answer.the-variants as decide
-use Rattle.decide.specs.Decided as decision
 use Rattle.decide.specs.Decided.{cleared, decideAnswer, answerFor, validityFor}
+use Rattle.decide.specs.Parts.{judged-refuses}
+use Rattle.theory_differences.specs.Plain.{isDifference, Difference, forward, backward, difference, is-difference, allDifferences}
+use Rattle.differences_lines.specs.Others.{firstOther}
+use Rattle.differences_lines.specs.Refused.{othersValidity, differencesValidity}
+use Rattle.differences.specs.Decided.{differencesAnswer, differencesAnswerFor, plainValidityFor}
 use Rattle.implied_pair.specs.declared.PairOutcome.the-variants as implied
 use Rattle.implied_pair.specs.Pair as pair
 use Rattle.implied_pair.specs.Pair.{pairIn, pairValidity, called, judged, pairCall}
@@ -52,9 +59,10 @@ use Rattle.c_checking.specs.Calls.{valueBytes, modelOfValues, refutationOfNumbe
 use Rattle.c_checking.specs.Laws.{model-bytes-below, refutation-bytes-below}
 use Rattle.c_deciding.specs.Calls.{decideCode}
 use Rattle.c_deciding.specs.Laws.{decision-below, decisions-apart}
+use Rattle.c_differences.specs.Laws.{plain-decision-below}
 use Rattle.c_implied.specs.Calls.{outcomeCode}
 use Rattle.c_implied.specs.Laws.{pair-below, outcomes-apart}
-use Rattle.demands.specs.Refusals.{Asked, deciding, asking-pair, checking-model, checking-refutation, checking-model-bytes, checking-refutation-bytes, IsCoefficient, WrongVariable, LoneSecond, WrongIdentifier, Outside, Row, _when_, rowsFrom, lineTable, linesTable, listTable, bytesTable, valuesTable, roomsTable, refusalTable, NoneApplies, FirstApplies, IsRefused, returned}
+use Rattle.demands.specs.Refusals.{Asked, deciding, deciding-differences, asking-pair, checking-model, checking-refutation, checking-model-bytes, checking-refutation-bytes, IsCoefficient, WrongVariable, LoneSecond, IsDifference, WrongIdentifier, Outside, Row, _when_, rowsFrom, tableWithin, lineTable, linesTable, listTable, differencesTable, bytesTable, valuesTable, roomsTable, refusalTable, NoneApplies, FirstApplies, IsRefused, returned}
 
 -- ---- a validity, read along the rows
 pub data Gives : List Row → Validity → Type 1 where
@@ -135,6 +143,27 @@ gives-valid g = (fore g, back g)
     back (this c) n = absurd (n .0 c)
     back (later f g) n = back g (n .1)
 
+-- what is given is the refusal of a row
+abbrev pub EachRow : (Refusal → Type 0) → List Row → Type 0
+EachRow P [] = Unit {0}
+EachRow P (row ∷ rows) = P (row .refusal) × EachRow P rows
+
+each-append : (P : Refusal → Type 0) (rows rest : List Row) → EachRow P rows → EachRow P rest → EachRow P (rows ++ rest)
+each-append P [] rest a b = b
+each-append P (row ∷ rows) rest a b = (a .0, each-append P rows rest (a .1) b)
+
+pub each-from : (P : Refusal → Type 0) (k count : ℕ) (rows : ℕ → List Row) → ((i : ℕ) → EachRow P (rows i)) → EachRow P (rowsFrom k count rows)
+each-from P k zero rows h = tt
+each-from P k (suc count) rows h = each-append P (rows k) (rowsFrom (k + 1) count rows) (h k) (each-from P (k + 1) count rows h)
+
+pub given-row : (P : Refusal → Type 0) {rows : List Row} {v : Validity} → Gives rows v → EachRow P rows → (r : Refusal) → v ≡ Refused r → P r
+given-row P none a r e = never (cc)
+given-row P (this {r = q} c) a r e = subst P (same e) (a .0)
+  where
+    same : Refused q ≡ Refused r → q ≡ r
+    same e = cc
+given-row P (later n g) a r e = given-row P g (a .1) r e
+
 -- ---- what the tests tell
 not-test : {t : Bool} {C : Type 0} → Tells t C → Tells (not t) (C → ⊥)
 not-test {t = true} h = ((λ e c. false≢true e), (λ n. absurd (n (h .0 refl))))
@@ -208,13 +237,20 @@ lone-test l = go (eqZ (l .a) (pos 0)) (zero-test (l .a))
     go true z = let u = not-test (zero-test (l .b)) in ((λ e. (z .0 refl, u .0 e)), (λ w. u .1 (w .1)))
     go false z = ((λ e. absurd (false≢true e)), (λ w. absurd (false≢true (z .1 (w .0)))))
 
-constant-test : (l : Line) → Tells (not (constantOk l)) (Outside maxConstant (l .d))
+constant-test : (most : ℕ) (l : Line) → Tells (not (constantOk (pos most) l)) (Outside most (l .d))
 unfolding constantOk
-constant-test l = outside-test maxConstant (l .d)
+constant-test most l = outside-test most (l .d)
 
 identifier-test : (l : Line) → Tells (not (identifierOk l)) (WrongIdentifier (l .identifier))
 unfolding identifierOk
 identifier-test l = either-test (leZ (pos 0) (l .identifier)) (leZ (l .identifier) (pos maxIdentifier)) (above-test (pos 0) (l .identifier)) (above-test (l .identifier) (pos maxIdentifier))
+
+pub difference-test : (l : Line) → Tells (isDifference l) (IsDifference l)
+difference-test l = ((λ e. told (difference l e)), (λ h. is-difference l (⊎-elim (λ p. forward (p .0) (p .1)) (λ p. backward (p .0) (p .1)) h)))
+  where
+    told : Difference l → IsDifference l
+    told (forward a b) = inl (a, b)
+    told (backward a b) = inr (a, b)
 
 -- each rule in turn has its row: the rule's refusal of line number k, and a condition that its test tells
 Rows : ℕ → ℕ → Line → List Rule → List Row → Type 0
@@ -230,10 +266,41 @@ rows-give n k l [] (row ∷ rows) h = absurd h
 rows-give n k l (r ∷ rs) [] h = absurd h
 rows-give n k l (r ∷ rs) (row ∷ rows) h = rw (h .0) (gives-row (h .1) (rows-give n k l rs rows (h .2)))
 
+-- ---- a row for each number, where the lowest whose test fails is refused
+module _ (refusal : ℕ → Refusal) (ok : ℕ → Bool) (C : ℕ → Type 0) (tells : (k : ℕ) → Tells (not (ok k)) (C k)) where
+  abbrev rows : ℕ → List Row
+  rows k = refusal k when C k ∷ []
+
+  passes : (k : ℕ) → ok k ≡ true → C k → ⊥
+  passes k e c = false≢true (rw e at (tells k .1 c))
+
+  all-pass : (k count : ℕ) → ((q : ℕ) → k ≤ q → q < k + count → ok q ≡ true) → Gives (rowsFrom k count (λ i. refusal i when C i ∷ [])) Valid
+  all-pass k zero h = none
+  all-pass k (suc count) h = later (passes k (h k (omega arith) (omega arith))) (all-pass (k + 1) count (λ q l m. h q (omega arith) (omega arith)))
+
+  one-fails : (k count r : ℕ) → k ≤ r → r < k + count → ok r ≡ false → ((q : ℕ) → k ≤ q → q < r → ok q ≡ true) → Gives (rowsFrom k count (λ i. refusal i when C i ∷ [])) (Refused (refusal r))
+  one-fails k zero r h l e before = absurd (omega arith)
+  one-fails k (suc count) r h l e before = go (ℕ-discrete k r) (λ m. one-fails (k + 1) count r m (omega arith) e (λ i o j. before i (omega arith) j))
+    where
+      go : Dec (k ≡ r) → (k + 1 ≤ r → Gives (rowsFrom (k + 1) count rows) (Refused (refusal r))) → Gives (rows k ++ rowsFrom (k + 1) count rows) (Refused (refusal r))
+      go (yes q) rest = subst (λ (j : ℕ). Gives (rows k ++ rowsFrom (k + 1) count rows) (Refused (refusal j))) q (this (tells k .0 (rw (ap ok q ∙ e))))
+      go (no q) rest = later (passes k (before k (omega arith) (omega arith))) (rest (omega arith))
+
+  lowest-gives : (count : ℕ) → Gives (rowsFrom 0 count (λ i. refusal i when C i ∷ [])) (refuseIf (not (allBelow count ok)) (refusal (firstFailing count ok)))
+  lowest-gives count = go (allBelow count ok) refl
+    where
+      go : (t : Bool) → allBelow count ok ≡ t → Gives (rowsFrom 0 count rows) (refuseIf (not t) (refusal (firstFailing count ok)))
+      go true e = all-pass 0 count (λ q l m. below-at count ok e q (omega arith))
+      go false e = let f = first-failing count ok e in one-fails 0 count (firstFailing count ok) (omega arith) (omega (arith, f .below)) (f .fails) (λ q l m. f .before q m)
+
 -- ---- the rows of a line, of a list, and of what is asked
-pub line-gives : (n k : ℕ) (l : Line) → Gives (lineTable n k l) (lineValidity n k l)
+pub within-gives : (most n k : ℕ) (l : Line) → Gives (tableWithin most n k l) (firstBroken (rulesWithin (pos most)) n k l)
 unfolding Rows
-line-gives n k l = rows-give n k l lineRules (lineTable n k l) (search (coefficients-test l, variables-test n l, lone-test l, constant-test l, identifier-test l))
+within-gives most n k l =
+    rows-give n k l (rulesWithin (pos most)) (tableWithin most n k l) (search (coefficients-test l, variables-test n l, lone-test l, constant-test most l, identifier-test l))
+
+pub line-gives : (n k : ℕ) (l : Line) → Gives (lineTable n k l) (lineValidity n k l)
+line-gives = within-gives maxConstant
 
 pub list-gives : (n : ℕ) (L : List ℤ) → Gives (listTable n L) (validityOf n L)
 unfolding validityOf
@@ -242,6 +309,10 @@ list-gives n L = gives-row (less-test maxVariables n) (gives-row (unequal-test _
     go : (count k : ℕ) → k + count ≡ lineCount L → Gives (rowsFrom k count (λ i. lineTable n i (lineAt L i))) (linesValidity n k (drop k (linesOf L)))
     go zero k e = rw (validity-past L n k (omega arith)) none
     go (suc count) k e = rw (validity-from L n k (omega arith)) (gives-or (line-gives n k (lineAt L k)) (go count (k + 1) (omega arith)))
+
+differences-give : (L : List ℤ) → Gives (differencesTable L) (othersValidity L)
+unfolding othersValidity allDifferences firstOther
+differences-give L = lowest-gives NotDifference (λ k. isDifference (lineAt L k)) (λ k. IsDifference (lineAt L k) → ⊥) (λ k. not-test (difference-test (lineAt L k))) (lineCount L)
 
 values-give : (m : List ℤ) → Gives (valuesTable m) (valuesValidity 0 m)
 values-give m = go (length m) 0 (omega arith)
@@ -273,6 +344,7 @@ module _ (n : ℕ) (b : List ℕ) where
 -- the first refusal that applies, as it is computed
 abbrev pub computed : Asked → Validity
 computed (deciding n L lent) = validityFor n L lent
+computed (deciding-differences n L lent) = plainValidityFor n L lent
 computed (asking-pair n L x y w) = pairValidity n L x y (length w)
 computed (checking-model n L m) = modelValidity n L m
 computed (checking-refutation n L R) = refutationValidity n L R
@@ -284,8 +356,9 @@ computed (checking-refutation-bytes n b R) =
     orElse cond (eqb (length R % numberBytes) 0) (refutationValidity n (int32s b) (nat32s R)) Valid
 
 table-gives : (a : Asked) → Gives (refusalTable a) (computed a)
-unfolding decideValidity roomsValidity pairValidity modelValidity refutationValidity
+unfolding decideValidity roomsValidity differencesValidity pairValidity modelValidity refutationValidity
 table-gives (deciding n L lent) = gives-or (list-gives n L) (rooms-give lentRooms n (lengthsOf lent))
+table-gives (deciding-differences n L lent) = gives-or (list-gives n L) (gives-or (differences-give L) (rooms-give (lentRoomsBy differencesWorkRoom) n (lengthsOf lent)))
 table-gives (asking-pair n L x y w) =
     gives-or (list-gives n L) (gives-row (at-most-test x n) (gives-row (at-most-test y n) (gives-last (less-test (length w) (workRoom n)))))
 table-gives (checking-model n L m) = gives-or (list-gives n L) (gives-row (unequal-test (length m) n) (values-give m))
@@ -316,12 +389,11 @@ table-gives (checking-refutation-bytes n b R) =
 -- an answer is refused exactly as its validity is
 pub decision-refused : (n : ℕ) (L : List ℤ) (lent : Lent) (r : Refusal) → (answerFor n L lent ≡ decide.Refused r) ↔ (validityFor n L lent ≡ Refused r)
 unfolding decideAnswer
-decision-refused n L lent r = (fore (validityFor n L lent) (verdictOf n (linesOf L)), (λ e. rw e))
-  where
-    fore : (v : Validity) (t : Bool) → decision.unlessRefused v (cond t decide.Yes decide.No) ≡ decide.Refused r → v ≡ Refused r
-    fore Valid true e = never (cc)
-    fore Valid false e = never (cc)
-    fore (Refused q) t e = cc
+decision-refused n L lent r = judged-refuses n L (validityFor n L lent) r
+
+pub differences-refused : (n : ℕ) (L : List ℤ) (lent : Lent) (r : Refusal) → (differencesAnswerFor n L lent ≡ decide.Refused r) ↔ (plainValidityFor n L lent ≡ Refused r)
+unfolding differencesAnswer
+differences-refused n L lent r = judged-refuses n L (plainValidityFor n L lent) r
 
 pair-refused : (n : ℕ) (L : List ℤ) (x y : ℕ) (w : List ℤ) (r : Refusal)
     → (pairCall n L x y w .answer .outcome ≡ implied.Refused r) ↔ (pairValidity n L x y (length w) ≡ Refused r)
@@ -344,6 +416,7 @@ check-unless (Refused q) v a r h = ((λ e. cc), (λ e. cc))
 answer-refused : (a : Asked) (r : Refusal) → IsRefused a r ↔ (computed a ≡ Refused r)
 unfolding modelOfBytes modelOfValues refutationOfBytes refutationOfNumbers
 answer-refused (deciding n L lent) r = decision-refused n L lent r
+answer-refused (deciding-differences n L lent) r = differences-refused n L lent r
 answer-refused (asking-pair n L x y w) r = pair-refused n L x y w r
 answer-refused (checking-model n L m) r = refused-exactly n L m r
 answer-refused (checking-refutation n L R) r = refutation-refused n L R r
@@ -382,6 +455,7 @@ list-valid n L = gives-valid (list-gives n L)
 -- the number returned is a refusal's exactly if that refusal is given
 pub code-refused : (a : Asked) (r : Refusal) → placeOf r < refusalUnit → (returned a ≡ refusalCode r) ↔ IsRefused a r
 code-refused (deciding n L lent) r h = (decisions-apart _ (decide.Refused r) (decision-below n L lent) h, ap decideCode)
+code-refused (deciding-differences n L lent) r h = (decisions-apart _ (decide.Refused r) (plain-decision-below n L lent) h, ap decideCode)
 code-refused (asking-pair n L x y w) r h = (outcomes-apart _ (implied.Refused r) (pair-below n L x y w) h, ap outcomeCode)
 code-refused (checking-model n L m) r h = (answers-apart _ (check.Refused r) (model-places.answer-below refusalUnit (omega arith) (omega arith) n L m) h, ap checkCode)
 code-refused (checking-refutation n L R) r h = (answers-apart _ (check.Refused r) (refutation-places.answer-below refusalUnit (omega arith) (omega arith) n L R) h, ap checkCode)

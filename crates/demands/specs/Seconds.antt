@@ -32,7 +32,7 @@ use Rattle.seconds.specs.Outcomes.{filled-at, filled-beyond, model-ordered, eve
 use Rattle.seconds.specs.Refused.{ModelRefuses, EventsRefuse, model-refused, form-answer, events-refused}
 use Rattle.c_seconds.specs.declared.SecondsWritten.{SecondsWritten}
 use Rattle.c_seconds.specs.Seconds.{secondsWritten, ModelReturns, EventsReturn, written-apart}
-use Rattle.demands.specs.Calls.{Call, call-valid, call-written}
+use Rattle.demands.specs.Calls.{Engine, CallOf, call-valid, call-written}
 use Rattle.demands.specs.Shown.{value-small}
 
 -- ---- the seconds of a count
@@ -119,9 +119,9 @@ model-keeps-order c counts b a d i j h k less =
     let w = model-written c counts b a d in
     ap₂ le (w .each i h) (w .each j k) ∙ model-ordered c counts (length b) (sym (d .is)) i j h k less
 
--- ---- a model that deciding wrote
+-- ---- a model that deciding wrote, by either engine
 
-module _ (n : ℕ) (L : List ℤ) (c : Call n L) (yes : c .answer ≡ decide.Yes) where
+module _ {e : Engine} (n : ℕ) (L : List ℤ) (c : CallOf e n L) (yes : c .answer ≡ decide.Yes) where
   -- Each value of a model that deciding wrote is a count, so that it is never refused for one.
   pub decided-counts-are-small : (k : ℕ) → k < length (modelIn n (c .after)) → Within maxCount (getD (modelIn n (c .after)) k (pos 0))
   decided-counts-are-small k h =
@@ -132,8 +132,8 @@ module _ (n : ℕ) (L : List ℤ) (c : Call n L) (yes : c .answer ≡ decide.Yes
 
   pub decided-count-is-never-refused : (forms : List ℕ) (rates : List Float) (recorders : List ℕ) (x : SecondsAnswer) (b a : List Float) → EventsWritten forms rates recorders (modelIn n (c .after)) x b a
       → (k : ℕ) → x ≡ Refused (CountOutside k) → ⊥
-  decided-count-is-never-refused forms rates recorders x b a d k e =
-      let w = events-refused-exactly-if forms rates recorders (modelIn n (c .after)) x b a d (CountOutside k) .0 e .3 in
+  decided-count-is-never-refused forms rates recorders x b a d k q =
+      let w = events-refused-exactly-if forms rates recorders (modelIn n (c .after)) x b a d (CountOutside k) .0 q .3 in
       w .bad (decided-counts-are-small k (w .below))
 
   -- Of two events of one recorder in it, the one with the smaller value never has the larger seconds: no rounding puts an effect before its cause.

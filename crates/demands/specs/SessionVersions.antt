@@ -1,7 +1,8 @@
 -- Versions of a session's calls that go wrong in one thing, each a definition, and at a named state what breaks the promise. Beside them the versions that keep
 -- it, so that those break it only by what they do otherwise.
 use mathlib.Core.Path.{_≡_, refl, sym, ap, subst, _∙_}
-use mathlib.Core.Bool.{Bool, true, false}
+use mathlib.Core.Logic.{inl}
+use mathlib.Core.Bool.{Bool, true, false, not}
 use mathlib.Core.List.{List, [], _∷_, _++_}
 use Prim.Native.Nat.{ℕ, _+_, _-_}
 use native.Mathlib.Omega.{arith}
@@ -14,7 +15,8 @@ use Rattle.lines.specs.declared.Refusal.the-variants.{BadCoefficient}
 use Rattle.lines.specs.declared.Validity.{Validity}
 use Rattle.lines.specs.declared.Validity.the-variants as validity
 use Rattle.lines.specs.Limits.{lineSize}
-use Rattle.lines.specs.Line.{number, lineNumbers, numbersOf, lineAt, isFalse}
+use Rattle.lines.specs.Line.{number, lineNumbers, linesOf, numbersOf, lineAt, isFalse}
+use Rattle.lines.specs.LineNumbers.{lines-of-numbers}
 use Rattle.lines.specs.Refusal.{lineTests, linesValidity, validityOf}
 use Rattle.steps.specs.Point.{opposite}
 use Rattle.steps.specs.Table.{entry, digit}
@@ -22,16 +24,19 @@ use Rattle.steps.specs.Step.{stepOf, stepsOf}
 use Rattle.theory_walks.specs.Row.{relaxRow, startRow, rounds, rowAt, best}
 use Rattle.theory_walks.specs.Negative.{noNegative}
 use Rattle.theory_bounds.specs.Verdict.{hasFalse, consistentHalves, verdictOf}
+use Rattle.decide_rows.specs.Read.{noWalk}
+use Rattle.decide_rows.specs.Table.{stored-at}
 use Rattle.decide_buffers.specs.Room.{Lent, roomsValidity, decideValidity}
 use Rattle.decide.specs.declared.Answer.{Answer}
 use Rattle.decide.specs.declared.Answer.the-variants as decide
-use Rattle.decide.specs.Decided.{unlessRefused, decideAnswer, answerFor, Leaves}
+use Rattle.decide.specs.Decided.{NotRefused, unlessRefused, decideAnswer, answerFor, Leaves}
 use Rattle.longer_list.specs.Written.{putAt}
-use Rattle.session_state.specs.State.{sessionRoom, zeros, behind, stateOf, variablesIn, countIn, refusedIn, numbersWith, lineStart, headed, pushed}
-use Rattle.session_state.specs.Session.{pushed-is}
-use Rattle.session.specs.Promise.{startAnswer, startState, addValidity, addAnswer, addState, withdrawAnswer, Starts, Adds, Withdraws}
-use Rattle.session.specs.Sequence.{stands, variables, state-validity, all-numbers, add-answer, withdraws-from}
-use Rattle.demands.specs.DecideVersions.{right, right-keeps, roomWith, list-8-no}
+use Rattle.session_state.specs.State.{tableRoom, sessionRoom, zeros, behind, frontOf, kept, tableFor, stateOf, variablesIn, countIn, refusedIn, numbersIn, numbersWith, tableIn, lineStart, headed, pushed, popped}
+use Rattle.session_state.specs.Session.{length-front, pushed-is, popped-is, table-is, table-size, state-front}
+use Rattle.session_promise.specs.Promise.{startAnswer, startState, addValidity, addAnswer, addState, withdrawAnswer, Starts, Adds, Withdraws}
+use Rattle.session_promise.specs.Standing.{stands, is-state, variables, refused-in, numbers, state-validity, all-numbers, add-answer, decided-same, went-on}
+use Rattle.session_promise.specs.Sequence.{withdraws-from}
+use Rattle.demands.specs.RightVersion.{right, right-keeps, roomWith, list-8-no}
 
 -- ---- what a call gives back: a start or a withdrawal its answer and the state, an add the buffers too
 pub record Done : Type 0 where
@@ -70,19 +75,75 @@ abbrev bufferBy : Validity → (before after : Lent) → Lent
 bufferBy validity.Valid b a = a
 bufferBy (validity.Refused r) b a = b
 
+-- with the table of all lines on a yes, of those before on a no
+abbrev rightTable : List ℤ → Line → Answer → List ℤ
+rightTable s l decide.Yes = tableFor (variablesIn s) (linesOf (numbersWith s l))
+rightTable s l decide.No = tableFor (variablesIn s) (linesOf (numbersIn s))
+rightTable s l (decide.Refused r) = []
+
 pub rightAdd : List ℤ → Line → Lent → Added
 rightAdd s l b =
-    record { answer = addAnswer s l b; state = addState s l (addAnswer s l b); after = bufferBy (addValidity s) b (right (variablesIn s) (numbersWith s l) b .after) }
+    record {
+      answer = addAnswer s l b;
+      state = addState s l (rightTable s l (addAnswer s l b)) (addAnswer s l b);
+      after = bufferBy (addValidity s) b (right (variablesIn s) (numbersWith s l) b .after);
+    }
 
 pub right-add-keeps : KeepsAdd rightAdd
 unfolding rightAdd addAnswer
-right-add-keeps s l b = record { is = refl; state = refl; leaves = go (addValidity s) }
+right-add-keeps s l b =
+    record {
+      refused = λ r. ((λ e. e), (λ e. e));
+      unchanged = λ r e. subst (λ (x : Answer). Leaves n L x b after) e leaves;
+      table = rightTable s l (addAnswer s l b);
+      size = sized (addAnswer s l b);
+      state = refl;
+      either = λ h. inl (record { is = on h; leaves = leaves });
+      learns = λ m ls k.
+          record {
+            decided = decided-same (variables k) (all-numbers k l) (record { is = went-on s l b (is-state k) (refused-in k); leaves = leaves });
+            yes = λ e.
+                ap (rightTable s l) e
+                ∙ ap (λ (M : List ℤ). tableFor n (linesOf M)) (all-numbers k l)
+                ∙ ap (tableFor n) (lines-of-numbers (ls ++ l ∷ []))
+                ∙ ap (λ (j : ℕ). tableFor j (ls ++ l ∷ [])) (variables k);
+            no = λ e.
+                ap (rightTable s l) e
+                ∙ ap (λ (M : List ℤ). tableFor n (linesOf M)) (numbers k)
+                ∙ ap (tableFor n) (lines-of-numbers ls)
+                ∙ ap (λ (j : ℕ). tableFor j ls) (variables k);
+          };
+    }
   where
-    go : (v : Validity) → Leaves (variablesIn s) (numbersWith s l) (unlessRefused v (answerFor (variablesIn s) (numbersWith s l) b)) b (bufferBy v b (right (variablesIn s) (numbersWith s l) b .after))
-    go validity.Valid =
-        let k = right-keeps (variablesIn s) (numbersWith s l) b in
-        subst (λ (x : Answer). Leaves (variablesIn s) (numbersWith s l) x b (right (variablesIn s) (numbersWith s l) b .after)) (k .is) (k .leaves)
-    go (validity.Refused r) = refl
+    n : ℕ
+    n = variablesIn s
+
+    L : List ℤ
+    L = numbersWith s l
+
+    after : Lent
+    after = bufferBy (addValidity s) b (right n L b .after)
+
+    sized : (x : Answer) → NotRefused x → length (rightTable s l x) ≡ tableRoom n
+    sized decide.Yes h = table-size n (linesOf L)
+    sized decide.No h = table-size n (linesOf (numbersIn s))
+    sized (decide.Refused r) h = absurd (h r refl)
+
+    on : NotRefused (addAnswer s l b) → addAnswer s l b ≡ answerFor n L b
+    on = go (addValidity s)
+      where
+        go : (v : Validity) → NotRefused (unlessRefused v (answerFor n L b)) → unlessRefused v (answerFor n L b) ≡ answerFor n L b
+        go validity.Valid h = refl
+        go (validity.Refused r) h = absurd (h r refl)
+
+    leaves : Leaves n L (addAnswer s l b) b after
+    leaves = go (addValidity s)
+      where
+        go : (v : Validity) → Leaves n L (unlessRefused v (answerFor n L b)) b (bufferBy v b (right n L b .after))
+        go validity.Valid =
+            let k = right-keeps n L b in
+            subst (λ (x : Answer). Leaves n L x b (right n L b .after)) (k .is) (k .leaves)
+        go (validity.Refused r) = refl
 
 -- ---- the states: n is 1, and nothing lies beyond
 -- x at most 3, and x at least 4, which clash; and a line that is refused
@@ -110,6 +171,19 @@ both-valid : validityOf 1 (numbersOf (most ∷ least ∷ [])) ≡ validity.Valid
 unfolding validityOf linesValidity numbersOf lineNumbers lineTests lineAt
 both-valid = refl
 
+-- each has a solution, both together none
+none-yes : verdictOf 1 [] ≡ true
+unfolding verdictOf hasFalse noNegative consistentHalves stepsOf relaxRow startRow rounds rowAt best opposite
+none-yes = refl
+
+most-yes : verdictOf 1 (most ∷ []) ≡ true
+unfolding verdictOf hasFalse isFalse noNegative consistentHalves entry digit stepOf stepsOf relaxRow startRow rounds rowAt best opposite
+most-yes = refl
+
+both-not : verdictOf 1 (most ∷ least ∷ []) ≡ false
+unfolding verdictOf hasFalse isFalse noNegative consistentHalves entry digit stepOf stepsOf relaxRow startRow rounds rowAt best opposite
+both-not = refl
+
 one : pos 1 ≡ pos 0 → ⊥
 one = simp ints (omega arith)
 
@@ -125,7 +199,7 @@ unfolding startAnswer sessionRoom
 long-enough = ap (startAnswer 1) (length-replicate (sessionRoom 1) (pos 0))
 
 pub forgets-n-breaks : KeepsStart forgetsN → ⊥
-unfolding forgetsN stateOf numbersOf
+unfolding forgetsN stateOf frontOf numbersOf
 forgets-n-breaks k =
     let written : stateOf 0 [] false ++ drop (sessionRoom 1) long ≡ stateOf 1 [] false ++ drop (sessionRoom 1) long =
     subst (λ (v : Validity). leftBy v long (stateOf 0 [] false ++ drop (sessionRoom 1) long) ≡ startState 1 long v) long-enough (k 1 long .state) in
@@ -134,10 +208,11 @@ forgets-n-breaks k =
 -- ---- withdrawals
 -- what a version that withdraws with the right answer must leave behind lines ls and one more
 withdrawn : (t : List ℤ → List ℤ) → KeepsWithdraw (withdrawingBy t) → (ls : List Line) (l : Line) (refused : Bool) → validityOf 1 (numbersOf (ls ++ l ∷ [])) ≡ validity.Valid
+    → verdictOf 1 (ls ++ l ∷ []) ≡ not refused → verdictOf 1 (kept (ls ++ l ∷ []) refused) ≡ true
     → t (state (ls ++ l ∷ []) refused) ≡ stateOf 1 ls false ++ drop (sessionRoom 1) (state (ls ++ l ∷ []) refused)
-withdrawn t k ls l refused v =
+withdrawn t k ls l refused v y w =
     let s = state (ls ++ l ∷ []) refused in
-    let f = withdraws-from (stands 1 (ls ++ l ∷ []) v refused s [] refl) (k s) .last ls l refl in
+    let f = withdraws-from (stands 1 (ls ++ l ∷ []) v refused s [] refl y w) (k s) .last ls l refl in
     ap (λ (x : Validity). leftBy x s (t s)) (sym (f .0)) ∙ f .1
 
 -- it leaves the old line in the room
@@ -145,8 +220,8 @@ pub leavesOldLine : List ℤ → Done
 leavesOldLine = withdrawingBy (λ s. headed (countIn s - 1) false s)
 
 pub leaves-old-line-breaks : KeepsWithdraw leavesOldLine → ⊥
-unfolding leavesOldLine stateOf behind numbersOf lineNumbers
-leaves-old-line-breaks k = one (ap (λ (t : List ℤ). number t 3) (withdrawn (λ s. headed (countIn s - 1) false s) k [] most false most-valid))
+unfolding leavesOldLine stateOf frontOf behind numbersOf lineNumbers
+leaves-old-line-breaks k = one (ap (λ (t : List ℤ). number t 3) (withdrawn (λ s. headed (countIn s - 1) false s) k [] most false most-valid most-yes most-yes))
 
 -- it leaves the no, so that the next add is refused
 abbrev keepingNo : List ℤ → List ℤ
@@ -156,30 +231,64 @@ pub staysRefused : List ℤ → Done
 staysRefused = withdrawingBy keepingNo
 
 pub stays-refused-breaks : KeepsWithdraw staysRefused → ⊥
-unfolding staysRefused stateOf behind numbersOf lineNumbers
-stays-refused-breaks k = one (ap (λ (t : List ℤ). number t 2) (withdrawn keepingNo k (most ∷ []) least true both-valid))
+unfolding staysRefused stateOf frontOf behind numbersOf lineNumbers
+stays-refused-breaks k = one (ap (λ (t : List ℤ). number t 2) (withdrawn keepingNo k (most ∷ []) least true both-valid both-not most-yes))
+
+-- it takes the line away and leaves the table with it
+pub leavesOldTable : List ℤ → Done
+leavesOldTable = withdrawingBy popped
+
+-- of the two points of x: 6 from x+ to x-, and no walk
+distance-most : number (tableFor 1 (most ∷ [])) 2 ≡ pos 6
+unfolding entry digit stepOf stepsOf relaxRow startRow rounds rowAt best opposite
+distance-most = stored-at (stepsOf (most ∷ [])) 2 0 1 (omega arith) (omega arith)
+
+distance-none : number (tableFor 1 []) 2 ≡ noWalk
+unfolding stepsOf relaxRow startRow rounds rowAt best
+distance-none = stored-at (stepsOf []) 2 0 1 (omega arith) (omega arith)
+
+far : pos 6 ≡ noWalk → ⊥
+far = simp ints (omega arith)
+
+pub leaves-old-table-breaks : KeepsWithdraw leavesOldTable → ⊥
+unfolding leavesOldTable
+leaves-old-table-breaks k =
+    let s = state (most ∷ []) false in
+    let rest = drop (sessionRoom 1) s in
+    let front = length-front 1 [] false (omega arith) in
+    let left : popped s ≡ frontOf 1 [] false ++ (tableFor 1 (most ∷ []) ++ []) = ap popped (state-front 1 (most ∷ []) false []) ∙ popped-is 1 [] most false (tableFor 1 (most ∷ []) ++ []) (omega arith) in
+    let due : popped s ≡ frontOf 1 [] false ++ (tableFor 1 [] ++ rest) = withdrawn popped k [] most false most-valid most-yes most-yes ∙ state-front 1 [] false rest in
+    let same : tableFor 1 (most ∷ []) ≡ tableFor 1 [] =
+    sym (table-is 1 (frontOf 1 [] false) (tableFor 1 (most ∷ [])) [] front (table-size 1 (most ∷ [])))
+    ∙ ap (tableIn 1) (sym left ∙ due)
+    ∙ table-is 1 (frontOf 1 [] false) (tableFor 1 []) rest front (table-size 1 []) in
+    far (sym distance-most ∙ ap (λ (t : List ℤ). number t 2) same ∙ distance-none)
 
 -- ---- adds
 -- it counts a line that it refuses
-abbrev pushedAnyway : List ℤ → Line → Answer → List ℤ
-pushedAnyway s l decide.Yes = pushed s l false
-pushedAnyway s l decide.No = pushed s l true
-pushedAnyway s l (decide.Refused r) = pushed s l false
+abbrev countedBy : List ℤ → Line → List ℤ → Answer → List ℤ
+countedBy s l t decide.Yes = t
+countedBy s l t decide.No = t
+countedBy s l t (decide.Refused r) = pushed s l false
 
 pub countsRefused : List ℤ → Line → Lent → Added
-countsRefused s l b = record { answer = addAnswer s l b; state = pushedAnyway s l (addAnswer s l b); after = rightAdd s l b .after }
+countsRefused s l b = record { answer = addAnswer s l b; state = countedBy s l (rightAdd s l b .state) (addAnswer s l b); after = rightAdd s l b .after }
 
 twice-refused : answerFor 1 (numbersOf (twice ∷ [])) (roomWith 1 9) ≡ decide.Refused (BadCoefficient 0)
 unfolding decideAnswer decideValidity validityOf linesValidity numbersOf lineNumbers lineTests lineAt
 twice-refused = refl
 
 pub counts-refused-breaks : KeepsAdd countsRefused → ⊥
-unfolding countsRefused stateOf numbersOf
+unfolding countsRefused stateOf frontOf numbersOf
 counts-refused-breaks k =
     let s = state [] false in
-    let refused : addAnswer s twice (roomWith 1 9) ≡ decide.Refused (BadCoefficient 0) = add-answer (stands 1 [] none-valid false s [] refl) twice (roomWith 1 9) ∙ twice-refused in
-    let same : pushed s twice false ≡ s = subst (λ (x : Answer). pushedAnyway s twice x ≡ addState s twice x) refused (k s twice (roomWith 1 9) .state) in
-    one (ap (λ (t : List ℤ). number t 1) (sym (pushed-is 1 [] false [] twice false (omega arith)) ∙ same))
+    let b = roomWith 1 9 in
+    let refused : addAnswer s twice b ≡ decide.Refused (BadCoefficient 0) = add-answer (stands 1 [] none-valid false s [] refl none-yes none-yes) twice b ∙ twice-refused in
+    let same : pushed s twice false ≡ s =
+    subst (λ (x : Answer). countedBy s twice (rightAdd s twice b .state) x ≡ addState s twice (k s twice b .table) x) refused (k s twice b .state) in
+    let more : pushed s twice false ≡ frontOf 1 (twice ∷ []) false ++ (tableFor 1 [] ++ []) =
+    ap (λ (x : List ℤ). pushed x twice false) (state-front 1 [] false []) ∙ pushed-is 1 [] false (tableFor 1 [] ++ []) twice false (omega arith) in
+    one (ap (λ (t : List ℤ). number t 1) (sym more ∙ same))
 
 -- it decides without the first line
 pub withoutFirst : List ℤ → Line → Lent → Added
@@ -204,11 +313,11 @@ unfolding withoutFirst
 without-first-breaks k =
     let s = state (most ∷ []) false in
     let b = roomWith 1 9 in
-    let holds = stands 1 (most ∷ []) most-valid false s [] refl in
+    let holds = stands 1 (most ∷ []) most-valid false s [] refl most-yes most-yes in
     let wrong : unlessRefused (addValidity s) (answerFor (variablesIn s) (drop lineSize (numbersWith s least)) b) ≡ decide.Yes =
     ap (λ (v : Validity). unlessRefused v (answerFor (variablesIn s) (drop lineSize (numbersWith s least)) b)) (state-validity holds)
     ∙ ap (λ (n : ℕ). answerFor n (drop lineSize (numbersWith s least)) b) (variables holds)
     ∙ ap (λ (L : List ℤ). answerFor 1 (drop lineSize L) b) (all-numbers holds least)
     ∙ least-yes in
-    let same : decide.Yes ≡ decide.No = sym wrong ∙ k s least b .is ∙ add-answer holds least b ∙ both-no in
+    let same : decide.Yes ≡ decide.No = sym wrong ∙ k s least b .learns 1 (most ∷ []) holds .decided .is ∙ both-no in
     never (cc)

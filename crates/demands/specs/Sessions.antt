@@ -1,13 +1,14 @@
 -- What was demanded of sessions, in the words of docs/SPECIFICATION.md, each statement proved by citing the rest.
 --
 -- A reader has to believe what a state is (`stateOf` in session_state/specs/State.antt), which states sequences of calls lead to (`Reached` in
--- session/specs/Sequence.antt), the table of refusals here, and the words of Demands.antt. The promises of the calls are `Starts`, `Adds` and `Withdraws`
--- (session/specs/Promise.antt); the exported calls return `StartReturns`, `AddReturns` and `WithdrawReturns`.
+-- session_promise/specs/Sequence.antt), the table of refusals here, and the words of Demands.antt. The promises of the calls are `Starts`, `Adds` and
+-- `Withdraws` (session_promise/specs/Promise.antt), and for the questions `lineBy` and `pairBy` (session_asked/specs/Asked.antt); the exported calls return
+-- `StartReturns`, `AddReturns`, `WithdrawReturns`, `lineReturned` and `pairReturned`.
 use mathlib.Core.Path.{_≡_, refl, sym, ap, subst, _∙_}
 use mathlib.Core.Logic.{_↔_}
 use mathlib.Core.Bool.{Bool, true, false}
 use mathlib.Core.List.{List, [], _∷_, _++_, append-assoc}
-use Prim.Native.Nat.{ℕ, _+_, _<_}
+use Prim.Native.Nat.{ℕ, _+_, _<_, _≤_}
 use lib.IntN.{ℤ}
 use lib.ListN.{length, drop}
 use Rattle.lines.specs.declared.Line.{Line}
@@ -19,17 +20,26 @@ use Rattle.lines.specs.Limits.{maxVariables, maxLines}
 use Rattle.lines.specs.Line.{numbersOf}
 use Rattle.lines.specs.LineNumbers.{numbers-append}
 use Rattle.lines.specs.Refusal.{_orElse_, refuseIf}
-use Rattle.decide_buffers.specs.Room.{Lent, lengthsOf, lentRooms, roomsValidity}
+use Rattle.decide_buffers.specs.Room.{Lent, ModelLent, lengthsOf, modelLengthsOf, modelRooms, firstShort, lentRooms, roomsValidity, workRoom}
 use Rattle.decide.specs.declared.Answer.{Answer}
 use Rattle.decide.specs.declared.Answer.the-variants as decide
 use Rattle.decide.specs.Decided.{NotRefused, unlessRefused, answerFor, validityFor, Decided}
-use Rattle.session_state.specs.State.{sessionRoom, stateOf}
-use Rattle.session.specs.Promise.{statePlace, startAnswer, addAnswer, withdrawAnswer, Starts, Adds, Withdraws}
-use Rattle.session.specs.Sequence.{Reached, Grown, Stands, AddsTo, WithdrawsFrom, add-validity, add-answer, went-on, adds-to, withdraws-from, reached-stands, reached-more, grown-reached, add-withdraw}
+use Rattle.session_state.specs.State.{tableRoom, sessionRoom, stateOf, variablesIn, numbersWith}
+use Rattle.session_promise.specs.Promise.{Stands, EitherWay, statePlace, startAnswer, addState, withdrawAnswer, withdrawState, Starts, Adds, Withdraws}
+use Rattle.session_promise.specs.Standing.{add-answer}
+use Rattle.session_promise.specs.Sequence.{Reached, Grown, AddsTo, WithdrawsFrom, add-validity, went-on, adds-to, withdraws-from, reached-stands, reached-more, grown-reached, add-withdraw}
+use Rattle.implied_line.specs.Answer as line
+use Rattle.implied_pair.specs.Pair.{pairCall}
+use Rattle.session_asked.specs.Asked.{lineBy, pairBy}
+use Rattle.session_asked.specs.Meaning.{line-is-implied, pair-is-implied}
+use Rattle.c_implied.specs.Calls as implied
+use Rattle.c_implied.specs.Calls.{pairCode}
+use Rattle.c_implied_line.specs.Calls.{lineCode, LineReturns}
+use Rattle.c_session_asked.specs.Calls.{lineReturned, pairReturned}
 use Rattle.c_deciding.specs.Calls.{decideCode}
 use Rattle.c_deciding.specs.Laws.{decisions-apart}
 use Rattle.c_session.specs.Calls.{doneCode, StartReturns, AddReturns, WithdrawReturns}
-use Rattle.c_session.specs.Laws.{start-placed, withdraw-placed, add-below, done-apart}
+use Rattle.c_session.specs.Laws.{start-placed, withdraw-placed, adds-below, done-apart}
 use Rattle.demands.specs.Calls.{Call}
 use Rattle.demands.specs.Demands.{NothingUnlearned, nothing-unlearned}
 use Rattle.demands.specs.Refusals.{Row, _when_, lineTable, roomsTable, FirstApplies}
@@ -39,7 +49,7 @@ use Rattle.demands.specs.SessionVersions.{rightAdd, right-add-keeps}
 -- ---- what a session holds
 
 -- After any sequence of calls from a start, each handed the state that the call before left, the state is `stateOf` n, the lines and the last answer, every
--- number of its room, with what lay beyond it; and its lines are a valid list.
+-- number of its room, its table included, with what lay beyond it; its lines are a valid list, and the last answer is right.
 pub session-holds : (n : ℕ) (ls : List Line) (refused : Bool) (s : List ℤ) → Reached n ls refused s → Stands n ls refused s
 session-holds n ls refused s p = reached-stands p
 
@@ -79,8 +89,8 @@ add-refused-exactly-if n ls refused s p l x b t a d r =
     let f = gives-refused (gives-row (true-test refused) (gives-or (gives-row (less-test maxLines (length ls + 1)) (line-gives n (length ls) l)) (rooms-give lentRooms n (lengthsOf b)))) r in
     let g = refused-unless refused (validityFor n (numbersOf (ls ++ l ∷ [])) b) (answerFor n (numbersOf (ls ++ l ∷ [])) b) r (decision-refused n (numbersOf (ls ++ l ∷ [])) b r) in
     let computed = ap (λ (v : Validity). refuseIf refused AfterNo orElse v) (add-validity n ls l (k .valid) b) in (
-      (λ e. f .0 (sym computed ∙ g .0 (sym (add-answer k l b) ∙ sym (d .is) ∙ e))),
-      (λ e. d .is ∙ add-answer k l b ∙ g .1 (computed ∙ f .1 e)),
+      (λ e. f .0 (sym computed ∙ g .0 (sym (add-answer k l b) ∙ d .refused r .0 e))),
+      (λ e. d .refused r .1 (add-answer k l b ∙ g .1 (computed ∙ f .1 e))),
     )
   where
     refused-unless : (q : Bool) (v : Validity) (y : Answer) (r : Refusal) → (y ≡ decide.Refused r) ↔ (v ≡ validity.Refused r)
@@ -142,15 +152,45 @@ session-unlearns-nothing n ls refused s p l x b t a d h ms u g m y c v e f k =
 
 -- ---- whatever stands in the state
 
--- A refusal changes neither the state nor a buffer. That the calls end is part of every promise.
+-- A refusal changes neither the state nor a buffer. That the calls end is part of every promise; and of the state only the table's numbers may be any.
 pub refused-start-changes-nothing : (n : ℕ) (s : List ℤ) (r : Refusal) (t : List ℤ) → Starts n s (validity.Refused r) t → t ≡ s
 refused-start-changes-nothing n s r t d = d .state
 
 pub refused-add-changes-nothing : (s : List ℤ) (l : Line) (r : Refusal) (b : Lent) (t : List ℤ) (a : Lent) → Adds s l (decide.Refused r) b t a → (t ≡ s) × (a ≡ b)
-refused-add-changes-nothing s l r b t a d = (d .state, d .leaves)
+refused-add-changes-nothing s l r b t a d = (d .state, d .unchanged r refl)
 
 pub refused-withdrawal-changes-nothing : (s : List ℤ) (r : Refusal) (t : List ℤ) → Withdraws s (validity.Refused r) t → t ≡ s
 refused-withdrawal-changes-nothing s r t d = d .state
+
+-- Whatever stands in the state, an add that is answered leaves it with one line more and a table, and answers and leaves what deciding all lines does, or says
+-- yes and leaves what that table gives; a withdrawal leaves it with one line less and a table.
+pub add-writes : (s : List ℤ) (l : Line) (x : Answer) (b : Lent) (t : List ℤ) (a : Lent) → Adds s l x b t a → NotRefused x
+    → (u : List ℤ) × (length u ≡ tableRoom (variablesIn s)) × (t ≡ addState s l u x) × EitherWay (variablesIn s) (numbersWith s l) x b a u
+add-writes s l x b t a d h = (d .table, d .size h, d .state, d .either h)
+
+pub withdraw-writes : (s t : List ℤ) → Withdraws s validity.Valid t → (u : List ℤ) × (length u ≡ tableRoom (variablesIn s)) × (t ≡ withdrawState s u validity.Valid)
+withdraw-writes s t d = (d .table, d .size refl, d .state)
+
+-- ---- questions, without adding
+
+-- At a state that was reached, the question of a line answers what the question about a list answers on the lines so far, with buffers that have their room;
+-- so does that of two variables. They only read.
+pub session-line-is-implied : (n : ℕ) (ls : List Line) (refused : Bool) (s : List ℤ) → Reached n ls refused s → (l : Line) (b : ModelLent) → firstShort modelRooms n (modelLengthsOf b) ≡ validity.Valid
+    → lineBy s l ≡ line.answerFor n (numbersOf ls) l b
+session-line-is-implied n ls refused s p l b = line-is-implied (reached-stands p) l b
+
+pub session-pair-is-implied : (n : ℕ) (ls : List Line) (refused : Bool) (s : List ℤ) → Reached n ls refused s → (x y : ℕ) (w : List ℤ) → workRoom n ≤ length w
+    → pairBy s x y ≡ pairCall n (numbersOf ls) x y w .answer
+session-pair-is-implied n ls refused s p x y w = pair-is-implied (reached-stands p) x y w
+
+-- What is returned of them is what the question about a list returns.
+pub returned-session-line : (n : ℕ) (ls : List Line) (refused : Bool) (s : List ℤ) → Reached n ls refused s → (l : Line) (r : ℤ) (b a : ModelLent) → LineReturns n (numbersOf ls) l r b a
+    → firstShort modelRooms n (modelLengthsOf b) ≡ validity.Valid → lineReturned s l ≡ r
+returned-session-line n ls refused s p l r b a d room = ap lineCode (session-line-is-implied n ls refused s p l b room) ∙ sym (d .is)
+
+pub returned-session-pair : (n : ℕ) (ls : List Line) (refused : Bool) (s : List ℤ) → Reached n ls refused s → (x y : ℕ) (w : List ℤ) → workRoom n ≤ length w
+    → pairReturned s x y ≡ implied.pairReturned n (numbersOf ls) x y w .given
+returned-session-pair n ls refused s p x y w room = ap pairCode (session-pair-is-implied n ls refused s p x y w room)
 
 -- ---- the exported calls
 
@@ -159,17 +199,17 @@ pub returned-start : (n : ℕ) (s : List ℤ) (r : ℤ) (t : List ℤ) → Start
 returned-start n s r t d = (startAnswer n (length s), d .is, record { is = refl; state = d .state })
 
 pub returned-add : (s : List ℤ) (l : Line) (r : ℤ) (b : Lent) (t : List ℤ) (a : Lent) → AddReturns s l r b t a → (x : Answer) × (r ≡ decideCode x) × Adds s l x b t a
-returned-add s l r b t a d = (addAnswer s l b, d .is, record { is = refl; state = d .state; leaves = d .leaves })
+returned-add s l r b t a d = (d .answer, d .is, d .adds)
 
 pub returned-withdrawal : (s : List ℤ) (r : ℤ) (t : List ℤ) → WithdrawReturns s r t → (x : Validity) × (r ≡ doneCode x) × Withdraws s x t
-returned-withdrawal s r t d = (withdrawAnswer s, d .is, record { is = refl; state = d .state })
+returned-withdrawal s r t d = (withdrawAnswer s, d .is, d .withdraws)
 
 -- No two answers are returned as one number.
 pub starts-returned-apart : (n m : ℕ) (s u : List ℤ) → doneCode (startAnswer n (length s)) ≡ doneCode (startAnswer m (length u)) → startAnswer n (length s) ≡ startAnswer m (length u)
 starts-returned-apart n m s u = done-apart _ _ (start-placed n (length s)) (start-placed m (length u))
 
-pub adds-returned-apart : (s u : List ℤ) (l m : Line) (b c : Lent) → decideCode (addAnswer s l b) ≡ decideCode (addAnswer u m c) → addAnswer s l b ≡ addAnswer u m c
-adds-returned-apart s u l m b c = decisions-apart _ _ (add-below s l b) (add-below u m c)
+pub adds-returned-apart : (s u : List ℤ) (l m : Line) (x y : Answer) (b c : Lent) (t v : List ℤ) (a e : Lent) → Adds s l x b t a → Adds u m y c v e → decideCode x ≡ decideCode y → x ≡ y
+adds-returned-apart s u l m x y b c t v a e d f = decisions-apart x y (adds-below x d) (adds-below y f)
 
 pub withdrawals-returned-apart : (s u : List ℤ) → doneCode (withdrawAnswer s) ≡ doneCode (withdrawAnswer u) → withdrawAnswer s ≡ withdrawAnswer u
 withdrawals-returned-apart s u = done-apart _ _ (withdraw-placed s) (withdraw-placed u)

@@ -24,7 +24,7 @@ use Rattle.decide.specs.Parts.{refutationIn}
 use Rattle.c_shorter.specs.declared.CPart.{CPart}
 use Rattle.c_shorter.specs.Calls.{partReturned, shorterReturned, partRead}
 use Rattle.c_shorter.specs.Laws.{read-back, parts-apart}
-use Rattle.demands.specs.Calls.{Call, call-accepted}
+use Rattle.demands.specs.Calls.{Engine, CallOf, call-accepted}
 use Rattle.demands.specs.Demands.{ValidFor, Accepted, nothing-against-a-solution}
 
 -- The shorter accepted one is handed back as a part of the caller's own slice, the first when they tie; an empty part when neither is accepted.
@@ -136,8 +136,8 @@ of-two-accepted n L first second f g =
     (λ b less. record { either = inr refl; is-accepted = b .is-accepted; no-longer-than-one = omega (arith, less f, one, two); no-longer-than-two = omega arith })
     (λ a b. absurd (a f))
 
--- so it is with what two calls of deciding on one list left that say no, lent the buffers as they are.
-pub of-two-noes : (n : ℕ) (L : List ℤ) (c d : Call n L) → c .answer ≡ decide.No → d .answer ≡ decide.No
+-- so it is with what two calls of deciding on one list left that say no, each of either engine, lent the buffers as they are.
+pub of-two-noes : {e f : Engine} (n : ℕ) (L : List ℤ) (c : CallOf e n L) (d : CallOf f n L) → c .answer ≡ decide.No → d .answer ≡ decide.No
     → (first second : Slice) → first .numbers ≡ c .after .refutation → second .numbers ≡ d .after .refutation
     → OfTwo n L (refutationIn (c .after)) (refutationIn (d .after)) (shorterSlice n L first second .numbers)
 of-two-noes n L c d c-no d-no first second e i =

@@ -19,14 +19,14 @@ use Rattle.integers.specs.Laws.{both-true, abs-within}
 use Rattle.integers.specs.Sequence.{length-tabulate}
 use Rattle.lines.specs.declared.Line.{Line}
 use Rattle.lines.specs.declared.Validity.the-variants.{Valid}
-use Rattle.lines.specs.Limits.{lineSize, maxVariables, maxLines, maxConstant, workConstant, absentLeast, absentGreatest}
+use Rattle.lines.specs.Limits.{lineSize, maxVariables, maxLines, maxConstant, modelConstant, absentLeast, absentGreatest}
 use Rattle.lines.specs.Line.{lineCount, linesOf, numbersOf, Assignment, assignmentOf, Meets, Solvable}
 use Rattle.lines.specs.LineNumbers.{length-numbersOf, lines-of-numbers, lines-snoc}
 use Rattle.lines.specs.Refusal.{coefficientsOk, variableOk, variablesOk, loneOk, constantOk, identifierOk, lineValidity, linesValidity}
-use Rattle.lines.specs.Valid.{AllOk, valid-list, workable, list-valid, lines-valid}
+use Rattle.lines.specs.Valid.{AllOk, valid-list, workable, modellable-works, list-valid, lines-valid}
 use Rattle.theory_answers.specs.Semantics.{valueOf, sumOf, IsModel, IsGreatest, LeastWritten, GreatestWritten}
 use Rattle.theory_answers.specs.Meaning.{model-is-model, only-model}
-use Rattle.theory_answers.specs.Small.{all-above, valid-within, model-small, value-small, sum-small, least-small}
+use Rattle.theory_answers.specs.Small.{works-above, valid-within, model-small, value-small, sum-small, least-small}
 use Rattle.theory_answers.specs.Chain.{chainLine, chain, climbing, chain-solved, chain-model, chain-is-least}
 use Rattle.theory_answers.specs.Decided.{lines-ok, solvable-yes}
 use Rattle.theory_answers.specs.Unique.{one-least, one-greatest}
@@ -36,10 +36,10 @@ use Rattle.decide.specs.Parts.{modelIn, boundsIn, yes-answers}
 use Rattle.implied_pair.specs.declared.PairOutcome.the-variants.{Implied}
 use Rattle.implied_pair.specs.Meaning.{numberFor}
 use Rattle.implied_line.specs.declared.LineAnswer.the-variants.{NotImplied}
-use Rattle.implied_line.specs.Opposite.{opposite, opposed, opposed-works, meets-opposite}
-use Rattle.session.specs.Promise.{Adds}
-use Rattle.session.specs.Sequence.{Reached}
-use Rattle.demands.specs.Calls.{Call, call-valid, call-yes, call-written}
+use Rattle.opposite_line.specs.Opposite.{opposite, opposed, opposed-works, opposed-modellable, meets-opposite}
+use Rattle.session_promise.specs.Promise.{Adds}
+use Rattle.session_promise.specs.Sequence.{Reached}
+use Rattle.demands.specs.Calls.{Engine, CallOf, Call, call-valid, call-yes, call-written}
 use Rattle.demands.specs.Demands.{ValidFor, right-answer}
 use Rattle.demands.specs.Shown.{value-small as shown-small}
 use Rattle.demands.specs.PairCalls.{PairAsked, asked-ok, implied-verdict}
@@ -49,8 +49,8 @@ use Rattle.demands.specs.Sessions.{add-is-a-call}
 
 -- ---- models
 
--- Of every call that answered yes.
-pub model-within : (n : ℕ) (L : List ℤ) (c : Call n L) → c .answer ≡ decide.Yes → (k : ℕ) → k < n → Within (n * maxConstant) (getD (modelIn n (c .after)) k (pos 0))
+-- Of every call that answered yes, of either engine.
+pub model-within : {e : Engine} (n : ℕ) (L : List ℤ) (c : CallOf e n L) → c .answer ≡ decide.Yes → (k : ℕ) → k < n → Within (n * maxConstant) (getD (modelIn n (c .after)) k (pos 0))
 model-within n L c e k h =
     let w = call-written c e in
     abs-within (n * maxConstant) _ (shown-small n L _ _ _ (call-valid c) w k (omega (arith, w .model-length)))
@@ -63,22 +63,22 @@ session-model-within n ls refused s p l b t a d =
 
 -- Where a line is not implied, the model is that of the list with the opposite line behind it, whose d may pass its limit by one.
 pub line-model-within : (n : ℕ) (L : List ℤ) (l : Line) (c : LineCall n L l) → c .answer ≡ NotImplied
-    → (k : ℕ) → k < n → Within (n * workConstant) (getD (take (modelRoom n) (c .after .model)) k (pos 0))
+    → (k : ℕ) → k < n → Within (n * modelConstant) (getD (take (modelRoom n) (c .after .model)) k (pos 0))
 line-model-within n L l c e k h =
     let v = was-asked c in
-    let ok = lines-ok n (opposed L l) (opposed-works n (lineCount L) L l (v .list) (v .line)) in
-    abs-within (n * workConstant) _ (model-small n workConstant (linesOf (opposed L l)) ok (all-above n (linesOf (opposed L l)) ok) _ (right-line n L l c .model e .model-is) k h)
+    let ok = opposed-modellable n (lineCount L) L l (v .list) (v .line) in
+    abs-within (n * modelConstant) _ (model-small n modelConstant (linesOf (opposed L l)) (lines-ok n (opposed L l) (modellable-works n (opposed L l) ok)) (works-above modelConstant n (opposed L l) ok) _ (right-line n L l c .model e .model-is) k h)
 
 -- ---- so 32 bits hold them
 
-fits : (m : ℕ) (z : ℤ) → m ≤ maxVariables * workConstant → Within m z → SFits w32 z
+fits : (m : ℕ) (z : ℤ) → m ≤ maxVariables * modelConstant → Within m z → SFits w32 z
 fits m z few w = given₂ (w .low) (w .high) (simp ints (omega arith))
 
-pub model-fits : (n : ℕ) (L : List ℤ) (c : Call n L) → c .answer ≡ decide.Yes → (k : ℕ) → k < n → SFits w32 (getD (modelIn n (c .after)) k (pos 0))
+pub model-fits : {e : Engine} (n : ℕ) (L : List ℤ) (c : CallOf e n L) → c .answer ≡ decide.Yes → (k : ℕ) → k < n → SFits w32 (getD (modelIn n (c .after)) k (pos 0))
 model-fits n L c e k h = fits (n * maxConstant) _ (omega (arith, valid-list n L (call-valid c) .variables)) (model-within n L c e k h)
 
 pub line-model-fits : (n : ℕ) (L : List ℤ) (l : Line) (c : LineCall n L l) → c .answer ≡ NotImplied → (k : ℕ) → k < n → SFits w32 (getD (take (modelRoom n) (c .after .model)) k (pos 0))
-line-model-fits n L l c e k h = fits (n * workConstant) _ (omega (arith, valid-list n L (was-asked c .list) .variables)) (line-model-within n L l c e k h)
+line-model-fits n L l c e k h = fits (n * modelConstant) _ (omega (arith, valid-list n L (was-asked c .list) .variables)) (line-model-within n L l c e k h)
 
 -- ---- bounds, sums and differences
 
@@ -87,7 +87,7 @@ abbrev pub NoneOrWithin : ℤ → ℕ → ℤ → Type 0
 NoneOrWithin absent m z = (z ≡ absent) ⊎ Within m z
 
 -- Every bound that is there.
-pub bounds-within : (n : ℕ) (L : List ℤ) (c : Call n L) → c .answer ≡ decide.Yes → (x : ℕ) → x < n
+pub bounds-within : {e : Engine} (n : ℕ) (L : List ℤ) (c : CallOf e n L) → c .answer ≡ decide.Yes → (x : ℕ) → x < n
     → NoneOrWithin absentLeast (n * maxConstant) (getD (boundsIn n (c .after)) (2 * x) (pos 0)) × NoneOrWithin absentGreatest (n * maxConstant) (getD (boundsIn n (c .after)) (2 * x + 1) (pos 0))
 bounds-within n L c e x h =
     let w = call-written c e in
@@ -211,28 +211,28 @@ chain-pair-reaches n k last c =
 abbrev pub mostLine : Line
 mostLine = record { a = pos 1; x = pos 0; b = pos 0; y = pos 0; d = pos maxConstant; identifier = pos 0 }
 
-opposite-most : opposite mostLine ≡ chainLine workConstant 0
+opposite-most : opposite mostLine ≡ chainLine modelConstant 0
 unfolding opposite
 opposite-most = refl
 
-pub line-reaches : (c : LineCall 1 [] mostLine) → (c .answer ≡ NotImplied) × (getD (take (modelRoom 1) (c .after .model)) 0 (pos 0) ≡ pos (1 * workConstant))
+pub line-reaches : (c : LineCall 1 [] mostLine) → (c .answer ≡ NotImplied) × (getD (take (modelRoom 1) (c .after .model)) 0 (pos 0) ≡ pos (1 * modelConstant))
 line-reaches c = (answer, value)
   where
-    lines : linesOf (opposed [] mostLine) ≡ chain workConstant 1
+    lines : linesOf (opposed [] mostLine) ≡ chain modelConstant 1
     lines = lines-snoc [] (opposite mostLine) refl ∙ ap (λ (l : Line). l ∷ []) opposite-most
 
-    broken : Meets (climbing workConstant) mostLine → ⊥
-    broken = meets-opposite (climbing workConstant) mostLine .0 (rw opposite-most (chain-solved workConstant 1 .0))
+    broken : Meets (climbing modelConstant) mostLine → ⊥
+    broken = meets-opposite (climbing modelConstant) mostLine .0 (rw opposite-most (chain-solved modelConstant 1 .0))
 
     answer : c .answer ≡ NotImplied
-    answer = right-line 1 [] mostLine c .no-exactly .1 (record { assignment = climbing workConstant; solves = tt; breaks = broken })
+    answer = right-line 1 [] mostLine c .no-exactly .1 (record { assignment = climbing modelConstant; solves = tt; breaks = broken })
 
-    value : getD (take (modelRoom 1) (c .after .model)) 0 (pos 0) ≡ pos (1 * workConstant)
+    value : getD (take (modelRoom 1) (c .after .model)) 0 (pos 0) ≡ pos (1 * modelConstant)
     value =
         let v = was-asked c in
         let works = opposed-works 1 0 [] mostLine (v .list) (v .line) in
         let ok = lines-ok 1 (opposed [] mostLine) works in
         let m = right-line 1 [] mostLine c .model answer in
         let one = only-model 1 (linesOf (opposed [] mostLine)) ok (solvable-yes 1 (opposed [] mostLine) works (record { assignment = _; solves = m .model-is .solves })) in
-        let reached : IsModel 1 (linesOf (opposed [] mostLine)) (climbing workConstant) = rw lines (chain-model workConstant 1) in
-        one _ (m .model-is) 0 (omega arith) ∙ sym (one (climbing workConstant) reached 0 (omega arith))
+        let reached : IsModel 1 (linesOf (opposed [] mostLine)) (climbing modelConstant) = rw lines (chain-model modelConstant 1) in
+        one _ (m .model-is) 0 (omega arith) ∙ sym (one (climbing modelConstant) reached 0 (omega arith))

@@ -41,7 +41,7 @@ use Rattle.tree_deciding.specs.declared.TreeAnswer.the-variants.{Yes, No, Refus
 use Rattle.tree_deciding.specs.Answer.{TreeValidity, valid, refused, _orNext_, ofDeciding, ofTree, choiceValidity, firstValidity, unlessRefused, treeOver, choiceFound, firstFound, choiceAnswer, firstAnswer, ChoiceNo, ChoiceLeaves, modelLeft, workLeft, DecidesChoice, AnswersFirst}
 use Rattle.tree_deciding.specs.Choice.{asTreeAnswer, listed-decides, decides}
 use Rattle.tree_deciding.specs.Meaning.{choice-taken}
-use Rattle.demands.specs.DecideVersions.{right, right-keeps, roomWith}
+use Rattle.demands.specs.RightVersion.{right, right-keeps, roomWith}
 use Rattle.demands.specs.TreeCalls.{choice-answers}
 
 -- ---- what a call gives back, and its promise, of any version of it

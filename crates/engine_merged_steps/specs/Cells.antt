@@ -29,7 +29,7 @@ use Rattle.engine_packed_steps.specs.Scratch.{Scratch, scratch-none, scratch-tr
 
 -- stands in a cell for no step
 abbrev pub noStep : ℕ
-noStep = 1_000_000_000_000_000_000
+noStep = 9_000_000_000_000_000_000
 
 abbrev pub stepOfNumber : ℤ → Step
 stepOfNumber z = unpacked (natAbs z)

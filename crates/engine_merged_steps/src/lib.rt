@@ -17,7 +17,7 @@ ghost use Rattle.engine_merged_steps.specs.Cells.{Cleared, Lowered, PutR
 ghost use Rattle.engine_merged_steps.specs.Keep.{KeepReady, Keeping};
 
 // Stands in a cell for no step.
-const NO_STEP: i64 = 1_000_000_000_000_000_000;
+const NO_STEP: i64 = 9_000_000_000_000_000_000;
 
 // No step in any cell.
 fn clear_cells(work: &mut [i64], start: usize, cells: usize)

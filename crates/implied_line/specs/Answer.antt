@@ -16,7 +16,7 @@ use Rattle.decide_buffers.specs.Room.{Lengths, ModelLent, modelLengthsOf, model
 use Rattle.decide.specs.Decided.{cleared}
 use Rattle.implied_line.specs.declared.LineAnswer.{LineAnswer}
 use Rattle.implied_line.specs.declared.LineAnswer.the-variants.{Implied, NotImplied, Unsolvable, Refused}
-use Rattle.implied_line.specs.Opposite.{opposed}
+use Rattle.opposite_line.specs.Opposite.{opposed}
 
 -- ---- refusals
 -- the list's; the line's, as if it stood behind the list; then 7, 8

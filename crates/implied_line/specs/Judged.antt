@@ -12,11 +12,12 @@ use Rattle.lines.specs.declared.Refusal.{Refusal}
 use Rattle.lines.specs.declared.Validity.{Validity}
 use Rattle.lines.specs.declared.Validity.the-variants.{Valid}
 use Rattle.lines.specs.declared.Validity.the-variants as validity
-use Rattle.lines.specs.Limits.{lineSize, maxVariables, maxLines, maxConstant}
+use Rattle.lines.specs.Limits.{lineSize, maxVariables, maxLines, shownConstant}
 use Rattle.lines.specs.Line.{lineCount, linesOf, lineNumbers}
 use Rattle.lines.specs.LineNumbers.{length-numbers}
 use Rattle.lines.specs.Refusal.{lineValidity, validityOf}
 use Rattle.lines.specs.Valid.{ListOk, or-valid, line-ok, valid-list, workable}
+use Rattle.theory_walks.specs.Size.{within-more}
 use Rattle.theory_bounds.specs.Verdict.{verdictOf}
 use Rattle.decide_buffers.specs.Room.{ModelLent, modelLengthsOf, modelRoom, refutationRoom, workRoom, modelRooms, none-short}
 use Rattle.longer_list.specs.Written.{mostNumbers}
@@ -25,7 +26,7 @@ use Rattle.decide.specs.Modelled.{ModelAsked, Modelled}
 use Rattle.decide.specs.Decided.{cleared, used-room, cleared-is}
 use Rattle.implied_line.specs.declared.LineAnswer.{LineAnswer}
 use Rattle.implied_line.specs.declared.LineAnswer.the-variants.{Implied, NotImplied, Unsolvable, Refused}
-use Rattle.implied_line.specs.Opposite.{opposite, opposed, opposed-works}
+use Rattle.opposite_line.specs.Opposite.{opposite, opposed, opposed-works, opposed-modellable}
 use Rattle.implied_line.specs.Answer.{questionValidity, judgedBy, judged, unlessRefused, impliedAnswer, modelLeft, workLeft, AnswersLine}
 
 -- ---- nothing is refused
@@ -60,8 +61,8 @@ module _ (n : ℕ) (L : List ℤ) (l : Line) (model work : List ℤ) (a : LineAs
   pub few : n ≤ maxVariables
   few = ok .variables
 
-  pub line-small : Within 1 (l .a) × Within 1 (l .b) × Within maxConstant (l .d)
-  line-small = let o = line-ok n (lineCount L) l (a .line) in (o .coefficient-a, o .coefficient-b, o .constant)
+  pub line-small : Within 1 (l .a) × Within 1 (l .b) × Within (shownConstant maxVariables) (l .d)
+  line-small = let o = line-ok n (lineCount L) l (a .line) in (o .coefficient-a, o .coefficient-b, within-more (omega arith) (o .constant))
 
   -- no refutation is asked for, so that zeros are lent for it
   pub search-ready : SearchReady n L (replicate (refutationRoom maxVariables) 0) work
@@ -104,6 +105,7 @@ module _ (n : ℕ) (L : List ℤ) (l : Line) (model work : List ℤ) (a : LineAs
                   room = rw (first .on-yes none .0) (search-ready .room);
                   work-room = omega (arith, search-ready .work-room, first .same-length);
                 };
+            modellable = opposed-modellable n (lineCount L) L l (a .list) (a .line);
             room = a .model-room;
           }
 

@@ -1,4 +1,3 @@
-pub mod Opposite
 pub mod Answer
 pub mod Judged
 pub mod Meaning

@@ -2,7 +2,7 @@
 -- writes is a solution of the list that does not meet the line.
 use mathlib.Core.Path.{_≡_, refl, sym, _∙_}
 use mathlib.Core.Logic.{_↔_}
-use mathlib.Core.Bool.{Bool, true, false, false≢true}
+use mathlib.Core.Bool.{Bool, true, false}
 use mathlib.Core.List.{List, _++_}
 use Prim.Native.Nat.{ℕ}
 use native.Mathlib.Omega.{arith}
@@ -14,9 +14,9 @@ use Rattle.integers.specs.Sequence.{length-tabulate}
 use Rattle.lines.specs.declared.Line.{Line}
 use Rattle.lines.specs.declared.Validity.the-variants.{Valid}
 use Rattle.lines.specs.Limits.{lineSize}
-use Rattle.lines.specs.Line.{lineCount, linesOf, Assignment, assignmentOf, Meets, meets, Solves, Solvable, Entails}
+use Rattle.lines.specs.Line.{lineCount, linesOf, Assignment, assignmentOf, Meets, Solves, Solvable, Entails, Implies, Breaks}
 use Rattle.lines.specs.Refusal.{lineValidity, validityOf}
-use Rattle.lines.specs.Solutions.{meets-true}
+use Rattle.lines.specs.Solutions.{meets-stable}
 use Rattle.lines.specs.Valid.{Workable, valid-list, workable}
 use Rattle.check_soundness.specs.Refutes.{Refutes}
 use Rattle.theory_bounds.specs.Verdict.{verdictOf}
@@ -26,18 +26,8 @@ use Rattle.theory_answers.specs.Meaning.{model-is-model, only-model}
 use Rattle.theory_answers.specs.Refuted.{Due, due-refutation}
 use Rattle.theory_answers.specs.Decided.{lines-ok, yes-solvable, no-unsolvable, solvable-yes, unsolvable-no, refuted-no}
 use Rattle.implied_line.specs.declared.LineAnswer.the-variants.{Implied, NotImplied, Unsolvable}
-use Rattle.implied_line.specs.Opposite.{opposed, opposed-works, solves-opposed}
+use Rattle.opposite_line.specs.Opposite.{opposed, opposed-works, solves-opposed}
 use Rattle.implied_line.specs.Answer.{judgedBy, judged}
-
--- every solution meets the line
-abbrev pub Implies : List Line → Line → Type 0
-Implies ls l = (s : Assignment) → Solves ls s → Meets s l
-
--- a solution that does not meet the line
-pub record Breaks (ls : List Line) (l : Line) : Type 0 where
-  pub assignment : Assignment
-  pub solves : Solves ls assignment
-  pub breaks : Meets assignment l → ⊥
 
 -- m is the model of the list with the opposite line behind it: of the solutions that do not meet the line, the one whose values are nearest zero
 pub record BreakingModel (n : ℕ) (L : List ℤ) (l : Line) (m : List ℤ) : Type 0 where
@@ -45,13 +35,6 @@ pub record BreakingModel (n : ℕ) (L : List ℤ) (l : Line) (m : List ℤ) : Ty
   pub model-is : IsModel n (linesOf (opposed L l)) (assignmentOf m)
   pub solves : Solves (linesOf L) (assignmentOf m)
   pub breaks : Meets (assignmentOf m) l → ⊥
-
-stable : (s : Assignment) (l : Line) → ((Meets s l → ⊥) → ⊥) → Meets s l
-stable s l f = go (meets s l) refl
-  where
-    go : (t : Bool) → meets s l ≡ t → Meets s l
-    go true e = meets-true s l .0 e
-    go false e = absurd (f (λ m. false≢true (sym e ∙ meets-true s l .1 m)))
 
 -- what is implied stays so where every solution is one of the list before
 pub implies-more : (ls ms : List Line) (l : Line) → Entails ms ls → Implies ls l → Implies ms l
@@ -73,7 +56,7 @@ module _ (n : ℕ) (L : List ℤ) (l : Line) (valid : validityOf n L ≡ Valid) 
 
   -- the list with the opposite line has no solution exactly if the line is implied
   no-implies : verdictOf n (linesOf (opposed L l)) ≡ false → Implies (linesOf L) l
-  no-implies e s h = stable s l (λ f. no-unsolvable n (opposed L l) works e (record { assignment = s; solves = opposed-exactly s .1 (h, f) }))
+  no-implies e s h = meets-stable s l (λ f. no-unsolvable n (opposed L l) works e (record { assignment = s; solves = opposed-exactly s .1 (h, f) }))
 
   implies-no : Implies (linesOf L) l → verdictOf n (linesOf (opposed L l)) ≡ false
   implies-no i = unsolvable-no n (opposed L l) works (λ s. let p = opposed-exactly (s .assignment) .0 (s .solves) in p .1 (i (s .assignment) (p .0)))

@@ -1,28 +1,28 @@
 -- The place of a refused answer on a line is small: below any bound that passes the limit of lines and the places of the outputs. And what is answered is
 -- valid.
 use mathlib.Core.Path.{_≡_, refl}
-use mathlib.Core.Bool.{Bool, true, false, not}
-use mathlib.Core.List.{List, [], _∷_}
+use mathlib.Core.Bool.{Bool, true, false}
+use mathlib.Core.List.{List}
 use Prim.Native.Nat.{ℕ, _<_}
 use native.Mathlib.Omega.{arith}
 use lib.Dec.{ltb}
-use lib.IntN.{ℤ}
+use lib.IntN.{ℤ, pos}
 use lib.ListN.{length}
 use Rattle.lines.specs.declared.Line.{Line}
 use Rattle.lines.specs.declared.Refusal.{Refusal}
 use Rattle.lines.specs.declared.Refusal.the-variants.{ShortOutput, ShortWorkArea}
 use Rattle.lines.specs.declared.Validity.{Validity}
 use Rattle.lines.specs.declared.Validity.the-variants as validity
-use Rattle.lines.specs.Limits.{maxLines}
+use Rattle.lines.specs.Limits.{maxLines, maxConstant}
 use Rattle.lines.specs.Line.{lineCount, linesOf}
-use Rattle.lines.specs.Refusal.{placeOf, _orElse_, refuseIf, Rule, lineRules, firstBroken, lineValidity, validityOf}
+use Rattle.lines.specs.Refusal.{placeOf, _orElse_, refuseIf, lineValidity, validityOf}
 use Rattle.lines.specs.Valid.{valid-list}
-use Rattle.lines.specs.Places.{Placed, valid, placed-or, placed-if, place-at, placed-list}
+use Rattle.lines.specs.Places.{Placed, valid, placed-or, placed-if, place-at, placed-line, placed-list}
 use Rattle.theory_bounds.specs.Verdict.{verdictOf}
 use Rattle.decide_buffers.specs.Room.{Lengths, modelRoom, workRoom, mostPlace, firstShort, modelRooms, ModelLent, modelLengthsOf}
 use Rattle.implied_line.specs.declared.LineAnswer.{LineAnswer}
 use Rattle.implied_line.specs.declared.LineAnswer.the-variants.{Implied, NotImplied, Unsolvable, Refused}
-use Rattle.implied_line.specs.Opposite.{opposed}
+use Rattle.opposite_line.specs.Opposite.{opposed}
 use Rattle.implied_line.specs.Answer.{questionValidity, judgedBy, judged, unlessRefused, impliedAnswer, answerFor}
 
 abbrev pub Below : ℕ → LineAnswer → Type 0
@@ -33,24 +33,6 @@ Below m (Refused r) = placeOf r < m
 
 abbrev pub NotRefused : LineAnswer → Type 0
 NotRefused x = (r : Refusal) → x ≡ Refused r → ⊥
-
--- every line rule's place is the line
-AtLine : List Rule → Type 0
-AtLine [] = Unit {0}
-AtLine (r ∷ rs) = ((k : ℕ) → placeOf (r .refusal k) ≡ k) × AtLine rs
-
-rules-at-line : AtLine lineRules
-unfolding AtLine
-rules-at-line = search
-
-placed-broken : (m n : ℕ) (rs : List Rule) → AtLine rs → (k : ℕ) (l : Line) → k < m → Placed m (firstBroken rs n k l)
-unfolding AtLine
-placed-broken m n [] a k l h = valid
-placed-broken m n (r ∷ rs) a k l h =
-    placed-or m (refuseIf (not (r .ok n l)) (r .refusal k)) (firstBroken rs n k l) (placed-if m (not (r .ok n l)) (r .refusal k) (rw (a .0 k) h)) (placed-broken m n rs (a .1) k l h)
-
-placed-line : (m n k : ℕ) (l : Line) → k < m → Placed m (lineValidity n k l)
-placed-line m n k l h = placed-broken m n lineRules rules-at-line k l h
 
 module _ (m : ℕ) (few-lines : maxLines < m) (few-places : mostPlace < m) (n : ℕ) (L : List ℤ) (l : Line) where
   placed-question : (s : Lengths) → Placed m (questionValidity n L l s)
@@ -64,7 +46,7 @@ module _ (m : ℕ) (few-lines : maxLines < m) (few-places : mostPlace < m) (n : 
 
       -- the line's place is the number of lines, which is small where the list is valid
       go : (v : Validity) → validityOf n L ≡ v → Placed m v → Placed m (v orElse lineValidity n (lineCount L) l orElse firstShort modelRooms n s)
-      go validity.Valid e p = placed-or m (lineValidity n (lineCount L) l) _ (placed-line m n (lineCount L) l (omega (arith, valid-list n L e .count))) rooms
+      go validity.Valid e p = placed-or m (lineValidity n (lineCount L) l) _ (placed-line m n (pos maxConstant) (lineCount L) l (omega (arith, valid-list n L e .count))) rooms
       go (validity.Refused r) e p = p
 
   pub answer-below : (b : ModelLent) → Below m (answerFor n L l b)

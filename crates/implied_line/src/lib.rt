@@ -14,12 +14,10 @@ use lines::line_validity;
 use lines::list_validity;
 use longer_list::MOST_NUMBERS;
 use longer_list::copy_with_line;
+use opposite_line::opposite_line;
 ghost use mathlib.Core.Path.{_≡_};
 ghost use lib.ListN.{length};
-ghost use Rattle.lines.specs.Limits.{maxConstant};
-ghost use Rattle.integers.specs.Integer.{Within};
 ghost use Rattle.decide_buffers.specs.Room.{modelLengths};
-ghost use Rattle.implied_line.specs.Opposite.{opposite};
 ghost use Rattle.implied_line.specs.Answer.{questionValidity, AnswersLine};
 ghost use Rattle.implied_line.specs.Judged.{LineAsked, LineJudged};
 
@@ -45,21 +43,6 @@ fn question_validity(n: usize, list: &[i32], line: Line, model: usize, work: usi
         return Validity::Refused(r);
     }
     model_validity(n, model, work)
-}
-
-// The opposite line: -a·x - b·y <= -d - 1.
-fn opposite_line(line: Line) -> Line
-    requires { ⌜ Within 1 (line .a) × Within 1 (line .b) × Within maxConstant (line .d) ⌝ }
-    ensures { λ r. ⌜ r ≡ opposite line ⌝ }
-{
-    Line {
-        a: -line.a,
-        x: line.x,
-        b: -line.b,
-        y: line.y,
-        d: -line.d - 1,
-        identifier: line.identifier,
-    }
 }
 
 // The answer by two searches: of the list, and of the list with the opposite line behind it. The second one, where it

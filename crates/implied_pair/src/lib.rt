@@ -90,7 +90,7 @@ fn pair_in(table: &[i64], n: usize, x: usize, y: usize) -> Pair
 }
 
 // Four zeros.
-fn no_pair() -> Pair
+pub fn no_pair() -> Pair
     ensures { λ r. ⌜ r ≡ noPair ⌝ }
 {
     let plus = [0; 2];

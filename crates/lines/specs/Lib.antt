@@ -5,6 +5,7 @@ pub mod Refusal
 pub mod Numbers
 pub mod Laws
 pub mod Valid
+pub mod Zero
 pub mod Fits
 pub mod Solutions
 pub mod Places

@@ -1,5 +1,5 @@
 -- The specification's limits, each in this one place; src/limits.rt has the same for the code.
-use Prim.Native.Nat.{ℕ, _+_, _-_, _^_}
+use Prim.Native.Nat.{ℕ, _+_, _*_, _-_, _^_}
 use lib.IntN.{ℤ, pos, negsuc}
 
 -- how many numbers a line has: `lineNumbers` gives them
@@ -22,12 +22,20 @@ maxLines = 4_096
 abbrev pub maxConstant : ℕ
 maxConstant = 1_000_000
 
--- deciding works within limits that are one wider: on a list with the opposite of a line behind it, a·x + b·y ≤ d turned to -a·x - b·y ≤ -d - 1
+-- a line that is shown says what follows from a list of n variables: its d lies within plus and minus this
+abbrev pub shownConstant : ℕ → ℕ
+shownConstant n = 2 * n * maxConstant
+
+-- deciding works within wider limits: on a list with the opposite of a line behind it, a·x + b·y ≤ d turned to -a·x - b·y ≤ -d - 1
 abbrev pub workLines : ℕ
 workLines = maxLines + 1
 
 abbrev pub workConstant : ℕ
-workConstant = maxConstant + 1
+workConstant = shownConstant maxVariables + 1
+
+-- where the model is written, that line is one of a list: each d lies within this
+abbrev pub modelConstant : ℕ
+modelConstant = maxConstant + 1
 
 -- the greatest identifier of a message: 29 bits
 abbrev pub maxIdentifier : ℕ

@@ -68,6 +68,16 @@ pub record Solvable (ls : List Line) : Type 0 where
 abbrev pub Entails : List Line → List Line → Type 0
 Entails ms ls = (s : Assignment) → Solves ms s → Solves ls s
 
+-- every solution meets the line
+abbrev pub Implies : List Line → Line → Type 0
+Implies ls l = (s : Assignment) → Solves ls s → Meets s l
+
+-- a solution that does not meet the line
+pub record Breaks (ls : List Line) (l : Line) : Type 0 where
+  pub assignment : Assignment
+  pub solves : Solves ls assignment
+  pub breaks : Meets assignment l → ⊥
+
 -- what solves the one solves the other
 abbrev pub SameSolutions : List Line → List Line → Type 0
 SameSolutions ls ms = (s : Assignment) → Solves ls s ↔ Solves ms s

@@ -6,7 +6,7 @@ use Prim.Native.Nat.{ℕ, _+_, _%_, _<_, _≤_}
 use native.Mathlib.Omega.{arith}
 use borrow.Author.Tests.{ltb-false}
 use lib.Dec.{eqb, ltb}
-use lib.IntN.{ℤ}
+use lib.IntN.{ℤ, pos}
 use lib.ListN.{length}
 use Rattle.integers.specs.Sequence.{length-tabulate}
 use Rattle.lines.specs.declared.Line.{Line}
@@ -14,9 +14,9 @@ use Rattle.lines.specs.declared.Refusal.{Refusal}
 use Rattle.lines.specs.declared.Refusal.the-variants.{TooManyVariables, BrokenLength, TooManyLines}
 use Rattle.lines.specs.declared.Validity.{Validity}
 use Rattle.lines.specs.declared.Validity.the-variants.{Valid, Refused}
-use Rattle.lines.specs.Limits.{lineSize, maxVariables, maxLines}
+use Rattle.lines.specs.Limits.{lineSize, maxVariables, maxLines, maxConstant}
 use Rattle.lines.specs.Line.{lineAt, lineCount, linesOf}
-use Rattle.lines.specs.Refusal.{placeOf, _orElse_, refuseIf, Rule, lineRules, firstBroken, lineValidity, linesValidity, validityOf}
+use Rattle.lines.specs.Refusal.{placeOf, _orElse_, refuseIf, Rule, rulesWithin, firstBroken, lineValidity, linesValidity, validityOf}
 
 pub data Placed (m : ℕ) : Validity → Type 0 where
   valid : Placed m Valid
@@ -38,9 +38,9 @@ AtLine : List Rule → Type 0
 AtLine [] = Unit {0}
 AtLine (r ∷ rs) = ((k : ℕ) → placeOf (r .refusal k) ≡ k) × AtLine rs
 
-rules-at-line : AtLine lineRules
+rules-at-line : (most : ℤ) → AtLine (rulesWithin most)
 unfolding AtLine
-rules-at-line = search
+rules-at-line most = search
 
 module _ (m n : ℕ) where
   placed-broken : (rs : List Rule) → AtLine rs → (k : ℕ) (l : Line) → k < m → Placed m (firstBroken rs n k l)
@@ -49,10 +49,14 @@ module _ (m n : ℕ) where
   placed-broken (r ∷ rs) a k l h =
       placed-or m (refuseIf (not (r .ok n l)) (r .refusal k)) (firstBroken rs n k l) (placed-if m (not (r .ok n l)) (r .refusal k) (rw (a .0 k) h)) (placed-broken rs (a .1) k l h)
 
+  -- whatever the limit of d is
+  pub placed-line : (most : ℤ) (k : ℕ) (l : Line) → k < m → Placed m (firstBroken (rulesWithin most) n k l)
+  placed-line most = placed-broken (rulesWithin most) (rules-at-line most)
+
   placed-lines : (k : ℕ) (ls : List Line) → k + length ls ≤ m → Placed m (linesValidity n k ls)
   unfolding linesValidity
   placed-lines k [] h = valid
-  placed-lines k (l ∷ ls) h = placed-or m (lineValidity n k l) _ (placed-broken lineRules rules-at-line k l (omega arith)) (placed-lines (k + 1) ls (omega arith))
+  placed-lines k (l ∷ ls) h = placed-or m (lineValidity n k l) _ (placed-line (pos maxConstant) k l (omega arith)) (placed-lines (k + 1) ls (omega arith))
 
   pub placed-list : (L : List ℤ) → maxLines < m → Placed m (validityOf n L)
   unfolding validityOf

@@ -3,7 +3,7 @@ use mathlib.Core.Bool.{Bool, true, false, not, cond, _&&_}
 use mathlib.Core.List.{List, [], _∷_}
 use Prim.Native.Nat.{ℕ, _+_, _%_}
 use lib.Dec.{ltb, eqb}
-use lib.IntN.{ℤ, pos}
+use lib.IntN.{ℤ, pos, negℤ}
 use lib.ListN.{length}
 use lib.Signed.{leZ, ltZ}
 use Rattle.integers.specs.Integer.{eqZ, isBetween, isWithin}
@@ -13,7 +13,7 @@ use Rattle.lines.specs.declared.Refusal.{Refusal}
 use Rattle.lines.specs.declared.Refusal.the-variants.{TooManyVariables, BrokenLength, TooManyLines, BadCoefficient, BadVariable, BadConstant, ShortOutput, ShortWorkArea, WrongModelLength, BadValue, LongRefutation, MisplacedCoefficient, BadIdentifier, AfterNo, NoLines, NotDifference}
 use Rattle.lines.specs.declared.Validity.{Validity}
 use Rattle.lines.specs.declared.Validity.the-variants.{Valid, Refused}
-use Rattle.lines.specs.Limits.{lineSize, maxVariables, maxLines, maxConstant, maxIdentifier}
+use Rattle.lines.specs.Limits.{lineSize, maxVariables, maxLines, maxConstant, shownConstant, maxIdentifier}
 use Rattle.lines.specs.Line.{lineCount, linesOf}
 
 abbrev pub numberedAt : ℕ → ℕ → Numbered
@@ -72,8 +72,8 @@ unfoldable pub loneOk : Line → Bool
 loneOk l = cond (eqZ (l .a) (pos 0)) (eqZ (l .b) (pos 0)) true
 
 -- 6: d lies within its limit
-unfoldable pub constantOk : Line → Bool
-constantOk l = isWithin maxConstant (l .d)
+unfoldable pub constantOk : ℤ → Line → Bool
+constantOk most l = isBetween (negℤ most) most (l .d)
 
 -- 13: the identifier is from 0 to its limit
 unfoldable pub identifierOk : Line → Bool
@@ -84,15 +84,19 @@ pub record Rule : Type 0 where
   pub ok : ℕ → Line → Bool
   pub refusal : ℕ → Refusal
 
--- within a line 4, 5, 12, 6, 13
-abbrev pub lineRules : List Rule
-lineRules =
+-- within a line 4, 5, 12, 6, 13, with a limit for d
+abbrev pub rulesWithin : ℤ → List Rule
+rulesWithin most =
     record { ok = λ n l. coefficientsOk l; refusal = BadCoefficient }
     ∷ record { ok = variablesOk; refusal = BadVariable }
     ∷ record { ok = λ n l. loneOk l; refusal = MisplacedCoefficient }
-    ∷ record { ok = λ n l. constantOk l; refusal = BadConstant }
+    ∷ record { ok = λ n l. constantOk most l; refusal = BadConstant }
     ∷ record { ok = λ n l. identifierOk l; refusal = BadIdentifier }
     ∷ []
+
+-- of a list's lines
+abbrev pub lineRules : List Rule
+lineRules = rulesWithin (pos maxConstant)
 
 -- the tests of these rules in one name: an `unfolding` line that names it unfolds each of them, wherever the validity of a list is computed
 unfoldable pub lineTests : Unit {0}
@@ -111,6 +115,10 @@ ruleOf refusal (r ∷ rs) n l = cond (eqb (numberOf (r .refusal 0)) (numberOf (r
 
 abbrev pub lineValidity : ℕ → ℕ → Line → Validity
 lineValidity n k l = firstBroken lineRules n k l
+
+-- of a line that is shown, whose d has its own limit
+abbrev pub shownValidity : ℕ → ℕ → Line → Validity
+shownValidity n k l = firstBroken (rulesWithin (pos (shownConstant n))) n k l
 
 -- lines from the first, which has number k
 unfoldable pub linesValidity : ℕ → ℕ → List Line → Validity

@@ -1,7 +1,7 @@
 -- Solutions: the test of a line, and what it is to solve one list after another.
-use mathlib.Core.Path.{_≡_}
+use mathlib.Core.Path.{_≡_, refl, sym, _∙_}
 use mathlib.Core.Logic.{_↔_}
-use mathlib.Core.Bool.{true}
+use mathlib.Core.Bool.{Bool, true, false, false≢true}
 use mathlib.Core.List.{List, [], _∷_, _++_}
 use Prim.Native.Nat.{ℕ, zero, suc, _<_}
 use native.Mathlib.Nat.{le-of-suc-le-suc, not-suc-le-zero}
@@ -23,6 +23,14 @@ meets-true s l = (fore (leftSide s l) (l .d), back (leftSide s l) (l .d))
 
     back : (a d : ℤ) → a ⩽ d → leZ a d ≡ true
     back a d = simp ints (omega arith)
+
+-- so a line that can't be broken is met
+pub meets-stable : (s : Assignment) (l : Line) → ((Meets s l → ⊥) → ⊥) → Meets s l
+meets-stable s l f = go (meets s l) refl
+  where
+    go : (t : Bool) → meets s l ≡ t → Meets s l
+    go true e = meets-true s l .0 e
+    go false e = absurd (f (λ m. false≢true (sym e ∙ meets-true s l .1 m)))
 
 pub solves-append : (ls ms : List Line) (s : Assignment) → Solves (ls ++ ms) s ↔ (Solves ls s × Solves ms s)
 solves-append [] ms s = ((λ h. (tt, h)), (λ h. h .1))

@@ -20,9 +20,9 @@ use Rattle.lines.specs.declared.Refusal.{Refusal}
 use Rattle.lines.specs.declared.Refusal.the-variants.{TooManyVariables, BrokenLength, TooManyLines, BadCoefficient, BadVariable, BadConstant, BadIdentifier}
 use Rattle.lines.specs.declared.Validity.{Validity}
 use Rattle.lines.specs.declared.Validity.the-variants.{Valid, Refused}
-use Rattle.lines.specs.Limits.{lineSize, maxVariables, maxLines, maxConstant, workLines, workConstant, maxIdentifier}
+use Rattle.lines.specs.Limits.{lineSize, maxVariables, maxLines, maxConstant, shownConstant, workLines, workConstant, modelConstant, maxIdentifier}
 use Rattle.lines.specs.Line.{lineNumbers, lineAt, lineCount, linesOf}
-use Rattle.lines.specs.Refusal.{numberOf, _orElse_, refuseIf, coefficientsOk, variableOk, variablesOk, constantOk, identifierOk, Rule, lineRules, firstBroken, ruleOf, lineValidity, linesValidity, validityOf}
+use Rattle.lines.specs.Refusal.{numberOf, _orElse_, refuseIf, coefficientsOk, variableOk, variablesOk, constantOk, identifierOk, Rule, rulesWithin, lineRules, firstBroken, ruleOf, lineValidity, shownValidity, linesValidity, validityOf}
 use Rattle.lines.specs.Laws.{validity-from}
 use Rattle.lines.specs.LineNumbers.{length-numbers, count-append, line-left, line-last, lines-append}
 
@@ -49,19 +49,26 @@ pub record LineWithin (most n : ℕ) (l : Line) : Type 0 where
 abbrev pub LineOk : ℕ → Line → Type 0
 LineOk n l = LineWithin maxConstant n l
 
--- what deciding asks of a line: d may pass its limit by one
+-- what deciding asks of a line: d may pass its limit
 abbrev pub LineWorks : ℕ → Line → Type 0
 LineWorks n l = LineWithin workConstant n l
 
 abbrev pub LinesOk : ℕ → List ℤ → Type 0
 LinesOk n L = (k : ℕ) → k < lineCount L → LineWorks n (lineAt L k)
 
--- what deciding asks of a list: a valid one has it, and so has a valid one with the opposite of a line behind it
-pub record Workable (n : ℕ) (L : List ℤ) : Type 0 where
+-- what deciding asks of a list, with a limit for each d: a valid one has it, and so has a valid one with the opposite of a line behind it
+pub record WorkableWithin (most n : ℕ) (L : List ℤ) : Type 0 where
   pub variables : n ≤ maxVariables
   pub whole : length L % lineSize ≡ 0
   pub count : lineCount L ≤ workLines
-  pub lines : LinesOk n L
+  pub lines : (k : ℕ) → k < lineCount L → LineWithin most n (lineAt L k)
+
+abbrev pub Workable : ℕ → List ℤ → Type 0
+Workable n L = WorkableWithin workConstant n L
+
+-- and where it writes the model
+abbrev pub Modellable : ℕ → List ℤ → Type 0
+Modellable n L = WorkableWithin modelConstant n L
 
 pub record ListOk (n : ℕ) (L : List ℤ) : Type 0 where
   pub variables : n ≤ maxVariables
@@ -103,8 +110,11 @@ module _ (n k : ℕ) (l : Line) where
       go false x y = y
 
   -- the rule that has this refusal holds
+  rule-within : (most : ℕ) (refusal : ℕ → Refusal) → firstBroken (rulesWithin (pos most)) n k l ≡ Valid → ruleOf refusal (rulesWithin (pos most)) n l ≡ true
+  rule-within most = holds-in (rulesWithin (pos most))
+
   pub rule-holds : (refusal : ℕ → Refusal) → lineValidity n k l ≡ Valid → ruleOf refusal lineRules n l ≡ true
-  rule-holds = holds-in lineRules
+  rule-holds = rule-within maxConstant
 
   -- rules that hold among m variables where they hold among n: none is broken there either, whatever the line's number is
   module _ (m j : ℕ) where
@@ -116,26 +126,34 @@ module _ (n k : ℕ) (l : Line) where
     none-more [] more e = refl
     none-more (r ∷ rs) more e = let h = holds r e in rw (more .0 (h .0)) (none-more rs (more .1) (h .1))
 
+-- whatever the limit of d is
+module _ (most n k : ℕ) (l : Line) (e : firstBroken (rulesWithin (pos most)) n k l ≡ Valid) where
+  pub variables-within : (variableOk n (l .a) (l .x) ≡ true) × (variableOk n (l .b) (l .y) ≡ true)
+  unfolding variablesOk
+  variables-within = and-true (variableOk n (l .a) (l .x)) (variableOk n (l .b) (l .y)) (rule-within n k l most BadVariable e)
+
+  pub line-within : LineWithin most n l
+  unfolding coefficientsOk constantOk identifierOk
+  line-within =
+      let c = and-true (isWithin 1 (l .a)) (isWithin 1 (l .b)) (rule-within n k l most BadCoefficient e) in
+      let v = variables-within in
+      record {
+        coefficient-a = is-within 1 (l .a) (c .0);
+        coefficient-b = is-within 1 (l .b) (c .1);
+        variable-x = variable-ok n (l .a) (l .x) (v .0);
+        variable-y = variable-ok n (l .b) (l .y) (v .1);
+        constant = is-within most (l .d) (rule-within n k l most BadConstant e);
+        identifier = identifier-ok (l .identifier) (rule-within n k l most BadIdentifier e);
+      }
+
 pub line-variables : (n k : ℕ) (l : Line) → lineValidity n k l ≡ Valid → (variableOk n (l .a) (l .x) ≡ true) × (variableOk n (l .b) (l .y) ≡ true)
-unfolding variablesOk
-line-variables n k l e = and-true (variableOk n (l .a) (l .x)) (variableOk n (l .b) (l .y)) (rule-holds n k l BadVariable e)
+line-variables = variables-within maxConstant
 
 pub line-ok : (n k : ℕ) (l : Line) → lineValidity n k l ≡ Valid → LineOk n l
-unfolding coefficientsOk constantOk identifierOk
-line-ok n k l e =
-    let c = and-true (isWithin 1 (l .a)) (isWithin 1 (l .b)) (rule-holds n k l BadCoefficient e) in
-    let v = line-variables n k l e in
-    record {
-      coefficient-a = is-within 1 (l .a) (c .0);
-      coefficient-b = is-within 1 (l .b) (c .1);
-      variable-x = variable-ok n (l .a) (l .x) (v .0);
-      variable-y = variable-ok n (l .b) (l .y) (v .1);
-      constant = is-within maxConstant (l .d) (rule-holds n k l BadConstant e);
-      identifier = identifier-ok (l .identifier) (rule-holds n k l BadIdentifier e);
-    }
+line-ok = line-within maxConstant
 
-pub line-works : (n : ℕ) (l : Line) → LineOk n l → LineWorks n l
-line-works n l o =
+line-wider : (most more n : ℕ) (l : Line) → most ≤ more → LineWithin most n l → LineWithin more n l
+line-wider most more n l small o =
     record {
       coefficient-a = o .coefficient-a;
       coefficient-b = o .coefficient-b;
@@ -144,6 +162,13 @@ line-works n l o =
       constant = record { low = given (o .constant .low) (simp ints (omega arith)); high = given (o .constant .high) (simp ints (omega arith)) };
       identifier = o .identifier;
     }
+
+pub line-works : (most n : ℕ) (l : Line) → most ≤ workConstant → LineWithin most n l → LineWorks n l
+line-works most = line-wider most workConstant
+
+pub modellable-works : (n : ℕ) (L : List ℤ) → Modellable n L → Workable n L
+modellable-works n L o =
+    record { variables = o .variables; whole = o .whole; count = o .count; lines = λ k h. line-works modelConstant n (lineAt L k) (omega arith) (o .lines k h) }
 
 module _ (n : ℕ) (L : List ℤ) (e : linesValidity n 0 (linesOf L) ≡ Valid) where
   -- none is refused from line k on, so neither line k nor what comes after it is
@@ -169,34 +194,45 @@ valid-list n L e =
       whole = eqb-true _ _ (not-false _ (not-refused _ _ (q .0)));
       count = ltb-false _ _ (not-refused _ _ (r .0));
       each = each-valid n L (r .1);
-      lines = λ k h. line-works n (lineAt L k) (line-ok n k (lineAt L k) (each-valid n L (r .1) k h));
+      lines = λ k h. line-works maxConstant n (lineAt L k) (omega arith) (line-ok n k (lineAt L k) (each-valid n L (r .1) k h));
     }
 
+-- of a valid list
+module _ (most n : ℕ) (L : List ℤ) (wide : maxConstant ≤ most) (e : validityOf n L ≡ Valid) where
+  lines-within : (k : ℕ) → k < lineCount L → LineWithin most n (lineAt L k)
+  lines-within k h = line-wider maxConstant most n (lineAt L k) wide (line-ok n k (lineAt L k) (valid-list n L e .each k h))
+
+  works-within : WorkableWithin most n L
+  works-within = let o = valid-list n L e in record { variables = o .variables; whole = o .whole; count = omega (arith, o .count); lines = lines-within }
+
+  -- with a line more, of which all rules hold but that d may pass its limit
+  pub works-more : (l : Line) → LineWithin most n l → WorkableWithin most n (L ++ lineNumbers l)
+  works-more l ok =
+      let o = valid-list n L e in
+      let count : lineCount (L ++ lineNumbers l) ≡ lineCount L + 1 = omega (arith, count-append L (lineNumbers l) (o .whole), length-numbers l) in
+      record {
+        variables = o .variables;
+        whole = omega (arith, length-append L (lineNumbers l), length-numbers l, o .whole);
+        count = omega (arith, count, o .count);
+        lines = λ k h. go k h count (decLt k (lineCount L));
+      }
+    where
+      go : (k : ℕ) → k < lineCount (L ++ lineNumbers l) → lineCount (L ++ lineNumbers l) ≡ lineCount L + 1 → Dec (k < lineCount L) → LineWithin most n (lineAt (L ++ lineNumbers l) k)
+      go k h c (yes q) = subst (LineWithin most n) (sym (line-left L (lineNumbers l) (valid-list n L e .whole) k q)) (lines-within k q)
+      go k h c (no q) =
+          let z : k ≡ lineCount L = omega arith in
+          subst (LineWithin most n) (sym (ap (lineAt (L ++ lineNumbers l)) z ∙ line-last L l (valid-list n L e .whole))) ok
+
 pub workable : (n : ℕ) (L : List ℤ) → validityOf n L ≡ Valid → Workable n L
-workable n L e = let o = valid-list n L e in record { variables = o .variables; whole = o .whole; count = omega (arith, o .count); lines = o .lines }
+workable n L e = works-within workConstant n L (omega arith) e
+
+pub modellable : (n : ℕ) (L : List ℤ) → validityOf n L ≡ Valid → Modellable n L
+modellable n L e = works-within modelConstant n L (omega arith) e
 
 -- and the other way round: what is within the limits, and has no line that breaks a rule, is valid
 pub list-valid : (n : ℕ) (L : List ℤ) → n ≤ maxVariables → length L % lineSize ≡ 0 → lineCount L ≤ maxLines → linesValidity n 0 (linesOf L) ≡ Valid → validityOf n L ≡ Valid
 unfolding validityOf
 list-valid n L few whole count lines = rw (le-ltb maxVariables n few, eq-eqb (length L % lineSize) 0 whole, le-ltb maxLines (lineCount L) count, lines)
-
--- with a line more, of which all rules hold but that d may pass its limit by one
-pub workable-more : (n : ℕ) (L : List ℤ) (l : Line) → validityOf n L ≡ Valid → LineWorks n l → Workable n (L ++ lineNumbers l)
-workable-more n L l e ok =
-    let o = valid-list n L e in
-    let count : lineCount (L ++ lineNumbers l) ≡ lineCount L + 1 = omega (arith, count-append L (lineNumbers l) (o .whole), length-numbers l) in
-    record {
-      variables = o .variables;
-      whole = omega (arith, length-append L (lineNumbers l), length-numbers l, o .whole);
-      count = omega (arith, count, o .count);
-      lines = λ k h. go k h count (decLt k (lineCount L));
-    }
-  where
-    go : (k : ℕ) → k < lineCount (L ++ lineNumbers l) → lineCount (L ++ lineNumbers l) ≡ lineCount L + 1 → Dec (k < lineCount L) → LineWorks n (lineAt (L ++ lineNumbers l) k)
-    go k h c (yes q) = let o = valid-list n L e in subst (LineWorks n) (sym (line-left L (lineNumbers l) (o .whole) k q)) (o .lines k q)
-    go k h c (no q) =
-        let z : k ≡ lineCount L = omega arith in
-        subst (LineWorks n) (sym (ap (lineAt (L ++ lineNumbers l)) z ∙ line-last L l (valid-list n L e .whole))) ok
 
 -- ---- a list of whole lines with which a valid list begins is valid
 front-valid : (n k : ℕ) (ls ms : List Line) → linesValidity n k (ls ++ ms) ≡ Valid → linesValidity n k ls ≡ Valid
@@ -252,6 +288,9 @@ variables-more n m l h e =
 -- whatever the line's number is
 pub line-valid-more : (n m k j : ℕ) (l : Line) → n ≤ m → lineValidity n k l ≡ Valid → lineValidity m j l ≡ Valid
 line-valid-more n m k j l h = none-more n k l m j lineRules (search (variables-more n m l h))
+
+pub shown-anywhere : (n k j : ℕ) (l : Line) → shownValidity n k l ≡ Valid → shownValidity n j l ≡ Valid
+shown-anywhere n k j l = none-more n k l n j (rulesWithin (pos (shownConstant n))) (search (variables-more n n l))
 
 -- lines of which none breaks a rule, whatever their numbers are
 pub lines-valid : (n c : ℕ) (f : ℕ → Line) (k : ℕ) → ((i : ℕ) → i < c → lineValidity n 0 (f i) ≡ Valid) → linesValidity n k (tabulate c f) ≡ Valid

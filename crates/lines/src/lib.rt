@@ -7,13 +7,14 @@ use limits::MAX_CONSTANT;
 use limits::MAX_IDENTIFIER;
 use limits::MAX_LINES;
 use limits::MAX_VARIABLES;
+use limits::shown_constant;
 ghost use mathlib.Core.Path.{_≡_};
 ghost use mathlib.Core.Bool.{not};
 ghost use Prim.Native.Nat.{_<_, _≤_};
-ghost use Rattle.lines.specs.Limits.{maxVariables};
+ghost use Rattle.lines.specs.Limits.{maxVariables, workConstant};
 ghost use Rattle.lines.specs.Line.{lineNumbers, lineAt, lineCount, linesOf, isFalse};
-ghost use Rattle.lines.specs.Refusal.{numberOf, placeOf, _orElse_, refuseIf, coefficientsOk, variableOk, variablesOk, loneOk, constantOk, identifierOk, lineValidity, linesValidity, validityOf};
-ghost use Rattle.integers.specs.Integer.{isBetween};
+ghost use Rattle.lines.specs.Refusal.{numberOf, placeOf, _orElse_, refuseIf, coefficientsOk, variableOk, variablesOk, loneOk, constantOk, identifierOk, rulesWithin, firstBroken, lineValidity, shownValidity, linesValidity, validityOf};
+ghost use Rattle.integers.specs.Integer.{isBetween, Within};
 
 // One line: a·x + b·y <= d. x and y are the numbers of variables (the field's term: a UTVPI constraint). The identifier is that of the message
 // which the line came from.
@@ -157,10 +158,11 @@ fn lone_ok(line: Line) -> bool
 }
 
 // Rule 6: d lies within its limit.
-fn constant_ok(line: Line) -> bool
-    ensures { λ r. ⌜ r ≡ constantOk line ⌝ }
+fn constant_ok(most: i64, line: Line) -> bool
+    requires { ⌜ Within workConstant most ⌝ }
+    ensures { λ r. ⌜ r ≡ constantOk most line ⌝ }
 {
-    in_range(-MAX_CONSTANT, MAX_CONSTANT, line.d)
+    in_range(-most, most, line.d)
 }
 
 // Rule 13: the identifier is compared as the signed number that it is.
@@ -183,18 +185,34 @@ fn or_unless(found: Validity, ok: bool, r: Refusal) -> Validity
     Validity::Refused(r)
 }
 
-// The first rule that line number k breaks: a line here for each, in the order of specs/Refusal.antt.
-pub fn line_validity(n: usize, k: usize, line: Line) -> Validity
-    requires { ⌜ n ≤ maxVariables ⌝ }
-    ensures { λ r. ⌜ r ≡ lineValidity n k line ⌝ }
+// The first rule that line number k breaks, with a limit for d: a line here for each, in the order of specs/Refusal.antt.
+fn validity_within(most: i64, n: usize, k: usize, line: Line) -> Validity
+    requires { ⌜ Within workConstant most × (n ≤ maxVariables) ⌝ }
+    ensures { λ r. ⌜ r ≡ firstBroken (rulesWithin most) n k line ⌝ }
 {
     let found = Validity::Valid;
     let found = or_unless(found, coefficients_ok(line), Refusal::BadCoefficient(k));
     let found = or_unless(found, variables_ok(n, line), Refusal::BadVariable(k));
     let found = or_unless(found, lone_ok(line), Refusal::MisplacedCoefficient(k));
-    let found = or_unless(found, constant_ok(line), Refusal::BadConstant(k));
+    let found = or_unless(found, constant_ok(most, line), Refusal::BadConstant(k));
     let found = or_unless(found, identifier_ok(line), Refusal::BadIdentifier(k));
     found
+}
+
+// The first rule that line number k of a list breaks.
+pub fn line_validity(n: usize, k: usize, line: Line) -> Validity
+    requires { ⌜ n ≤ maxVariables ⌝ }
+    ensures { λ r. ⌜ r ≡ lineValidity n k line ⌝ }
+{
+    validity_within(MAX_CONSTANT, n, k, line)
+}
+
+// The first rule that a line breaks which is shown, as line number k.
+pub fn shown_validity(n: usize, k: usize, line: Line) -> Validity
+    requires { ⌜ n ≤ maxVariables ⌝ }
+    ensures { λ r. ⌜ r ≡ shownValidity n k line ⌝ }
+{
+    validity_within(shown_constant(n), n, k, line)
 }
 
 // The first refusal among the lines.

@@ -15,7 +15,7 @@ ghost use Rattle.lines.specs.Line.{lineNumbers};
 pub const MOST_NUMBERS: usize = LINE_SIZE * MAX_LINES + LINE_SIZE;
 
 // Copies numbers to the front of a list.
-fn copy_to(numbers: &[i32], list: &mut [i32])
+pub fn copy_to(numbers: &[i32], list: &mut [i32])
     requires { ⌜ length (now numbers) ≤ length (now list) ⌝ }
     ensures { λ _. ⌜ now (list .exit) ≡ now (numbers .entry) ++ drop (length (now (numbers .entry))) (now (list .entry)) ⌝ }
 {

@@ -1,28 +1,38 @@
 // A session that takes lines one at a time: it is started, lines are added to it, and the last one is withdrawn. A lent state
 // holds it between the calls. Each call reads the state as any numbers.
 use decide::Answer;
-use decide::decide;
+use decide_table_by_rounds::start_table;
 use lines::Line;
 use lines::Refusal;
 use lines::Validity;
-use lines::limits::LINE_SIZE;
 use lines::limits::MAX_VARIABLES;
-use longer_list::MOST_NUMBERS;
+use session_add::add_to;
+use session_remake::remake_table;
+use session_state::FRONT_ROOM;
+use session_state::STATE_PLACE;
 use session_state::begin_state;
-use session_state::copy_with;
 use session_state::is_state;
 use session_state::pop_line;
-use session_state::push_line;
 use session_state::read_head;
 use session_state::session_room;
 ghost use mathlib.Core.Path.{_≡_};
 ghost use mathlib.Core.Bool.{true};
-ghost use Rattle.session_state.specs.State.{variablesIn, numbersWith, isState};
-ghost use Rattle.decide.specs.Decided.{Decided};
-ghost use Rattle.session.specs.Promise.{Starts, Adds, Withdraws};
+ghost use Prim.Native.Nat.{_<_, _≤_};
+ghost use lib.ListN.{length};
+ghost use Rattle.lines.specs.Limits.{maxVariables};
+ghost use Rattle.session_state.specs.State.{sessionRoom, countIn, isState};
+ghost use Rattle.lines.specs.declared.Validity.the-variants.{Valid};
+ghost use Rattle.session_promise.specs.Promise.{startState, Starts, Adds, Withdraws};
+ghost use Rattle.session.specs.Taken.{Taken};
 
-// The place of the state among the buffers that may be too short.
-const STATE_PLACE: usize = 6;
+// Writes the state of n variables and no lines.
+fn write_start(n: usize, state: &mut [i64])
+    requires { ⌜ (n ≤ maxVariables) × (sessionRoom n ≤ length (now state)) ⌝ }
+    ensures { λ _. ⌜ now (state .exit) ≡ startState n (now (state .entry)) Valid ⌝ }
+{
+    begin_state(state, n);
+    start_table(state, FRONT_ROOM, 2 * n);
+}
 
 // Starts a session of n variables.
 pub fn start(n: usize, state: &mut [i64]) -> Validity
@@ -34,40 +44,8 @@ pub fn start(n: usize, state: &mut [i64]) -> Validity
     if state.len() < session_room(n) {
         return Validity::Refused(Refusal::ShortOutput(STATE_PLACE));
     }
-    begin_state(state, n);
+    write_start(n, state);
     Validity::Valid
-}
-
-// Decides the lines of a state and one more.
-fn decide_with(
-    state: &[i64],
-    line: Line,
-    model: &mut [i32],
-    bounds: &mut [i64],
-    groups: &mut [u32],
-    refutation: &mut [u32],
-    identifiers: &mut [u32],
-    work: &mut [i64],
-) -> Answer
-    requires { ⌜ isState (now state) ≡ true ⌝ }
-    ensures { λ r. ⌜ Decided (variablesIn (now (state .entry))) (numbersWith (now (state .entry)) line) r
-        (record { model = now (model .entry); bounds = now (bounds .entry); groups = now (groups .entry); refutation = now (refutation .entry); identifiers = now (identifiers .entry); work = now (work .entry) })
-        (record { model = now (model .exit); bounds = now (bounds .exit); groups = now (groups .exit); refutation = now (refutation .exit); identifiers = now (identifiers .exit); work = now (work .exit) }) ⌝ }
-{
-    let mut list = [0i32; MOST_NUMBERS];
-    copy_with(state, line, &mut list);
-    let head = read_head(state);
-    let end = LINE_SIZE * head.count + LINE_SIZE;
-    decide(
-        head.n,
-        &list[..end],
-        model,
-        bounds,
-        groups,
-        refutation,
-        identifiers,
-        work,
-    )
 }
 
 // Adds a line, and decides all lines so far.
@@ -93,7 +71,7 @@ pub fn add(
     if head.refused {
         return Answer::Refused(Refusal::AfterNo);
     }
-    let answer = decide_with(
+    add_to(
         state,
         line,
         model,
@@ -102,18 +80,21 @@ pub fn add(
         refutation,
         identifiers,
         work,
-    );
-    match answer {
-        Answer::Yes => {
-            push_line(state, line, false);
-            Answer::Yes
-        }
-        Answer::No => {
-            push_line(state, line, true);
-            Answer::No
-        }
-        Answer::Refused(r) => Answer::Refused(r),
+    )
+}
+
+// Takes the last line away. After a no the table is that of the lines before it; else it is made anew.
+fn take_last(state: &mut [i64])
+    requires { ⌜ (isState (now state) ≡ true) × (0 < countIn (now state)) ⌝ }
+    ensures { λ _. ⌜ Taken (now (state .entry)) (now (state .exit)) ⌝ }
+{
+    let head = read_head(state);
+    if head.refused {
+        pop_line(state);
+        return;
     }
+    remake_table(state);
+    pop_line(state);
 }
 
 // Withdraws the last line.
@@ -127,6 +108,6 @@ pub fn withdraw(state: &mut [i64]) -> Validity
     if head.count == 0 {
         return Validity::Refused(Refusal::NoLines);
     }
-    pop_line(state);
+    take_last(state);
     Validity::Valid
 }

@@ -12,7 +12,8 @@ use Rattle.integers.specs.Linear.{ints}
 use Rattle.integers.specs.Laws.{never, and-true, both-true}
 use Rattle.lines.specs.declared.Line.{Line}
 use Rattle.lines.specs.declared.Validity.the-variants.{Valid}
-use Rattle.lines.specs.Line.{lineCount, linesOf, Assignment, Solves, Solvable, isZero, isFalse}
+use Rattle.lines.specs.Limits.{maxConstant}
+use Rattle.lines.specs.Line.{lineCount, linesOf, Assignment, Solves, Solvable, Implies, isZero, isFalse}
 use Rattle.lines.specs.Refusal.{lineValidity, validityOf}
 use Rattle.lines.specs.Valid.{LineWorks, AllOk, line-ok, line-works, workable}
 use Rattle.steps.specs.declared.NamedStep.{NamedStep}
@@ -35,9 +36,9 @@ use Rattle.implied_pair.specs.Pair.{pairIn}
 use Rattle.implied_pair.specs.Reading.{pair-same}
 use Rattle.implied_pair.specs.Meaning.{IsPair, computed-pair}
 use Rattle.implied_line.specs.declared.LineAnswer.the-variants.{Implied, NotImplied}
-use Rattle.implied_line.specs.Opposite.{opposed}
+use Rattle.opposite_line.specs.Opposite.{opposed}
 use Rattle.implied_line.specs.Answer.{judgedBy, judged}
-use Rattle.implied_line.specs.Meaning.{Implies, implied-exactly}
+use Rattle.implied_line.specs.Meaning.{implied-exactly}
 use Rattle.theory_inserting.specs.Two.{EndsBelow}
 use Rattle.session_step.specs.Read.{smallTable, small-agree}
 use Rattle.session_step.specs.Done.{atMost}
@@ -159,7 +160,7 @@ module _ (n : ℕ) (L t : List ℤ) (a : TableFor n (stepsOf (linesOf L)) t) whe
 
     module _ (l : Line) (line-valid : lineValidity n (lineCount L) l ≡ Valid) where
       works : LineWorks n l
-      works = line-works n l (line-ok n (lineCount L) l line-valid)
+      works = line-works maxConstant n l (omega arith) (line-ok n (lineCount L) l line-valid)
 
       -- the line asked is implied exactly if every solution meets it
       pub asked-exactly : (lineImplied (smallTable (2 * n) t) l ≡ true) ↔ Implies (linesOf L) l

@@ -1,7 +1,7 @@
 -- What the tests of a state give, number by number.
 use mathlib.Core.Path.{_≡_, refl, sym, ap, _∙_}
 use mathlib.Core.Bool.{true, _&&_}
-use mathlib.Core.List.{List, [], _∷_}
+use mathlib.Core.List.{List, [], _∷_, _++_}
 use Prim.Native.Nat.{ℕ, zero, suc, _+_, _*_, _^_, _-_, _<_, _≤_}
 use native.Mathlib.Nat.{not-suc-le-zero, le-of-suc-le-suc}
 use native.Mathlib.Numerals.{add-one}
@@ -9,8 +9,8 @@ use native.Mathlib.Omega.{arith}
 use borrow.Author.Tests.{leb-true}
 use lib.Dec.{leb}
 use lib.IntN.{ℤ, pos, negsuc, natAbs}
-use lib.ListN.{length, take, drop, drop-of-length-le, length-drop}
-use lib.Seq.{drop-cons, length-take-le}
+use lib.ListN.{length, take, drop, drop-of-length-le, length-append, length-drop, take-append-drop, List·getD-append}
+use lib.Seq.{drop-cons, length-take-le, getD-take}
 use lib.Signed.{leZ}
 use mir.Syntax.{w32, w64}
 use mir.Val.{SFits}
@@ -19,7 +19,7 @@ use Rattle.integers.specs.Linear.{ints, given, given₂}
 use Rattle.integers.specs.Laws.{and-true, both-true}
 use Rattle.lines.specs.Limits.{lineSize, maxVariables, maxLines}
 use Rattle.lines.specs.Line.{number}
-use Rattle.session_state.specs.State.{headSize, sessionRoom, behind, variablesIn, countIn, numbersIn, headOk, fits32, fitAll, isState}
+use Rattle.session_state.specs.State.{headSize, frontRoom, tableRoom, sessionRoom, behind, variablesIn, countIn, numbersIn, tableIn, headOk, fits32, fitAll, isState, withTable}
 
 -- ---- a number from 0 to m
 pub between-low : (m : ℕ) (z : ℤ) → isBetween (pos 0) (pos m) z ≡ true → pos 0 ⩽ z
@@ -29,13 +29,20 @@ pub between-high : (m : ℕ) (z : ℤ) → isBetween (pos 0) (pos m) z ≡ true 
 between-high m z e = let t = and-true (leZ (pos 0) z) (leZ z (pos m)) e in given₂ (t .0) (t .1) (simp ints (omega arith))
 
 -- ---- the room
--- for n variables, whatever n is, with k lines and the zeros behind them
-pub room-split : (n k : ℕ) → k ≤ maxLines → sessionRoom n ≡ headSize + (lineSize * k + behind k)
-unfolding sessionRoom behind
-room-split n k h = omega arith
+-- before the table, k lines and the zeros behind them
+pub front-split : (k : ℕ) → k ≤ maxLines → frontRoom ≡ headSize + (lineSize * k + behind k)
+unfolding behind
+front-split k h = omega arith
+
+pub room-is : (n : ℕ) → sessionRoom n ≡ frontRoom + tableRoom n
+unfolding sessionRoom
+room-is n = refl
+
+pub room-table : (n : ℕ) → sessionRoom n - frontRoom ≡ tableRoom n
+room-table n = omega (arith, room-is n)
 
 pub room-lines : (n k : ℕ) → k ≤ maxLines → headSize + lineSize * k ≤ sessionRoom n
-room-lines n k h = omega (arith, room-split n k h)
+room-lines n k h = omega (arith, front-split k h, room-is n)
 
 -- ---- the head
 pub record HeadOk (s : List ℤ) : Type 0 where
@@ -118,3 +125,45 @@ fit-past zs i h = ap fitAll (drop-of-length-le zs h)
 -- ---- a number of 64 bits without its sign
 pub abs-fits : (z : ℤ) → SFits w64 z → natAbs z < 2 ^ 64
 abs-fits z h = given h (simp ints (omega arith))
+
+-- ---- numbers with the same head
+pub head-same : (s t : List ℤ) → length t ≡ length s → ((i : ℕ) → i < headSize → number t i ≡ number s i) → headOk t ≡ headOk s
+unfolding headOk
+head-same s t e same = rw (e, same 0 (omega arith), same 1 (omega arith), same 2 (omega arith))
+
+-- and another table
+module _ (n : ℕ) (s u : List ℤ) (room : sessionRoom n ≤ length s) (size : length u ≡ tableRoom n) where
+  pub with-length : length (withTable n s u) ≡ length s
+  with-length =
+      length-append (take frontRoom s) (u ++ drop (sessionRoom n - frontRoom) (drop frontRoom s))
+      ∙ omega (
+        arith,
+        length-take-le frontRoom s (omega (arith, room, room-is n)),
+        length-append u (drop (sessionRoom n - frontRoom) (drop frontRoom s)),
+        length-drop (sessionRoom n - frontRoom) (drop frontRoom s),
+        length-drop frontRoom s,
+        room,
+        room-is n,
+        size,
+      )
+
+  pub with-number : (i : ℕ) → i < frontRoom → number (withTable n s u) i ≡ number s i
+  with-number i h =
+      List·getD-append (take frontRoom s) (u ++ drop (sessionRoom n - frontRoom) (drop frontRoom s)) (pos 0) i (omega (arith, h, length-take-le frontRoom s (omega (arith, room, room-is n))))
+      ∙ getD-take frontRoom s i (pos 0) h
+
+  pub with-head : headOk (withTable n s u) ≡ headOk s
+  with-head = head-same s (withTable n s u) with-length (λ i h. with-number i (omega arith))
+
+  pub with-count : countIn (withTable n s u) ≡ countIn s
+  with-count = ap natAbs (with-number 1 (omega arith))
+
+-- its own table again
+pub with-own : (n : ℕ) (s : List ℤ) → withTable n s (tableIn n s) ≡ s
+with-own n s =
+    ap (λ (x : List ℤ). take frontRoom s ++ x) (take-append-drop (sessionRoom n - frontRoom) (drop frontRoom s))
+    ∙ take-append-drop frontRoom s
+
+pub length-tableIn : (n : ℕ) (s : List ℤ) → sessionRoom n ≤ length s → length (tableIn n s) ≡ tableRoom n
+length-tableIn n s room =
+    length-take-le (sessionRoom n - frontRoom) (drop frontRoom s) (omega (arith, length-drop frontRoom s, room, room-is n)) ∙ room-table n

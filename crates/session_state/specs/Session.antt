@@ -1,5 +1,5 @@
 -- What is read from a session's state, and what it becomes: the state of its n, its lines and its last answer, with any numbers behind it.
-use mathlib.Core.Path.{_≡_, refl, sym, ap, _∙_}
+use mathlib.Core.Path.{_≡_, refl, sym, ap, ap₂, _∙_}
 use mathlib.Core.Bool.{Bool, true, false, not}
 use mathlib.Core.List.{List, [], _∷_, _++_, append-assoc, append-nil}
 use Prim.Native.Nat.{ℕ, suc, _+_, _*_, _-_, _<_, _≤_}
@@ -15,9 +15,11 @@ use Rattle.lines.specs.declared.Line.{Line}
 use Rattle.lines.specs.Limits.{lineSize, maxVariables, maxLines}
 use Rattle.lines.specs.Line.{lineNumbers, numbersOf}
 use Rattle.lines.specs.LineNumbers.{length-numbers, length-numbersOf}
+use Rattle.steps.specs.Step.{stepsOf}
+use Rattle.decide_rows.specs.Table.{table-length}
 use Rattle.longer_list.specs.Written.{putAt}
-use Rattle.session_state.specs.State.{headSize, sessionRoom, flagOf, zeros, behind, stateOf, variablesIn, countIn, refusedIn, numbersIn, headOk, fitAll, isState, lineStart, headed, started, pushed, popped}
-use Rattle.session_state.specs.Laws.{room-split}
+use Rattle.session_state.specs.State.{headSize, frontRoom, tableRoom, sessionRoom, flagOf, zeros, behind, frontOf, kept, tableFor, stateOf, tableIn, variablesIn, countIn, refusedIn, numbersIn, headOk, fitAll, isState, lineStart, headed, started, pushed, popped, withTable}
+use Rattle.session_state.specs.Laws.{front-split, room-is, room-table}
 
 -- ---- the numbers of lines and of one more
 pub numbers-more : (ls : List Line) (l : Line) → numbersOf (ls ++ l ∷ []) ≡ numbersOf ls ++ lineNumbers l
@@ -36,54 +38,54 @@ behind-more k h = let e : lineSize * (maxLines - k) ≡ lineSize + lineSize * (m
 from-zero : (k m : ℕ) → k ≤ m → isBetween (pos 0) (pos m) (pos k) ≡ true
 from-zero k m h = both-true (leb 0 k) (leb k m) (le-leb 0 k (omega arith)) (le-leb k m h)
 
--- ---- a state, from its front
+-- ---- the front of a state, from its lines
 module _ (n : ℕ) (ls : List Line) (r : Bool) where
   -- what stands before the zeros
   abbrev front : List ℤ
   front = pos n ∷ pos (length ls) ∷ flagOf r ∷ numbersOf ls
 
-  length-front : length (pos n ∷ pos (length ls) ∷ flagOf r ∷ numbersOf ls) ≡ lineStart (length ls)
-  length-front = omega (arith, length-numbersOf ls)
+  length-lines : length (pos n ∷ pos (length ls) ∷ flagOf r ∷ numbersOf ls) ≡ lineStart (length ls)
+  length-lines = omega (arith, length-numbersOf ls)
 
-  pub length-state : length ls ≤ maxLines → length (stateOf n ls r) ≡ sessionRoom n
-  unfolding stateOf
-  length-state h =
-      omega (arith, length-append (numbersOf ls) (zeros (behind (length ls))), length-numbersOf ls, length-replicate (behind (length ls)) (pos 0), room-split n (length ls) h)
+  pub length-front : length ls ≤ maxLines → length (frontOf n ls r) ≡ frontRoom
+  unfolding frontOf
+  length-front h =
+      omega (arith, length-append (numbersOf ls) (zeros (behind (length ls))), length-numbersOf ls, length-replicate (behind (length ls)) (pos 0), front-split (length ls) h)
 
-  split : (rest : List ℤ) → stateOf n ls r ++ rest ≡ (pos n ∷ pos (length ls) ∷ flagOf r ∷ numbersOf ls) ++ (zeros (behind (length ls)) ++ rest)
-  unfolding stateOf
+  split : (rest : List ℤ) → frontOf n ls r ++ rest ≡ (pos n ∷ pos (length ls) ∷ flagOf r ∷ numbersOf ls) ++ (zeros (behind (length ls)) ++ rest)
+  unfolding frontOf
   split rest = append-assoc (pos n ∷ pos (length ls) ∷ flagOf r ∷ numbersOf ls) (zeros (behind (length ls))) rest
 
   -- ---- what is read
   module _ (rest : List ℤ) where
-    pub variables-is : variablesIn (stateOf n ls r ++ rest) ≡ n
-    unfolding stateOf
+    pub variables-is : variablesIn (frontOf n ls r ++ rest) ≡ n
+    unfolding frontOf
     variables-is = refl
 
-    pub count-is : countIn (stateOf n ls r ++ rest) ≡ length ls
-    unfolding stateOf
+    pub count-is : countIn (frontOf n ls r ++ rest) ≡ length ls
+    unfolding frontOf
     count-is = refl
 
-    pub refused-is : refusedIn (stateOf n ls r ++ rest) ≡ r
-    unfolding stateOf
+    pub refused-is : refusedIn (frontOf n ls r ++ rest) ≡ r
+    unfolding frontOf
     refused-is = go r
       where
         go : (t : Bool) → not (eqZ (flagOf t) (pos 0)) ≡ t
         go true = refl
         go false = refl
 
-    pub numbers-is : numbersIn (stateOf n ls r ++ rest) ≡ numbersOf ls
+    pub numbers-is : numbersIn (frontOf n ls r ++ rest) ≡ numbersOf ls
     numbers-is =
-        ap (λ (k : ℕ). take (lineSize * k) (drop headSize (stateOf n ls r ++ rest))) count-is
+        ap (λ (k : ℕ). take (lineSize * k) (drop headSize (frontOf n ls r ++ rest))) count-is
         ∙ ap (λ (x : List ℤ). take (lineSize * length ls) (drop headSize x)) (split rest)
         ∙ take-at (numbersOf ls) (zeros (behind (length ls)) ++ rest) (lineSize * length ls) (length-numbersOf ls)
 
-    head-is : n ≤ maxVariables → length ls ≤ maxLines → headOk (stateOf n ls r ++ rest) ≡ true
-    unfolding headOk stateOf
-    head-is few h =
-        let size = length-append (stateOf n ls r) rest in
-        let long : headSize ≤ length (stateOf n ls r ++ rest) = omega (arith, size, length-state h, room-split n (length ls) h) in
-        let whole : sessionRoom n ≤ length (stateOf n ls r ++ rest) = omega (arith, size, length-state h) in
+    head-is : n ≤ maxVariables → length ls ≤ maxLines → tableRoom n ≤ length rest → headOk (frontOf n ls r ++ rest) ≡ true
+    unfolding headOk frontOf
+    head-is few h room =
+        let size = length-append (frontOf n ls r) rest in
+        let long : headSize ≤ length (frontOf n ls r ++ rest) = omega (arith, size, length-front h, front-split (length ls) h) in
+        let whole : sessionRoom n ≤ length (frontOf n ls r ++ rest) = omega (arith, size, length-front h, room-is n, room) in
         both-true _ _ (le-leb _ _ long)
         (both-true _ _ (from-zero n maxVariables few) (both-true _ _ (from-zero (length ls) maxLines h) (both-true _ _ (flag r) (le-leb _ _ whole))))
       where
@@ -91,25 +93,25 @@ module _ (n : ℕ) (ls : List Line) (r : Bool) where
         flag true = refl
         flag false = refl
 
-    pub state-is : n ≤ maxVariables → length ls ≤ maxLines → fitAll (numbersOf ls) ≡ true → isState (stateOf n ls r ++ rest) ≡ true
+    pub state-is : n ≤ maxVariables → length ls ≤ maxLines → tableRoom n ≤ length rest → fitAll (numbersOf ls) ≡ true → isState (frontOf n ls r ++ rest) ≡ true
     unfolding isState
-    state-is few h fit = both-true _ _ (head-is few h) (ap fitAll numbers-is ∙ fit)
+    state-is few h room fit = both-true _ _ (head-is few h room) (ap fitAll numbers-is ∙ fit)
 
 -- ---- what it becomes
 -- n and no lines
-pub started-is : (n : ℕ) (s : List ℤ) → started n s ≡ stateOf n [] false ++ drop (sessionRoom n) s
-unfolding started stateOf numbersOf
+pub started-is : (n : ℕ) (s : List ℤ) → started n s ≡ frontOf n [] false ++ drop frontRoom s
+unfolding started frontOf numbersOf
 started-is n s =
-    let e : sessionRoom n ≡ suc (suc (suc (behind 0))) = omega (arith, room-split n 0 (omega arith)) in
-    ap (λ (k : ℕ). set (zeros k ++ drop (sessionRoom n) s) 0 (pos n)) e
+    let e : frontRoom ≡ suc (suc (suc (behind 0))) = omega (arith, front-split 0 (omega arith)) in
+    ap (λ (k : ℕ). set (zeros k ++ drop frontRoom s) 0 (pos n)) e
 
 -- ys in place of as many numbers zs behind xs
 put-is : (xs zs ys w : List ℤ) (at : ℕ) → length xs ≡ at → length zs ≡ lineSize → putAt at ys (xs ++ (zs ++ w)) ≡ xs ++ (ys ++ w)
 put-is xs zs ys w at e z = rw (take-at xs (zs ++ w) at e, drop-at xs (zs ++ w) at e, drop-at zs w lineSize z)
 
--- a state with one line more, from its front
+-- the front with one line more, from its lines
 one-more : (n : ℕ) (ls : List Line) (l : Line) (q : Bool) (rest : List ℤ)
-    → stateOf n (ls ++ l ∷ []) q ++ rest ≡ (pos n ∷ pos (length ls + 1) ∷ flagOf q ∷ numbersOf ls) ++ (lineNumbers l ++ (zeros (behind (length ls + 1)) ++ rest))
+    → frontOf n (ls ++ l ∷ []) q ++ rest ≡ (pos n ∷ pos (length ls + 1) ∷ flagOf q ∷ numbersOf ls) ++ (lineNumbers l ++ (zeros (behind (length ls + 1)) ++ rest))
 one-more n ls l q rest =
     split n (ls ++ l ∷ []) q rest
     ∙ ap (λ (k : ℕ). pos n ∷ pos k ∷ flagOf q ∷ (numbersOf (ls ++ l ∷ []) ++ (zeros (behind k) ++ rest))) (length-more ls l)
@@ -118,21 +120,21 @@ one-more n ls l q rest =
 
 -- one line more
 pub pushed-is : (n : ℕ) (ls : List Line) (r : Bool) (rest : List ℤ) (l : Line) (q : Bool) → length ls < maxLines
-    → pushed (stateOf n ls r ++ rest) l q ≡ stateOf n (ls ++ l ∷ []) q ++ rest
+    → pushed (frontOf n ls r ++ rest) l q ≡ frontOf n (ls ++ l ∷ []) q ++ rest
 unfolding pushed
 pushed-is n ls r rest l q h =
     let c = length ls in
     let xs = front n ls r in
     let w = zeros (behind (c + 1)) ++ rest in
-    let e : stateOf n ls r ++ rest ≡ xs ++ (zeros lineSize ++ w) =
+    let e : frontOf n ls r ++ rest ≡ xs ++ (zeros lineSize ++ w) =
     split n ls r rest ∙ ap (λ (x : List ℤ). xs ++ x) (ap (λ (x : List ℤ). x ++ rest) (behind-more c h) ∙ append-assoc (zeros lineSize) (zeros (behind (c + 1))) rest) in
     ap (λ (x : List ℤ). headed (countIn x + 1) q (putAt (lineStart (countIn x)) (lineNumbers l) x)) e
-    ∙ ap (headed (c + 1) q) (put-is xs (zeros lineSize) (lineNumbers l) w (lineStart c) (length-front n ls r) (length-replicate lineSize (pos 0)))
+    ∙ ap (headed (c + 1) q) (put-is xs (zeros lineSize) (lineNumbers l) w (lineStart c) (length-lines n ls r) (length-replicate lineSize (pos 0)))
     ∙ sym (one-more n ls l q rest)
 
 -- the last line is taken away
 pub popped-is : (n : ℕ) (ls : List Line) (l : Line) (r : Bool) (rest : List ℤ) → length ls < maxLines
-    → popped (stateOf n (ls ++ l ∷ []) r ++ rest) ≡ stateOf n ls false ++ rest
+    → popped (frontOf n (ls ++ l ∷ []) r ++ rest) ≡ frontOf n ls false ++ rest
 unfolding popped
 popped-is n ls l r rest h =
     let c = length ls in
@@ -146,3 +148,39 @@ popped-is n ls l r rest h =
     ∙ ap (headed c false) (put-is xs (lineNumbers l) (zeros lineSize) w (lineStart c) size (length-numbers l))
     ∙ ap (λ (x : List ℤ). pos n ∷ pos c ∷ pos 0 ∷ (numbersOf ls ++ x)) (sym zs)
     ∙ sym (split n ls false rest)
+
+-- ---- the table behind the front
+-- a front of that length, a table and what lies beyond
+module _ (n : ℕ) (front t rest : List ℤ) (long : length front ≡ frontRoom) (size : length t ≡ tableRoom n) where
+  pub table-is : tableIn n (front ++ (t ++ rest)) ≡ t
+  table-is =
+      ap (take (sessionRoom n - frontRoom)) (drop-at front (t ++ rest) frontRoom long)
+      ∙ take-at t rest (sessionRoom n - frontRoom) (size ∙ sym (room-table n))
+
+  pub with-is : (u : List ℤ) → withTable n (front ++ (t ++ rest)) u ≡ front ++ (u ++ rest)
+  with-is u =
+      let behind-table : drop (sessionRoom n - frontRoom) (drop frontRoom (front ++ (t ++ rest))) ≡ rest =
+      ap (drop (sessionRoom n - frontRoom)) (drop-at front (t ++ rest) frontRoom long) ∙ drop-at t rest (sessionRoom n - frontRoom) (size ∙ sym (room-table n)) in
+      ap₂ (λ (x y : List ℤ). x ++ (u ++ y)) (take-at front (t ++ rest) frontRoom long) behind-table
+
+  pub beyond-is : drop (sessionRoom n) (front ++ (t ++ rest)) ≡ rest
+  beyond-is =
+      let e : length (front ++ t) ≡ sessionRoom n = length-append front t ∙ omega (arith, long, size, room-is n) in
+      ap (drop (sessionRoom n)) (sym (append-assoc front t rest)) ∙ drop-at (front ++ t) rest (sessionRoom n) e
+
+pub table-size : (n : ℕ) (ls : List Line) → length (tableFor n ls) ≡ tableRoom n
+table-size n ls = table-length (stepsOf ls) (2 * n) (2 * n)
+
+-- a state, from its front
+pub state-front : (n : ℕ) (ls : List Line) (r : Bool) (rest : List ℤ) → stateOf n ls r ++ rest ≡ frontOf n ls r ++ (tableFor n (kept ls r) ++ rest)
+unfolding stateOf
+state-front n ls r rest = append-assoc (frontOf n ls r) (tableFor n (kept ls r)) rest
+
+pub length-state : (n : ℕ) (ls : List Line) (r : Bool) → length ls ≤ maxLines → length (stateOf n ls r) ≡ sessionRoom n
+unfolding stateOf
+length-state n ls r h =
+    length-append (frontOf n ls r) (tableFor n (kept ls r)) ∙ omega (arith, length-front n ls r h, table-size n (kept ls r), room-is n)
+
+-- after a no the table is that of the lines before
+pub kept-no : (ls : List Line) (l : Line) → kept (ls ++ l ∷ []) true ≡ ls
+kept-no ls l = take-at ls (l ∷ []) (length (ls ++ l ∷ []) - 1) (omega (arith, length-more ls l))

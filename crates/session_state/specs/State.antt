@@ -9,6 +9,8 @@ use Rattle.integers.specs.Integer.{eqZ, isBetween}
 use Rattle.lines.specs.declared.Line.{Line}
 use Rattle.lines.specs.Limits.{lineSize, maxVariables, maxLines}
 use Rattle.lines.specs.Line.{number, lineNumbers, numbersOf}
+use Rattle.steps.specs.Step.{stepsOf}
+use Rattle.decide_rows.specs.Table.{storedTable}
 use Rattle.longer_list.specs.Written.{putAt}
 use Rattle.session_state.specs.declared.Head.{Head}
 
@@ -17,9 +19,17 @@ use Rattle.session_state.specs.declared.Head.{Head}
 abbrev pub headSize : ℕ
 headSize = 3
 
+-- how many numbers stand before the table
+abbrev pub frontRoom : ℕ
+frontRoom = headSize + lineSize * maxLines
+
+-- how many the table has
+abbrev pub tableRoom : ℕ → ℕ
+tableRoom n = 2 * n * (2 * n)
+
 -- how many numbers a state of n variables has
 unfoldable pub sessionRoom : ℕ → ℕ
-sessionRoom n = headSize + lineSize * maxLines
+sessionRoom n = frontRoom + tableRoom n
 
 -- the number that says whether the last answer was a no
 abbrev pub flagOf : Bool → ℤ
@@ -33,8 +43,20 @@ unfoldable pub behind : ℕ → ℕ
 behind k = lineSize * (maxLines - k)
 
 -- n, how many lines, whether the last answer was a no, the numbers of the lines in order, zeros behind
+unfoldable pub frontOf : ℕ → List Line → Bool → List ℤ
+frontOf n ls refused = pos n ∷ pos (length ls) ∷ flagOf refused ∷ (numbersOf ls ++ zeros (behind (length ls)))
+
+-- the lines whose table is kept: all of them, or after a no those before the last
+abbrev pub kept : List Line → Bool → List Line
+kept ls refused = cond refused (take (length ls - 1) ls) ls
+
+-- the distances of their steps, row v with those to v; no walk as the number that deciding has for it
+abbrev pub tableFor : ℕ → List Line → List ℤ
+tableFor n ls = storedTable (stepsOf ls) (2 * n) (2 * n)
+
+-- the front, and the table behind it
 unfoldable pub stateOf : ℕ → List Line → Bool → List ℤ
-stateOf n ls refused = pos n ∷ pos (length ls) ∷ flagOf refused ∷ (numbersOf ls ++ zeros (behind (length ls)))
+stateOf n ls refused = frontOf n ls refused ++ tableFor n (kept ls refused)
 
 -- ---- any numbers, read as a state
 abbrev pub variablesIn : List ℤ → ℕ
@@ -56,6 +78,10 @@ numbersIn s = take (lineSize * countIn s) (drop headSize s)
 -- and with those of one line more
 abbrev pub numbersWith : List ℤ → Line → List ℤ
 numbersWith s l = numbersIn s ++ lineNumbers l
+
+-- its table
+abbrev pub tableIn : ℕ → List ℤ → List ℤ
+tableIn n s = take (sessionRoom n - frontRoom) (drop frontRoom s)
 
 -- ---- whether they begin with a state, as far as the calls have to know it
 unfoldable pub headOk : List ℤ → Bool
@@ -86,9 +112,9 @@ lineStart k = headSize + lineSize * k
 abbrev pub headed : ℕ → Bool → List ℤ → List ℤ
 headed count refused s = set (set s 1 (pos count)) 2 (flagOf refused)
 
--- n and zeros
+-- n and zeros, before the table
 unfoldable pub started : ℕ → List ℤ → List ℤ
-started n s = set (zeros (sessionRoom n) ++ drop (sessionRoom n) s) 0 (pos n)
+started n s = set (zeros frontRoom ++ drop frontRoom s) 0 (pos n)
 
 -- one line more
 unfoldable pub pushed : List ℤ → Line → Bool → List ℤ
@@ -97,3 +123,7 @@ pushed s l refused = headed (countIn s + 1) refused (putAt (lineStart (countIn s
 -- the last line is taken away
 unfoldable pub popped : List ℤ → List ℤ
 popped s = headed (countIn s - 1) false (putAt (lineStart (countIn s - 1)) (zeros lineSize) s)
+
+-- another table
+abbrev pub withTable : ℕ → List ℤ → List ℤ → List ℤ
+withTable n s t = take frontRoom s ++ (t ++ drop (sessionRoom n - frontRoom) (drop frontRoom s))

@@ -22,6 +22,10 @@ ghost use Rattle.session_state.specs.State.{headSize, sessionRoom, flagO
 
 // The numbers before those of the lines: n, how many lines there are, and whether the last answer was a no.
 const HEAD_SIZE: usize = 3;
+// The place of the state among the buffers that may be too short.
+pub const STATE_PLACE: usize = 6;
+// The numbers before the table: these, and room for the most lines.
+pub const FRONT_ROOM: usize = HEAD_SIZE + LINE_SIZE * MAX_LINES;
 // The least and the greatest number of 32 bits.
 const LEAST: i64 = i32::MIN as i64;
 
@@ -34,11 +38,12 @@ pub struct Head {
     pub refused: bool,
 }
 
-// The room for a state of n variables.
+// The room for a state of n variables: behind the lines stands the table, a number for each two points.
 pub fn session_room(n: usize) -> usize
+    requires { ⌜ n ≤ maxVariables ⌝ }
     ensures { λ r. ⌜ r ≡ sessionRoom n ⌝ }
 {
-    HEAD_SIZE + LINE_SIZE * MAX_LINES
+    FRONT_ROOM + 2 * n * (2 * n)
 }
 
 // A number that is not below 0.
@@ -50,7 +55,7 @@ fn unsigned(z: i64) -> usize
 }
 
 // Whether n, the count of lines and the last answer are right, and the state has its room.
-fn head_ok(state: &[i64]) -> bool
+pub fn head_ok(state: &[i64]) -> bool
     ensures { λ r. ⌜ r ≡ headOk (now (state .entry)) ⌝ }
 {
     if state.len() < HEAD_SIZE {
@@ -119,7 +124,7 @@ fn narrow_to(numbers: &[i64], list: &mut [i32])
 }
 
 // Copies the numbers of the lines of a state to the front of a list.
-fn copy_lines(state: &[i64], list: &mut [i32])
+pub fn copy_lines(state: &[i64], list: &mut [i32])
     requires { ⌜ (isState (now state) ≡ true) × (lineSize * maxLines ≤ length (now list)) ⌝ }
     ensures { λ _. ⌜ now (list .exit) ≡ numbersIn (now (state .entry)) ++ drop (lineSize * countIn (now (state .entry))) (now (list .entry)) ⌝ }
 {
@@ -176,18 +181,18 @@ fn set_head(state: &mut [i64], count: usize, refused: bool)
     state[2] = flag_of(refused);
 }
 
-// Writes the state of n variables and no lines.
+// Writes n, and that there are no lines. The table is left as it was.
 pub fn begin_state(state: &mut [i64], n: usize)
     requires { ⌜ (n ≤ maxVariables) × (sessionRoom n ≤ length (now state)) ⌝ }
     ensures { λ _. ⌜ now (state .exit) ≡ started n (now (state .entry)) ⌝ }
 {
-    clear(state, session_room(n));
+    clear(state, FRONT_ROOM);
     state[0] = n as i64;
 }
 
 // Writes one line more, and whether the last answer was a no.
 pub fn push_line(state: &mut [i64], line: Line, refused: bool)
-    requires { ⌜ (isState (now state) ≡ true) × (countIn (now state) < maxLines) ⌝ }
+    requires { ⌜ (headOk (now state) ≡ true) × (countIn (now state) < maxLines) ⌝ }
     ensures { λ _. ⌜ now (state .exit) ≡ pushed (now (state .entry)) line refused ⌝ }
 {
     let head = read_head(state);
@@ -199,7 +204,7 @@ pub fn push_line(state: &mut [i64], line: Line, refused: bool)
 
 // Takes the last line away: zeros where it stood, and the last answer was no no.
 pub fn pop_line(state: &mut [i64])
-    requires { ⌜ (isState (now state) ≡ true) × (0 < countIn (now state)) ⌝ }
+    requires { ⌜ (headOk (now state) ≡ true) × (0 < countIn (now state)) ⌝ }
     ensures { λ _. ⌜ now (state .exit) ≡ popped (now (state .entry)) ⌝ }
 {
     let head = read_head(state);

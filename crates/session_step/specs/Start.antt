@@ -24,7 +24,7 @@ use Rattle.session_step.specs.Written.{written, written-length, written-
 use Rattle.session_step.specs.Meaning.{TableFor}
 
 -- ---- a list with the entries of a table is that table, written
-positive : (N i : ℕ) → i < N * N → 0 < N
+pub positive : (N i : ℕ) → i < N * N → 0 < N
 positive N i h = go (decLt 0 N)
   where
     go : Dec (0 < N) → 0 < N

@@ -24,7 +24,7 @@ ghost use Rattle.session_step.specs.Done.{along, implied, sumsAfter, Ins
 const MAX_DISTANCE: i64 = 2 * MAX_VARIABLES as i64 * (2 * WORK_CONSTANT);
 
 // A number of the table as it is read.
-fn read(entry: i64) -> i64
+pub fn read(entry: i64) -> i64
     ensures { λ r. ⌜ r ≡ stored (smallOf entry) ⌝ }
 {
     if between(-MAX_DISTANCE, MAX_DISTANCE, entry) {

@@ -6,3 +6,4 @@ pub mod Laws
 pub mod Meaning
 pub mod Walk
 pub mod Mirror
+pub mod Zero

@@ -18,10 +18,10 @@ use Rattle.integers.specs.Laws.{test-yes, test-no}
 use Rattle.integers.specs.Sequence.{tabulate}
 use Rattle.lines.specs.declared.Line.{Line}
 use Rattle.lines.specs.declared.Validity.the-variants.{Valid}
-use Rattle.lines.specs.Limits.{maxConstant, workConstant}
+use Rattle.lines.specs.Limits.{maxConstant}
 use Rattle.lines.specs.Line.{lineAt, lineCount, linesOf, Assignment, Solves}
 use Rattle.lines.specs.Refusal.{validityOf}
-use Rattle.lines.specs.Valid.{AllOk, line-ok, valid-list}
+use Rattle.lines.specs.Valid.{WorkableWithin, AllOk, line-ok, valid-list}
 use Rattle.steps.specs.Point.{signed}
 use Rattle.theory_answers.specs.Semantics.{Agrees, IsModel, sumOf, IsGreatest, IsLeast}
 use Rattle.theory_answers.specs.Moved.{AllAbove, AllBelow, inward-near, inward-far, outward-far, outward-least, drawnIn, drawnOut, solves-inward, solves-outward}
@@ -40,16 +40,16 @@ within-below : (M : ℕ) (ls : List Line) → AllWithin M ls → AllBelow M ls
 within-below M [] w = tt
 within-below M (l ∷ ls) w = (w .0 .high, within-below M ls (w .1))
 
-pub all-above : (n : ℕ) (ls : List Line) → AllOk n ls → AllAbove workConstant ls
-all-above n [] ok = tt
-all-above n (l ∷ ls) ok = (ok .0 .constant .low, all-above n ls (ok .1))
+-- from what holds of each line
+each-within : (M c : ℕ) (f : ℕ → Line) → ((k : ℕ) → k < c → Within M (f k .d)) → AllWithin M (tabulate c f)
+each-within M zero f h = tt
+each-within M (suc c) f h = (h 0 (omega arith), each-within M c (λ k. f (suc k)) (λ k l. h (suc k) (omega arith)))
+
+pub works-above : (M n : ℕ) (L : List ℤ) → WorkableWithin M n L → AllAbove M (linesOf L)
+works-above M n L o = within-above M (linesOf L) (each-within M (lineCount L) (lineAt L) (λ k h. o .lines k h .constant))
 
 pub valid-within : (n : ℕ) (L : List ℤ) → validityOf n L ≡ Valid → AllWithin maxConstant (linesOf L)
-valid-within n L v = go (lineCount L) (lineAt L) (λ k h. line-ok n k (lineAt L k) (valid-list n L v .each k h) .constant)
-  where
-    go : (c : ℕ) (f : ℕ → Line) → ((k : ℕ) → k < c → Within maxConstant (f k .d)) → AllWithin maxConstant (tabulate c f)
-    go zero f h = tt
-    go (suc c) f h = (h 0 (omega arith), go c (λ k. f (suc k)) (λ k l. h (suc k) (omega arith)))
+valid-within n L v = each-within maxConstant (lineCount L) (lineAt L) (λ k h. line-ok n k (lineAt L k) (valid-list n L v .each k h) .constant)
 
 pub valid-above : (n : ℕ) (L : List ℤ) → validityOf n L ≡ Valid → AllAbove maxConstant (linesOf L)
 valid-above n L v = within-above maxConstant (linesOf L) (valid-within n L v)

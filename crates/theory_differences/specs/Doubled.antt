@@ -44,8 +44,11 @@ plainLimit row s (j ∷ js) = minD (plainLimit row s js) (row j ⊞ some (s j))
 abbrev pub limitRow : Bool → Table → ℕ → ℕ → Distance
 limitRow upper D k j = cond upper (D k j) (D j k)
 
+abbrev pub turned : Bool → ℤ → ℤ
+turned upper v = cond upper v (negℤ v)
+
 abbrev pub limitValue : Bool → Assignment → Assignment
-limitValue upper s j = cond upper (s j) (negℤ (s j))
+limitValue upper s j = turned upper (s j)
 
 abbrev pub limitBy : Bool → Table → Assignment → ℕ → Distance
 limitBy upper D s k = plainLimit (limitRow upper D k) (limitValue upper s) (below k)

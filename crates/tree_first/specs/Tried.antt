@@ -12,7 +12,7 @@ use Rattle.lines.specs.declared.Validity.the-variants.{Valid}
 use Rattle.lines.specs.Limits.{maxVariables}
 use Rattle.lines.specs.Line.{lineCount, linesOf}
 use Rattle.lines.specs.Refusal.{validityOf}
-use Rattle.lines.specs.Valid.{valid-list, workable}
+use Rattle.lines.specs.Valid.{valid-list, workable, modellable}
 use Rattle.theory_bounds.specs.Answers.{modelOf}
 use Rattle.decide_buffers.specs.Room.{modelRoom, refutationRoom}
 use Rattle.decide.specs.Searched.{usedRoom}
@@ -85,6 +85,7 @@ module _ (n : ℕ) (L : List ℤ) (s : List ℕ) (total : ℕ) (model work : Lis
                 room = omega (arith, length-replicate {A = ℕ} (refutationRoom maxVariables) 0, valid-list n L (a .list) .variables);
                 work-room = a .work-room;
               };
+          modellable = modellable n (choiceList L tree k) (choice-valid n L tree k (a .list));
           room = a .model-room;
         }
 

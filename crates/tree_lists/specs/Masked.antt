@@ -1,25 +1,23 @@
 -- The list of a choice: each line that is not picked is replaced by 0 ≤ 0. It is as long, as valid, and its solutions are those of the lines that are picked.
-use mathlib.Core.Path.{_≡_, refl, sym, ap, ap₂, subst, _∙_}
+use mathlib.Core.Path.{_≡_, refl, sym, ap, subst, _∙_}
 use mathlib.Core.Bool.{Bool, true, false, cond}
 use mathlib.Core.List.{List, [], _∷_, _++_}
 use Prim.Native.Nat.{ℕ, _+_, _*_, _/_, _%_, _<_, _≤_}
 use native.Mathlib.Omega.{arith}
 use borrow.Author.Tests.{le-ltb, lt-ltb}
 use lib.Dec.{eqb, ltb}
-use lib.IntN.{ℤ, pos, _+ℤ_, zero-*ℤ}
-use lib.ListN.{length, getD, set, drop, replicate, length-replicate, getD-replicate}
-use lib.Seq.{getD-take, take-all}
-use Rattle.integers.specs.Integer.{_⩽_}
-use Rattle.integers.specs.Linear.{ints}
-use Rattle.integers.specs.Sequence.{tabulate, length-tabulate, getD-tabulate, tabulate-add, tabulate-cong, tabulate-getD, grow}
+use lib.IntN.{ℤ, pos}
+use lib.ListN.{length, getD, set, drop}
+use Rattle.integers.specs.Sequence.{tabulate, length-tabulate, getD-tabulate, tabulate-add, grow}
 use Rattle.lines.specs.declared.Line.{Line}
 use Rattle.lines.specs.declared.Validity.the-variants.{Valid}
 use Rattle.lines.specs.Limits.{lineSize, maxLines}
-use Rattle.lines.specs.Line.{number, lineNumbers, lineOf, lineAt, lineCount, linesOf, Assignment, leftSide, Meets, Solves}
-use Rattle.lines.specs.LineNumbers.{length-numbers, line-of-numbers, numbers-of-line, number-at}
-use Rattle.lines.specs.Refusal.{lineTests, lineValidity, validityOf}
+use Rattle.lines.specs.Line.{number, lineNumbers, lineAt, lineCount, linesOf, Assignment, Meets, Solves}
+use Rattle.lines.specs.LineNumbers.{number-at}
+use Rattle.lines.specs.Refusal.{lineValidity, validityOf}
 use Rattle.lines.specs.Solutions.{tabulate-solves, solves-at}
 use Rattle.lines.specs.Valid.{valid-list, list-valid, lines-valid, line-valid-more}
+use Rattle.lines.specs.Zero.{zeroLine, zero-number, zero-met, zero-valid, same-line}
 
 -- a line is picked if its flag is 1
 abbrev pub isPicked : List ℕ → ℕ → Bool
@@ -49,36 +47,6 @@ pub mask-more : (f : ℕ → ℤ) (j : ℕ) (d : List ℤ) → j < length d → 
 mask-more f j d h =
     grow (tabulate j f) j (f j) (pos 0) d (length-tabulate j f) h
     ∙ ap (λ (l : List ℤ). l ++ drop (j + 1) d) (sym (tabulate-add j 1 f ∙ ap (λ (i : ℕ). tabulate j f ++ f i ∷ []) (omega arith)))
-
--- ---- 0 ≤ 0
-abbrev pub zeroLine : Line
-zeroLine = lineOf (replicate lineSize (pos 0))
-
-zero-number : (i : ℕ) → i < lineSize → number (lineNumbers zeroLine) i ≡ pos 0
-zero-number i h =
-    let zeros : List ℤ = replicate lineSize (pos 0) in
-    ap (λ (N : List ℤ). number N i) (numbers-of-line zeros (omega (arith, length-replicate {A = ℤ} lineSize (pos 0))))
-    ∙ getD-take lineSize zeros i (pos 0) h
-    ∙ getD-replicate lineSize i (pos 0) (pos 0) h
-
-pub zero-met : (s : Assignment) → Meets s zeroLine
-unfolding leftSide
-zero-met s = subst (λ (z : ℤ). z ⩽ pos 0) (sym (ap₂ (λ (p q : ℤ). p +ℤ q) (zero-*ℤ (s 0)) (zero-*ℤ (s 0)))) (simp ints (omega arith))
-
-pub zero-valid : (n k : ℕ) → lineValidity n k zeroLine ≡ Valid
-unfolding lineTests
-zero-valid n k = refl
-
--- ---- a line is its numbers
-all-numbers : (l : Line) → lineNumbers l ≡ tabulate lineSize (number (lineNumbers l))
-all-numbers l =
-    let size = length-numbers l in
-    sym (tabulate-getD lineSize (lineNumbers l) (pos 0) (omega (arith, size)) ∙ take-all lineSize (lineNumbers l) (omega (arith, size)))
-
-same-line : (l m : Line) → ((i : ℕ) → i < lineSize → number (lineNumbers l) i ≡ number (lineNumbers m) i) → l ≡ m
-same-line l m e =
-    let numbers : lineNumbers l ≡ lineNumbers m = all-numbers l ∙ tabulate-cong lineSize _ _ e ∙ sym (all-numbers m) in
-    sym (line-of-numbers l []) ∙ ap (λ (N : List ℤ). lineOf (N ++ [])) numbers ∙ line-of-numbers m []
 
 -- ---- line by line
 module _ (flags : List ℕ) (L : List ℤ) where

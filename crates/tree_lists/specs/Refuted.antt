@@ -6,7 +6,7 @@ use mathlib.Core.Path.{_≡_, refl, sym, ap, subst, _∙_}
 use mathlib.Core.Logic.{_↔_}
 use mathlib.Core.Bool.{Bool, true, false, cond}
 use mathlib.Core.List.{List}
-use Prim.Native.Nat.{ℕ, zero, suc, _*_, _/_, _%_, _<_}
+use Prim.Native.Nat.{ℕ, _*_, _/_, _%_, _<_}
 use native.Mathlib.Omega.{arith}
 use borrow.Author.Tests.{ltb-true}
 use lib.Dec.{ltb}
@@ -16,12 +16,13 @@ use Rattle.lines.specs.declared.Line.{Line}
 use Rattle.lines.specs.declared.Validity.the-variants.{Valid}
 use Rattle.lines.specs.Line.{lineAt, lineCount, isFalse}
 use Rattle.lines.specs.Refusal.{validityOf}
+use Rattle.lines.specs.Zero.{zeroLine}
 use Rattle.steps.specs.declared.Step.{Step}
 use Rattle.steps.specs.declared.NamedStep.{NamedStep}
 use Rattle.steps.specs.declared.NamedStep.the-variants.{Found, Nothing}
-use Rattle.steps.specs.Table.{entry, digit}
 use Rattle.steps.specs.Step.{stepOf, stepNumbered}
 use Rattle.steps.specs.Laws.{from-line}
+use Rattle.steps.specs.Zero.{zero-no-step, zero-not-false}
 use Rattle.check_answers.specs.declared.CheckAnswer.the-variants.{Yes}
 use Rattle.check_refutation.specs.Progress.{accepts}
 use Rattle.check_refutation.specs.Answer.{refutationAnswer}
@@ -29,18 +30,7 @@ use Rattle.check_soundness.specs.Refutes.{FalseStep, Refutes}
 use Rattle.check_soundness.specs.Meaning.{accepts-exactly}
 use Rattle.check_soundness.specs.Carried.{EachStep, refutes-carried, refutes-each}
 use Rattle.check_soundness.specs.Answered.{answered-yes}
-use Rattle.tree_lists.specs.Masked.{isPicked, masked, zeroLine, same-count, line-masked, line-picked, line-unpicked, masked-valid}
-
--- 0 ≤ 0 has no step, and is no false line
-zero-no-step : (side : ℕ) → side < 2 → stepOf zeroLine side ≡ Nothing
-unfolding stepOf entry digit
-zero-no-step zero h = refl
-zero-no-step (suc zero) h = refl
-zero-no-step (suc (suc side)) h = absurd (omega arith)
-
-zero-not-false : isFalse zeroLine ≡ false
-unfolding isFalse
-zero-not-false = refl
+use Rattle.tree_lists.specs.Masked.{isPicked, masked, same-count, line-masked, line-picked, line-unpicked, masked-valid}
 
 module _ (flags : List ℕ) (L : List ℤ) where
   -- the step number is of a line that is picked

@@ -6,20 +6,20 @@ use native.Mathlib.Omega.{arith}
 use borrow.Author.Needs.{needs}
 use denote.Ref.{now}
 use Rattle.theory_bounds.specs.Answers.{samePoints}
-use Rattle.decide_stored_table.specs.Table.{tableOf}
+use Rattle.decide_stored_table.specs.Table.{byRows}
 use Rattle.integers.specs.Lowest.{Searched, searched-none, searched-more, searched-found, searched-all}
 use Rattle.decide_bounds_groups.proofs.group_point.Statement.{statement}
 use Rattle.decide_bounds_groups.proofs.group_point.Tie as tie
 
 abbrev Inv-loop : tie.InvT-loop
-Inv-loop table n bounds x own p₀ p = (p ≤ own) × Searched (samePoints (tableOf (2 * n) table) (2 * x)) (2 * x) p
+Inv-loop table n bounds x own p₀ p = (p ≤ own) × Searched (samePoints (byRows (2 * n) table) (2 * x)) (2 * x) p
 
 abbrev μ-loop : tie.MeasureT-loop
 μ-loop table n bounds x own p₀ p = own - p
 
 -- the test of a point
 abbrev isSame : tie.Start Inv-loop μ-loop → ℕ → Bool
-isSame s = samePoints (tableOf (2 * s .args .n) (now (s .args .table))) (2 * s .args .x)
+isSame s = samePoints (byRows (2 * s .args .n) (now (s .args .table))) (2 * s .args .x)
 
 loop-holds : tie.Need-loop-holds Inv-loop μ-loop
 loop-holds c = (omega arith, searched-none (isSame c) (2 * c .args .x))

@@ -8,7 +8,7 @@ use denote.Ref.{now}
 use lib.ListN.{length, set, length-set}
 use Rattle.theory_bounds.specs.Tight.{Table}
 use Rattle.theory_bounds.specs.Answers.{samePoints, groupAt}
-use Rattle.decide_stored_table.specs.Table.{tableOf}
+use Rattle.decide_stored_table.specs.Table.{byRows}
 use Rattle.integers.specs.Fill.{filled, filled-none}
 use Rattle.integers.specs.Lowest.{lowest-at-most}
 use Rattle.decide_bounds_groups.specs.Grouping.{pair-filled}
@@ -16,13 +16,13 @@ use Rattle.decide_bounds_groups.proofs.write_groups.Statement.{statemen
 use Rattle.decide_bounds_groups.proofs.write_groups.Tie as tie
 
 abbrev Inv-loop : tie.InvT-loop
-Inv-loop table n bounds groups₀ x₀ groups x = (x ≤ n) × (length groups ≡ length groups₀) × (groups ≡ filled (groupAt (tableOf (2 * n) table)) groups₀ (2 * x))
+Inv-loop table n bounds groups₀ x₀ groups x = (x ≤ n) × (length groups ≡ length groups₀) × (groups ≡ filled (groupAt (byRows (2 * n) table)) groups₀ (2 * x))
 
 abbrev μ-loop : tie.MeasureT-loop
 μ-loop table n bounds groups₀ x₀ groups x = n - x
 
 abbrev D : tie.Start Inv-loop μ-loop → Table
-D s = tableOf (2 * s .args .n) (now (s .args .table))
+D s = byRows (2 * s .args .n) (now (s .args .table))
 
 loop-holds : tie.Need-loop-holds Inv-loop μ-loop
 loop-holds c = (omega arith, refl, filled-none (groupAt (D (c .before))) (now (c .before .args .groups)))

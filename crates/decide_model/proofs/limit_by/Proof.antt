@@ -1,6 +1,7 @@
 -- `decide_model::limit_by` meets its contract.
 use mathlib.Core.Path.{_≡_, ap, _∙_}
 use Prim.Native.Nat.{_*_}
+use native.Mathlib.Omega.{arith}
 use borrow.Author.Needs.{needs}
 use denote.Ref.{now}
 use lib.IntN.{ℤ}
@@ -8,10 +9,10 @@ use mir.Syntax.{w64}
 use mir.Val.{toZ, ofZ}
 use mir.Facts.{toZ-ofZ}
 use Rattle.integers.specs.Bits.{kept}
-use Rattle.theory_walks.specs.Distance.{_⊞_}
+use Rattle.theory_walks.specs.Distance.{Distance, _⊞_}
 use Rattle.decide_rows.specs.Stored.{stored}
-use Rattle.decide_rows.specs.Read.{distanceOf}
-use Rattle.decide_stored_table.specs.Table.{tableOf}
+use Rattle.decide_rows.specs.Read.{distanceOf, Short, maxDistance}
+use Rattle.decide_stored_table.specs.Table.{byRows, rows-short}
 use Rattle.decide_model.specs.Limit.{value-short, entry-short, sum-back}
 use Rattle.decide_model.proofs.limit_by.Statement.{statement}
 use Rattle.decide_model.proofs.limit_by.Tie as tie
@@ -27,13 +28,19 @@ module _ (c : tie.After-mirrored-at) where
   abbrev entry : ℤ
   entry = toZ w64 (ofZ w64 (c .mirrored-at .result))
 
-  is : entry ≡ stored (tableOf (2 * s .args .n) (now (s .args .table)) (s .args .p) (s .args .q))
+  abbrev distance : Distance
+  distance = byRows (2 * s .args .n) (now (s .args .table)) (s .args .p) (s .args .q)
+
+  short : Short maxDistance distance
+  short = rows-short (s .args .n) (now (s .args .table)) (s .pre .0) (s .args .p) (s .args .q) (s .pre .1) (omega (arith, s .pre .1, s .pre .2))
+
+  is : entry ≡ stored distance
   is = kept w64 (c .mirrored-at .result) (c .mirrored-at .ok) ∙ c .mirrored-at .ensures
 
 sum-requires : tie.Need-sum-requires
 sum-requires c κs =
     let r = s c in
-    (entry-short (r .args .n) (now (r .args .table)) (r .pre .0 .table) (r .args .p) (r .args .q) (r .pre .1) (r .pre .2) (entry c) (is c), rw (toZ-ofZ (r .fits .value)) (value-short (r .args .value) (r .pre .3)))
+    (entry-short (distance c) (short c) (entry c) (is c), rw (toZ-ofZ (r .fits .value)) (value-short (r .args .value) (r .pre .3)))
 
 returns : tie.Need-returns
 returns c =
@@ -42,7 +49,7 @@ returns c =
     kept w64 (c .sum .result) (c .sum .ok)
     ∙ c .sum .ensures
     ∙ ap (λ (z : ℤ). stored (distanceOf (entry a) ⊞ distanceOf z)) (toZ-ofZ (r .fits .value))
-    ∙ sum-back (r .args .n) (now (r .args .table)) (r .pre .0 .table) (r .args .p) (r .args .q) (r .pre .1) (r .pre .2) (entry a) (is a) (r .args .value) (r .pre .3)
+    ∙ sum-back (distance a) (short a) (entry a) (is a) (r .args .value) (r .pre .3)
 
 pub limit-by-spec : {M : Type 1} → statement M
 limit-by-spec = tie.close (tie.spec mirrored-at-requires sum-requires returns)

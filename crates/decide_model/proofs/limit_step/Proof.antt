@@ -15,7 +15,7 @@ use Rattle.theory_walks.specs.Size.{within-more}
 use Rattle.decide_rows.specs.Stored.{stored}
 use Rattle.decide_rows.specs.Read.{distanceOf}
 use Rattle.decide_stored_table.specs.Sum.{minus-is}
-use Rattle.decide_stored_table.specs.Table.{tableOf}
+use Rattle.decide_stored_table.specs.Table.{byRows, rows-short}
 use Rattle.decide_model.specs.Limit.{maxModel, byValue, plus-point, minus-fits, minus-within, step-back}
 use Rattle.decide_model.proofs.limit_step.Statement.{statement}
 use Rattle.decide_model.proofs.limit_step.Tie as tie
@@ -53,13 +53,13 @@ returns c =
     let m = b .before in
     let a = m .before in
     let s = a .before in
-    let D = tableOf (2 * s .args .n) (now (s .args .table)) in
+    let D = byRows (2 * s .args .n) (now (s .args .table)) in
     let plus : toZ w64 (ofZ w64 (a .limit-by .result)) ≡ stored (D (s .args .p) (point (s .args .x) 0) ⊞ some (v s)) =
     kept w64 (a .limit-by .result) (a .limit-by .ok) ∙ a .limit-by .ensures ∙ ap₂ (λ (q : ℕ) (z : ℤ). stored (D (s .args .p) q ⊞ some z)) (plus-point (s .args .x)) (value-is s) in
     let minus : toZ w64 (ofZ w64 (m .limit-by2 .result)) ≡ stored (D (s .args .p) (point (s .args .x) 1) ⊞ some (negℤ (v s))) =
     kept w64 (m .limit-by2 .result) (m .limit-by2 .ok) ∙ m .limit-by2 .ensures ∙ ap (λ (z : ℤ). stored (D (s .args .p) (point (s .args .x) 1) ⊞ some z)) (opposite-is s) in
     let less : distanceOf (toZ w64 (ofZ w64 (b .smaller .result))) ≡ byValue D (s .args .p) (s .args .x) (v s) =
-    step-back (s .args .n) (now (s .args .table)) (s .pre .0 .table) (s .args .p) (s .args .x) (s .pre .1) (s .pre .2) (v s) (s .pre .3) _ _ _ plus minus
+    step-back (s .args .n) D (rows-short (s .args .n) (now (s .args .table)) (s .pre .0)) (s .args .p) (s .args .x) (s .pre .1) (omega (arith, s .pre .1, s .pre .2)) (v s) (s .pre .3) _ _ _ plus minus
     (kept w64 (b .smaller .result) (b .smaller .ok) ∙ b .smaller .ensures) in
     kept w64 (c .smaller2 .result) (c .smaller2 .ok) ∙ c .smaller2 .ensures
     ∙ ap₂ (λ (z : ℤ) (d : Distance). stored (minD (distanceOf z) d)) (toZ-ofZ (s .fits .limit)) less

@@ -1,8 +1,12 @@
 -- `decide_yes::write_answers` meets its contract: the groups are found by the bounds that were written just before.
+use mathlib.Core.Path.{ap, _∙_}
+use mathlib.Core.List.{List, _++_}
+use Prim.Native.Nat.{ℕ, _*_}
 use borrow.Author.Needs.{needs}
 use denote.Ref.{now}
+use lib.ListN.{drop}
 use Rattle.decide_stored_table.specs.Table.{mirrored-table}
-use Rattle.decide_bounds_groups.specs.Grouping.{groups-ready}
+use Rattle.decide_bounds_groups.specs.Grouping.{groups-ready, groups-are}
 use Rattle.decide_yes.proofs.write_answers.Statement.{statement}
 use Rattle.decide_yes.proofs.write_answers.Tie as tie
 
@@ -16,10 +20,14 @@ write-groups-requires : tie.Need-write-groups-requires
 write-groups-requires c κs =
     let b = c .before .before .before in
     let s = b .before .before .before .before .before .before in
-    (groups-ready (s .args .n) (now (s .args .table)) _ _ (mirrored-table (s .args .n) (now (s .args .table)) (s .pre .table) (s .pre .closed)) (b .write-bounds .ensures), s .pre .groups-room)
+    (groups-ready (s .args .n) (now (s .args .table)) _ _ (s .pre .table) (b .write-bounds .ensures), s .pre .groups-room)
 
 returns : tie.Need-returns
-returns c = search needs
+returns c =
+    let g = c .before .before in
+    let s = g .before .before .before .before .before .before .before .before .before .before in
+    let e = groups-are (s .args .n) (now (s .args .table)) (mirrored-table (s .args .n) (now (s .args .table)) (s .pre .table) (s .pre .closed)) in
+    (search needs, search needs, g .write-groups .ensures ∙ ap (λ (x : List ℕ). x ++ drop (2 * s .args .n) (now (s .args .groups))) e)
 
 pub write-answers-spec : {M : Type 1} → statement M
 write-answers-spec =

@@ -12,7 +12,7 @@ use Rattle.lines.specs.Limits.{lineSize}
 use Rattle.lines.specs.Line.{lineNumbers}
 use Rattle.lines.specs.LineNumbers.{length-numbers}
 use Rattle.longer_list.specs.Written.{mostNumbers, front-is}
-use Rattle.implied_line.specs.Opposite.{opposed}
+use Rattle.opposite_line.specs.Opposite.{opposed}
 use Rattle.implied_line.specs.Judged.{search-ready, line-small, long, unsolvable, model-asked, implied, not-implied}
 use Rattle.implied_line.proofs.judged_line.Statement.{statement}
 use Rattle.implied_line.proofs.judged_line.Tie as tie

@@ -1,23 +1,28 @@
 -- `session::withdraw` meets its contract: each way out has the tests that led there.
 use mathlib.Core.Path.{_≡_, refl, sym, ap, _∙_}
 use mathlib.Core.Bool.{true, false}
-use mathlib.Core.List.{List}
+use mathlib.Core.List.{List, []}
 use Prim.Native.Nat.{ℕ, _<_}
 use native.Mathlib.Omega.{arith}
 use borrow.Author.Needs.{needs}
 use borrow.Author.Tests.{not-true, not-false, eq-eqb, ne-eqb}
 use lib.Dec.{eqb}
 use lib.IntN.{ℤ}
+use Rattle.integers.specs.Laws.{never}
 use Rattle.session_state.specs.declared.Head.{Head}
 use Rattle.session_state.specs.State.{countIn, isState}
 use Rattle.session_state.specs.Laws.{state-head-ok}
-use Rattle.session.specs.Promise.{withdrawAnswer}
+use Rattle.session_state.specs.Session.{length-more}
+use Rattle.session_promise.specs.Promise.{withdrawAnswer}
+use Rattle.session_promise.specs.Standing.{count, is-state}
 use Rattle.session.proofs.withdraw.Statement.{statement}
 use Rattle.session.proofs.withdraw.Tie as tie
 
 returns : tie.Need-returns
 unfolding withdrawAnswer
-returns c = record { is = rw (sym (c .before .is-state .ensures) ∙ not-true (c .before .is-state .result) (c .if1 .taken)); state = refl }
+returns c =
+    let none : isState (c .before .before .before .args .state .now) ≡ false = sym (c .before .is-state .ensures) ∙ not-true (c .before .is-state .result) (c .if1 .taken) in
+    record { is = rw none; table = []; size = λ v. never (cc); state = refl; learned = λ n ls l refused k. let clash : true ≡ false = sym (is-state k) ∙ none in never (cc) }
 
 -- the numbers are a state
 module _ (e : tie.Else1) where
@@ -37,7 +42,14 @@ returns-2 : tie.Need-returns-2
 unfolding withdrawAnswer
 returns-2 c =
     let r = c .before .before in
-    record { is = rw (is (r .before .before), eq-eqb (countIn (state r)) 0 (sym (count-is r) ∙ c .if2 .taken)); state = refl }
+    let zero : countIn (state r) ≡ 0 = sym (count-is r) ∙ c .if2 .taken in
+    record {
+      is = rw (is (r .before .before), eq-eqb (countIn (state r)) 0 zero);
+      table = [];
+      size = λ v. never (cc);
+      state = refl;
+      learned = λ n ls l refused k. absurd (omega (arith, zero, count k, length-more ls l));
+    }
 
 -- there is a line
 some : (e : tie.Else2) → 0 < countIn (state (e .before .before))
@@ -46,8 +58,8 @@ some e = let q = e .if2 .left in omega (arith, count-is (e .before .before), q)
 lt-zero : (k : ℕ) → 0 < k → eqb k 0 ≡ false
 lt-zero k h = ne-eqb k 0 (λ q. absurd (omega arith))
 
-pop-line-requires : tie.Need-pop-line-requires
-pop-line-requires c κs =
+take-last-requires : tie.Need-take-last-requires
+take-last-requires c κs =
     let r = c .before .before .before in
     (is (r .before .before), some (c .before))
 
@@ -57,7 +69,8 @@ returns-3 c =
     let p = c .before in
     let e = p .before .before in
     let r = e .before .before in
-    record { is = rw (is (r .before .before), lt-zero (countIn (state r)) (some e)); state = p .pop-line .ensures }
+    let taken = p .take-last .ensures in
+    record { is = rw (is (r .before .before), lt-zero (countIn (state r)) (some e)); table = taken .table; size = λ v. taken .size; state = taken .state; learned = taken .learned }
 
 same-length : tie.Need-same-length
 same-length c = search needs
@@ -69,4 +82,4 @@ same-length-3 : tie.Need-same-length-3
 same-length-3 c = search needs
 
 pub withdraw-spec : {M : Type 1} → statement M
-withdraw-spec = tie.close (tie.spec (search needs) same-length returns read-head-requires same-length-2 returns-2 pop-line-requires same-length-3 returns-3)
+withdraw-spec = tie.close (tie.spec (search needs) same-length returns read-head-requires same-length-2 returns-2 take-last-requires same-length-3 returns-3)

@@ -13,7 +13,7 @@ use Rattle.integers.specs.Bits.{kept}
 use Rattle.lines.specs.Limits.{maxVariables, maxLines}
 use Rattle.lines.specs.Line.{number}
 use Rattle.session_state.specs.State.{headSize, headOk}
-use Rattle.session_state.specs.Laws.{between-low}
+use Rattle.session_state.specs.Laws.{between-low, between-high}
 use Rattle.session_state.proofs.head_ok.Statement.{statement}
 use Rattle.session_state.proofs.head_ok.Tie as tie
 
@@ -76,6 +76,11 @@ unsigned-requires c κs =
     let e = c .before .before .before .before .before .before .before in
     rw (kept w64 (number (state1 (e .before)) 0) (c .unsigned-arg .given)) (between-low maxVariables (number (state1 (e .before)) 0) (ok1 e))
 
+session-room-requires : tie.Need-session-room-requires
+session-room-requires c κs =
+    let e = c .before .before .before .before .before .before .before .before in
+    rw (c .unsigned .ensures, kept w64 (number (state1 (e .before)) 0) (c .before .unsigned-arg .given)) (between-high maxVariables (number (state1 (e .before)) 0) (ok1 e))
+
 returns-5 : tie.Need-returns-5
 unfolding headOk
 returns-5 c =
@@ -103,5 +108,5 @@ head-ok-spec =
     returns-4
     (search needs)
     unsigned-requires
-    (search needs)
+    session-room-requires
     returns-5)

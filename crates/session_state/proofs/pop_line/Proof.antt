@@ -11,7 +11,7 @@ use Rattle.lines.specs.Limits.{lineSize}
 use Rattle.longer_list.specs.Written.{putAt, part-long, put-back, put-length}
 use Rattle.session_state.specs.declared.Head.{Head}
 use Rattle.session_state.specs.State.{headSize, zeros, countIn, lineStart, headed, popped}
-use Rattle.session_state.specs.Laws.{HeadOk, state-head, state-head-ok, lines-end}
+use Rattle.session_state.specs.Laws.{HeadOk, head-ok, lines-end}
 use Rattle.session_state.proofs.pop_line.Statement.{statement}
 use Rattle.session_state.proofs.pop_line.Tie as tie
 
@@ -20,7 +20,7 @@ module _ (r : tie.After-read-head) where
   state = r .before .before .args .state .now
 
   ok : HeadOk (r .before .before .args .state .now)
-  ok = state-head (r .before .before .args .state .now) (r .before .before .pre .0)
+  ok = head-ok (r .before .before .args .state .now) (r .before .before .pre .0)
 
   count-is : r .read-head .result .count ≡ countIn (r .before .before .args .state .now)
   count-is = ap (λ (h : Head). h .count) (r .read-head .ensures)
@@ -33,7 +33,7 @@ module _ (r : tie.After-read-head) where
   at-is = ap (λ (k : ℕ). lineStart (k - 1)) count-is
 
 read-head-requires : tie.Need-read-head-requires
-read-head-requires c κs = state-head-ok _ (c .before .pre .0)
+read-head-requires c κs = c .before .pre .0
 
 sub-count : tie.Need-sub-count
 sub-count c = let r = c .before in omega (arith, count-is r, r .before .before .pre .1)

@@ -12,7 +12,7 @@ use Rattle.lines.specs.LineNumbers.{length-numbers}
 use Rattle.longer_list.specs.Written.{putAt, part-long, put-back, put-length}
 use Rattle.session_state.specs.declared.Head.{Head}
 use Rattle.session_state.specs.State.{headSize, countIn, lineStart, headed, pushed}
-use Rattle.session_state.specs.Laws.{HeadOk, state-head, state-head-ok, lines-end, next-end}
+use Rattle.session_state.specs.Laws.{HeadOk, head-ok, lines-end, next-end}
 use Rattle.session_state.proofs.push_line.Statement.{statement}
 use Rattle.session_state.proofs.push_line.Tie as tie
 
@@ -21,7 +21,7 @@ module _ (r : tie.After-read-head) where
   state = r .before .before .args .state .now
 
   ok : HeadOk (r .before .before .args .state .now)
-  ok = state-head (r .before .before .args .state .now) (r .before .before .pre .0)
+  ok = head-ok (r .before .before .args .state .now) (r .before .before .pre .0)
 
   count-is : r .read-head .result .count ≡ countIn (r .before .before .args .state .now)
   count-is = ap (λ (h : Head). h .count) (r .read-head .ensures)
@@ -34,7 +34,7 @@ module _ (r : tie.After-read-head) where
   at-is = ap lineStart count-is
 
 read-head-requires : tie.Need-read-head-requires
-read-head-requires c κs = state-head-ok _ (c .before .pre .0)
+read-head-requires c κs = c .before .pre .0
 
 mul-at : tie.Need-mul-at
 mul-at c = omega (arith, count-is c, ok c .count)

@@ -1,0 +1,4 @@
+pub mod Answer
+pub mod Asked
+pub mod Meaning
+pub mod Places

@@ -1,0 +1,45 @@
+// The table of a state made anew from its lines without the last one.
+use lines::Validity;
+use lines::limits::LINE_SIZE;
+use lines::list_validity;
+use longer_list::MOST_NUMBERS;
+use session_learn::MOST_POINTS;
+use session_state::FRONT_ROOM;
+use session_state::copy_lines;
+use session_state::read_head;
+use session_state::session_room;
+use session_table::table_anew;
+ghost use mathlib.Core.Path.{_≡_};
+ghost use mathlib.Core.Bool.{true};
+ghost use Prim.Native.Nat.{_<_, _≤_};
+ghost use lib.ListN.{length};
+ghost use Rattle.lines.specs.Limits.{maxVariables};
+ghost use Rattle.lines.specs.Valid.{LinesOk};
+ghost use Rattle.session_state.specs.State.{sessionRoom, countIn, isState};
+ghost use Rattle.session_remake.specs.Remade.{MadeAnew, Remade};
+
+// The table of a list, in place of the state's.
+fn put_table(list: &[i32], n: usize, state: &mut [i64])
+    requires { ⌜ (n ≤ maxVariables) × LinesOk n (now list) × (sessionRoom n ≤ length (now state)) ⌝ }
+    ensures { λ _. ⌜ MadeAnew n (now (list .entry)) (now (state .entry)) (now (state .exit)) ⌝ }
+{
+    let mut scratch = [0i64; MOST_POINTS];
+    let end = session_room(n);
+    table_anew(list, n, &mut state[FRONT_ROOM..end], &mut scratch);
+}
+
+// The table of the lines before the last, where these are valid; else the state is left as it is.
+pub fn remake_table(state: &mut [i64])
+    requires { ⌜ (isState (now state) ≡ true) × (0 < countIn (now state)) ⌝ }
+    ensures { λ _. ⌜ Remade (now (state .entry)) (now (state .exit)) ⌝ }
+{
+    let mut list = [0i32; MOST_NUMBERS];
+    copy_lines(state, &mut list);
+    let head = read_head(state);
+    let end = LINE_SIZE * (head.count - 1);
+    let found = list_validity(head.n, &list[..end]);
+    match found {
+        Validity::Valid => put_table(&list[..end], head.n, state),
+        Validity::Refused(_) => {}
+    }
+}

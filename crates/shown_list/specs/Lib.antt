@@ -1,0 +1,3 @@
+pub mod Against
+pub mod Shown
+pub mod Written
