@@ -8,8 +8,7 @@ use Rattle.lines.specs.declared.Line.{Line}
 use Rattle.lines.specs.declared.Validity.{Validity}
 use Rattle.lines.specs.declared.Validity.the-variants.{Valid, Refused}
 use Rattle.decide_buffers.specs.Room.{Lent}
-use Rattle.decide.specs.declared.Answer.{Answer}
-use Rattle.session_promise.specs.Promise.{startAnswer, startState, withdrawAnswer, Adds, Withdraws}
+use Rattle.session_promise.specs.Promise.{startAnswer, startState, learntTable, addAnswer, addState, AddLeft, withdrawAnswer, withdrawState}
 use Rattle.c_codes.specs.Codes.{refusalCode}
 use Rattle.c_deciding.specs.Calls.{decideCode}
 
@@ -23,12 +22,12 @@ pub record StartReturns (n : ℕ) (s : List ℤ) (returned : ℤ) (t : List ℤ)
   pub is : returned ≡ doneCode (startAnswer n (length s))
   pub state : t ≡ startState n s (startAnswer n (length s))
 
--- and b what the buffers held before, a what they hold after; the answer is returned as a number
+-- and b what the buffers held before, a what they hold after
 pub record AddReturns (s : List ℤ) (l : Line) (returned : ℤ) (b : Lent) (t : List ℤ) (a : Lent) : Type 0 where
-  pub answer : Answer
-  pub is : returned ≡ decideCode answer
-  pub adds : Adds s l answer b t a
+  pub is : returned ≡ decideCode (addAnswer s l b)
+  pub state : t ≡ addState s l (learntTable s l) (addAnswer s l b)
+  pub left : AddLeft (addAnswer s l b) s l b a
 
 pub record WithdrawReturns (s : List ℤ) (returned : ℤ) (t : List ℤ) : Type 0 where
   pub is : returned ≡ doneCode (withdrawAnswer s)
-  pub withdraws : Withdraws s (withdrawAnswer s) t
+  pub state : t ≡ withdrawState s (withdrawAnswer s)

@@ -1,6 +1,6 @@
 -- What the calls of a session promise gives what is returned: their places are below a refusal's unit, and the number tells the answers apart.
 use mathlib.Core.Path.{_≡_, refl, sym, ap, subst, _∙_}
-use mathlib.Core.Bool.{not}
+use mathlib.Core.Bool.{Bool, true, false, not}
 use mathlib.Core.List.{List}
 use Prim.Native.Nat.{ℕ}
 use native.Mathlib.Omega.{arith}
@@ -14,15 +14,15 @@ use Rattle.lines.specs.Limits.{maxVariables}
 use Rattle.lines.specs.Places.{Placed, placed-or, placed-if, place-at}
 use Rattle.decide_buffers.specs.Room.{Lent}
 use Rattle.decide.specs.declared.Answer.{Answer}
-use Rattle.decide.specs.declared.Answer.the-variants as decide
-use Rattle.decide.specs.Decided.{unlessRefused}
+use Rattle.decide.specs.Decided.{unlessRefused, validityFor, refused}
 use Rattle.decide.specs.Places.{Below}
 use Rattle.session_state.specs.State.{sessionRoom, variablesIn, countIn, refusedIn, numbersWith, isState}
-use Rattle.session_promise.specs.Promise.{noState, startAnswer, startState, addValidity, addAnswer, withdrawAnswer, Starts, Adds, Withdraws}
+use Rattle.session_promise.specs.Promise.{noState, startAnswer, startState, addValidity, learnsIn, learntTable, learntAnswer, addAnswer, addState, AddLeft, withdrawAnswer, withdrawState, Starts, Adds, Withdraws}
 use Rattle.c_codes.specs.Codes.{refusalUnit}
 use Rattle.c_codes.specs.Apart.{refusals-apart, no-refusal}
+use Rattle.c_deciding.specs.Calls.{decideCode}
 use Rattle.c_deciding.specs.Laws.{decision-below}
-use Rattle.c_session.specs.Calls.{doneCode, StartReturns, WithdrawReturns}
+use Rattle.c_session.specs.Calls.{doneCode, StartReturns, AddReturns, WithdrawReturns}
 
 -- ---- places
 pub start-placed : (n size : ℕ) → Placed refusalUnit (startAnswer n size)
@@ -37,25 +37,32 @@ below-unless : (v : Validity) (x : Answer) → Placed refusalUnit v → Below re
 below-unless validity.Valid x p h = h
 below-unless (validity.Refused r) x p h = place-at p
 
-add-below : (s : List ℤ) (l : Line) (b : Lent) → Below refusalUnit (addAnswer s l b)
+answered-below : (c : Bool) (n : ℕ) (L : List ℤ) (b : Lent) (v : Validity) → validityFor n L b ≡ v → Below refusalUnit (unlessRefused v (learntAnswer c n L b))
+answered-below true n L b validity.Valid e = tt
+answered-below false n L b validity.Valid e = decision-below n L b
+answered-below c n L b (validity.Refused r) e = subst (Below refusalUnit) (sym (refused n L b r e .is)) (decision-below n L b)
+
+pub add-below : (s : List ℤ) (l : Line) (b : Lent) → Below refusalUnit (addAnswer s l b)
 unfolding addAnswer
 add-below s l b =
     below-unless (addValidity s) _
     (placed-or refusalUnit _ _ (placed-if refusalUnit (not (isState s)) noState (omega arith)) (placed-if refusalUnit (refusedIn s) AfterNo (omega arith)))
-    (decision-below (variablesIn s) (numbersWith s l) b)
-
--- an add that was refused was refused as deciding is
-pub adds-below : {s t : List ℤ} {l : Line} {b a : Lent} (x : Answer) → Adds s l x b t a → Below refusalUnit x
-adds-below decide.Yes d = tt
-adds-below decide.No d = tt
-adds-below {s} {t} {l} {b} (decide.Refused r) d = subst (Below refusalUnit) (d .refused r .0 refl) (add-below s l b)
+    (answered-below (learnsIn s l) (variablesIn s) (numbersWith s l) b _ refl)
 
 -- ---- what was promised is what is returned
 pub start-returns : {n : ℕ} {s t : List ℤ} {v : Validity} → Starts n s v t → (returned : ℤ) → returned ≡ doneCode v → StartReturns n s returned t
 start-returns {n} {s} d returned e = record { is = e ∙ ap doneCode (d .is); state = d .state ∙ ap (startState n s) (d .is) }
 
 pub withdraw-returns : {s t : List ℤ} {v : Validity} → Withdraws s v t → (returned : ℤ) → returned ≡ doneCode v → WithdrawReturns s returned t
-withdraw-returns {s} {t} d returned e = record { is = e ∙ ap doneCode (d .is); withdraws = subst (λ (v : Validity). Withdraws s v t) (d .is) d }
+withdraw-returns {s} d returned e = record { is = e ∙ ap doneCode (d .is); state = d .state ∙ ap (withdrawState s) (d .is) }
+
+pub add-returns : {s t : List ℤ} {l : Line} {x : Answer} {b a : Lent} → Adds s l x b t a → (returned : ℤ) → returned ≡ decideCode x → AddReturns s l returned b t a
+add-returns {s} {t} {l} {x} {b} {a} d returned e =
+    record {
+      is = e ∙ ap decideCode (d .is);
+      state = d .state ∙ ap (addState s l (learntTable s l)) (d .is);
+      left = subst (λ (y : Answer). AddLeft y s l b a) (d .is) (d .left);
+    }
 
 -- ---- no two have one number
 pub done-apart : (u v : Validity) → Placed refusalUnit u → Placed refusalUnit v → doneCode u ≡ doneCode v → u ≡ v

@@ -1,10 +1,9 @@
 -- Versions of a session's calls that go wrong in one thing, each a definition, and at a named state what breaks the promise. Beside them the versions that keep
 -- it, so that those break it only by what they do otherwise.
 use mathlib.Core.Path.{_≡_, refl, sym, ap, subst, _∙_}
-use mathlib.Core.Logic.{inl}
-use mathlib.Core.Bool.{Bool, true, false, not}
+use mathlib.Core.Bool.{Bool, true, false, not, cond}
 use mathlib.Core.List.{List, [], _∷_, _++_}
-use Prim.Native.Nat.{ℕ, _+_, _-_}
+use Prim.Native.Nat.{ℕ, _+_, _-_, _*_}
 use native.Mathlib.Omega.{arith}
 use lib.IntN.{ℤ, pos, negℤ}
 use lib.ListN.{length, drop, length-replicate}
@@ -16,7 +15,6 @@ use Rattle.lines.specs.declared.Validity.{Validity}
 use Rattle.lines.specs.declared.Validity.the-variants as validity
 use Rattle.lines.specs.Limits.{lineSize}
 use Rattle.lines.specs.Line.{number, lineNumbers, linesOf, numbersOf, lineAt, isFalse}
-use Rattle.lines.specs.LineNumbers.{lines-of-numbers}
 use Rattle.lines.specs.Refusal.{lineTests, linesValidity, validityOf}
 use Rattle.steps.specs.Point.{opposite}
 use Rattle.steps.specs.Table.{entry, digit}
@@ -29,14 +27,15 @@ use Rattle.decide_rows.specs.Table.{stored-at}
 use Rattle.decide_buffers.specs.Room.{Lent, roomsValidity, decideValidity}
 use Rattle.decide.specs.declared.Answer.{Answer}
 use Rattle.decide.specs.declared.Answer.the-variants as decide
-use Rattle.decide.specs.Decided.{NotRefused, unlessRefused, decideAnswer, answerFor, Leaves}
+use Rattle.decide.specs.Decided.{unlessRefused, decideAnswer, validityFor, answerFor, Leaves}
 use Rattle.longer_list.specs.Written.{putAt}
-use Rattle.session_state.specs.State.{tableRoom, sessionRoom, zeros, behind, frontOf, kept, tableFor, stateOf, variablesIn, countIn, refusedIn, numbersIn, numbersWith, tableIn, lineStart, headed, pushed, popped}
+use Rattle.session_state.specs.State.{sessionRoom, zeros, behind, frontOf, kept, tableFor, stateOf, variablesIn, countIn, refusedIn, numbersWith, tableIn, lineStart, headed, pushed, popped}
 use Rattle.session_state.specs.Session.{length-front, pushed-is, popped-is, table-is, table-size, state-front}
-use Rattle.session_promise.specs.Promise.{startAnswer, startState, addValidity, addAnswer, addState, withdrawAnswer, Starts, Adds, Withdraws}
-use Rattle.session_promise.specs.Standing.{stands, is-state, variables, refused-in, numbers, state-validity, all-numbers, add-answer, decided-same, went-on}
+use Rattle.session_promise.specs.Promise.{startAnswer, startState, addValidity, learnsIn, learntTable, learntAnswer, addAnswer, addState, LearntLeft, AddLeft, withdrawAnswer, Starts, Adds, Withdraws}
+use Rattle.session_promise.specs.Standing.{stands, variables, state-validity, all-numbers, add-answer}
 use Rattle.session_promise.specs.Sequence.{withdraws-from}
-use Rattle.demands.specs.RightVersion.{right, right-keeps, roomWith, list-8-no}
+use Rattle.session_outputs.specs.Outputs.{modelLeft, boundsLeft, groupsLeft}
+use Rattle.demands.specs.RightVersion.{written, right, right-keeps, roomWith, list-8-no}
 
 -- ---- what a call gives back: a start or a withdrawal its answer and the state, an add the buffers too
 pub record Done : Type 0 where
@@ -75,45 +74,22 @@ abbrev bufferBy : Validity → (before after : Lent) → Lent
 bufferBy validity.Valid b a = a
 bufferBy (validity.Refused r) b a = b
 
--- with the table of all lines on a yes, of those before on a no
-abbrev rightTable : List ℤ → Line → Answer → List ℤ
-rightTable s l decide.Yes = tableFor (variablesIn s) (linesOf (numbersWith s l))
-rightTable s l decide.No = tableFor (variablesIn s) (linesOf (numbersIn s))
-rightTable s l (decide.Refused r) = []
+-- where the line is learnt, what the table u gives; else what deciding leaves
+abbrev learntAfter : Bool → ℕ → List ℤ → List ℤ → Lent → Lent
+learntAfter true n L u b = written n (modelLeft n u (b .model)) (boundsLeft n u (b .bounds)) (groupsLeft n u (b .groups)) b
+learntAfter false n L u b = right n L b .after
 
 pub rightAdd : List ℤ → Line → Lent → Added
 rightAdd s l b =
     record {
       answer = addAnswer s l b;
-      state = addState s l (rightTable s l (addAnswer s l b)) (addAnswer s l b);
-      after = bufferBy (addValidity s) b (right (variablesIn s) (numbersWith s l) b .after);
+      state = addState s l (learntTable s l) (addAnswer s l b);
+      after = bufferBy (addValidity s) b (bufferBy (validityFor (variablesIn s) (numbersWith s l) b) b (learntAfter (learnsIn s l) (variablesIn s) (numbersWith s l) (learntTable s l) b));
     }
 
 pub right-add-keeps : KeepsAdd rightAdd
 unfolding rightAdd addAnswer
-right-add-keeps s l b =
-    record {
-      refused = λ r. ((λ e. e), (λ e. e));
-      unchanged = λ r e. subst (λ (x : Answer). Leaves n L x b after) e leaves;
-      table = rightTable s l (addAnswer s l b);
-      size = sized (addAnswer s l b);
-      state = refl;
-      either = λ h. inl (record { is = on h; leaves = leaves });
-      learns = λ m ls k.
-          record {
-            decided = decided-same (variables k) (all-numbers k l) (record { is = went-on s l b (is-state k) (refused-in k); leaves = leaves });
-            yes = λ e.
-                ap (rightTable s l) e
-                ∙ ap (λ (M : List ℤ). tableFor n (linesOf M)) (all-numbers k l)
-                ∙ ap (tableFor n) (lines-of-numbers (ls ++ l ∷ []))
-                ∙ ap (λ (j : ℕ). tableFor j (ls ++ l ∷ [])) (variables k);
-            no = λ e.
-                ap (rightTable s l) e
-                ∙ ap (λ (M : List ℤ). tableFor n (linesOf M)) (numbers k)
-                ∙ ap (tableFor n) (lines-of-numbers ls)
-                ∙ ap (λ (j : ℕ). tableFor j ls) (variables k);
-          };
-    }
+right-add-keeps s l b = record { is = refl; state = refl; left = by-state (addValidity s) }
   where
     n : ℕ
     n = variablesIn s
@@ -121,29 +97,28 @@ right-add-keeps s l b =
     L : List ℤ
     L = numbersWith s l
 
-    after : Lent
-    after = bufferBy (addValidity s) b (right n L b .after)
+    u : List ℤ
+    u = learntTable s l
 
-    sized : (x : Answer) → NotRefused x → length (rightTable s l x) ≡ tableRoom n
-    sized decide.Yes h = table-size n (linesOf L)
-    sized decide.No h = table-size n (linesOf (numbersIn s))
-    sized (decide.Refused r) h = absurd (h r refl)
+    by-deciding : (y : Answer) (a : Lent) → learnsIn s l ≡ false → Leaves (variablesIn s) (numbersWith s l) y b a → AddLeft y s l b a
+    by-deciding decide.Yes a e o = subst (λ (c : Bool). LearntLeft c (variablesIn s) (numbersWith s l) (learntTable s l) decide.Yes b a) (sym e) o
+    by-deciding decide.No a e o = subst (λ (c : Bool). LearntLeft c (variablesIn s) (numbersWith s l) (learntTable s l) decide.No b a) (sym e) o
+    by-deciding (decide.Refused r) a e o = o
 
-    on : NotRefused (addAnswer s l b) → addAnswer s l b ≡ answerFor n L b
-    on = go (addValidity s)
-      where
-        go : (v : Validity) → NotRefused (unlessRefused v (answerFor n L b)) → unlessRefused v (answerFor n L b) ≡ answerFor n L b
-        go validity.Valid h = refl
-        go (validity.Refused r) h = absurd (h r refl)
+    by-table : (c : Bool) → learnsIn s l ≡ c → AddLeft (learntAnswer c (variablesIn s) (numbersWith s l) b) s l b (learntAfter c (variablesIn s) (numbersWith s l) (learntTable s l) b)
+    by-table true e =
+        subst (λ (c : Bool). LearntLeft c (variablesIn s) (numbersWith s l) (learntTable s l) decide.Yes b (learntAfter true (variablesIn s) (numbersWith s l) (learntTable s l) b)) (sym e)
+        (record { outputs = record { model-is = refl; bounds-is = refl; groups-is = refl }; refutation = refl; identifiers = refl; work = refl })
+    by-table false e = let k = right-keeps n L b in by-deciding (answerFor n L b) (right n L b .after) e (subst (λ (x : Answer). Leaves n L x b (right n L b .after)) (k .is) (k .leaves))
 
-    leaves : Leaves n L (addAnswer s l b) b after
-    leaves = go (addValidity s)
-      where
-        go : (v : Validity) → Leaves n L (unlessRefused v (answerFor n L b)) b (bufferBy v b (right n L b .after))
-        go validity.Valid =
-            let k = right-keeps n L b in
-            subst (λ (x : Answer). Leaves n L x b (right n L b .after)) (k .is) (k .leaves)
-        go (validity.Refused r) = refl
+    by-list : (v : Validity) → AddLeft (unlessRefused v (learntAnswer (learnsIn s l) (variablesIn s) (numbersWith s l) b)) s l b (bufferBy v b (learntAfter (learnsIn s l) (variablesIn s) (numbersWith s l) (learntTable s l) b))
+    by-list validity.Valid = by-table (learnsIn s l) refl
+    by-list (validity.Refused r) = refl
+
+    by-state : (v : Validity) → AddLeft (unlessRefused v (unlessRefused (validityFor (variablesIn s) (numbersWith s l) b) (learntAnswer (learnsIn s l) (variablesIn s) (numbersWith s l) b))) s l b
+        (bufferBy v b (bufferBy (validityFor (variablesIn s) (numbersWith s l) b) b (learntAfter (learnsIn s l) (variablesIn s) (numbersWith s l) (learntTable s l) b)))
+    by-state validity.Valid = by-list (validityFor (variablesIn s) (numbersWith s l) b)
+    by-state (validity.Refused r) = refl
 
 -- ---- the states: n is 1, and nothing lies beyond
 -- x at most 3, and x at least 4, which clash; and a line that is refused
@@ -285,7 +260,7 @@ counts-refused-breaks k =
     let b = roomWith 1 9 in
     let refused : addAnswer s twice b ≡ decide.Refused (BadCoefficient 0) = add-answer (stands 1 [] none-valid false s [] refl none-yes none-yes) twice b ∙ twice-refused in
     let same : pushed s twice false ≡ s =
-    subst (λ (x : Answer). countedBy s twice (rightAdd s twice b .state) x ≡ addState s twice (k s twice b .table) x) refused (k s twice b .state) in
+    subst (λ (x : Answer). countedBy s twice (rightAdd s twice b .state) x ≡ addState s twice (learntTable s twice) x) refused (k s twice b .state) in
     let more : pushed s twice false ≡ frontOf 1 (twice ∷ []) false ++ (tableFor 1 [] ++ []) =
     ap (λ (x : List ℤ). pushed x twice false) (state-front 1 [] false []) ∙ pushed-is 1 [] false (tableFor 1 [] ++ []) twice false (omega arith) in
     one (ap (λ (t : List ℤ). number t 1) (sym more ∙ same))
@@ -319,5 +294,51 @@ without-first-breaks k =
     ∙ ap (λ (n : ℕ). answerFor n (drop lineSize (numbersWith s least)) b) (variables holds)
     ∙ ap (λ (L : List ℤ). answerFor 1 (drop lineSize L) b) (all-numbers holds least)
     ∙ least-yes in
-    let same : decide.Yes ≡ decide.No = sym wrong ∙ k s least b .learns 1 (most ∷ []) holds .decided .is ∙ both-no in
+    let same : decide.Yes ≡ decide.No = sym wrong ∙ k s least b .is ∙ add-answer holds least b ∙ both-no in
+    never (cc)
+
+-- it looks at walks alone and not at halves, so that half-integers count: x + x at most 1, and then at least 1
+pub learnsHalves : List ℤ → Line → Lent → Added
+learnsHalves s l b =
+    record {
+      answer = unlessRefused (addValidity s) (cond (noNegative (stepsOf (linesOf (numbersWith s l))) (2 * variablesIn s)) decide.Yes decide.No);
+      state = rightAdd s l b .state;
+      after = rightAdd s l b .after;
+    }
+
+abbrev atMostOne : Line
+atMostOne = record { a = pos 1; x = pos 0; b = pos 1; y = pos 0; d = pos 1; identifier = pos 0 }
+
+abbrev atLeastOne : Line
+atLeastOne = record { a = negℤ (pos 1); x = pos 0; b = negℤ (pos 1); y = pos 0; d = negℤ (pos 1); identifier = pos 0 }
+
+one-valid : validityOf 1 (numbersOf (atMostOne ∷ [])) ≡ validity.Valid
+unfolding validityOf linesValidity numbersOf lineNumbers lineTests lineAt
+one-valid = refl
+
+one-yes : verdictOf 1 (atMostOne ∷ []) ≡ true
+unfolding verdictOf hasFalse isFalse noNegative consistentHalves entry digit stepOf stepsOf relaxRow startRow rounds rowAt best opposite
+one-yes = refl
+
+no-walk : noNegative (stepsOf (linesOf (numbersOf (atMostOne ∷ atLeastOne ∷ [])))) 2 ≡ true
+unfolding numbersOf lineNumbers lineAt noNegative entry digit stepOf stepsOf relaxRow startRow rounds rowAt best
+no-walk = refl
+
+no-whole-number : answerFor 1 (numbersOf (atMostOne ∷ atLeastOne ∷ [])) (roomWith 1 9) ≡ decide.No
+unfolding numbersOf lineNumbers decideAnswer decideValidity roomsValidity validityOf linesValidity lineTests lineAt isFalse verdictOf hasFalse
+    noNegative consistentHalves entry digit stepOf stepsOf relaxRow startRow rounds rowAt best opposite
+no-whole-number = refl
+
+pub learns-halves-breaks : KeepsAdd learnsHalves → ⊥
+unfolding learnsHalves
+learns-halves-breaks k =
+    let s = state (atMostOne ∷ []) false in
+    let b = roomWith 1 9 in
+    let holds = stands 1 (atMostOne ∷ []) one-valid false s [] refl one-yes one-yes in
+    let wrong : unlessRefused (addValidity s) (cond (noNegative (stepsOf (linesOf (numbersWith s atLeastOne))) (2 * variablesIn s)) decide.Yes decide.No) ≡ decide.Yes =
+    ap (λ (v : Validity). unlessRefused v (cond (noNegative (stepsOf (linesOf (numbersWith s atLeastOne))) (2 * variablesIn s)) decide.Yes decide.No)) (state-validity holds)
+    ∙ ap (λ (n : ℕ). cond (noNegative (stepsOf (linesOf (numbersWith s atLeastOne))) (2 * n)) decide.Yes decide.No) (variables holds)
+    ∙ ap (λ (L : List ℤ). cond (noNegative (stepsOf (linesOf L)) 2) decide.Yes decide.No) (all-numbers holds atLeastOne)
+    ∙ ap (λ (c : Bool). cond c decide.Yes decide.No) no-walk in
+    let same : decide.Yes ≡ decide.No = sym wrong ∙ k s atLeastOne b .is ∙ add-answer holds atLeastOne b ∙ no-whole-number in
     never (cc)

@@ -24,8 +24,8 @@ use Rattle.decide_buffers.specs.Room.{Lent, ModelLent, lengthsOf, modelLengthsO
 use Rattle.decide.specs.declared.Answer.{Answer}
 use Rattle.decide.specs.declared.Answer.the-variants as decide
 use Rattle.decide.specs.Decided.{NotRefused, unlessRefused, answerFor, validityFor, Decided}
-use Rattle.session_state.specs.State.{tableRoom, sessionRoom, stateOf, variablesIn, numbersWith}
-use Rattle.session_promise.specs.Promise.{Stands, EitherWay, statePlace, startAnswer, addState, withdrawAnswer, withdrawState, Starts, Adds, Withdraws}
+use Rattle.session_state.specs.State.{sessionRoom, stateOf}
+use Rattle.session_promise.specs.Promise.{Stands, statePlace, startAnswer, startState, learnsIn, learntTable, addAnswer, addState, FromTable, LearntLeft, AddLeft, withdrawAnswer, withdrawState, Starts, Adds, Withdraws}
 use Rattle.session_promise.specs.Standing.{add-answer}
 use Rattle.session_promise.specs.Sequence.{Reached, Grown, AddsTo, WithdrawsFrom, add-validity, went-on, adds-to, withdraws-from, reached-stands, reached-more, grown-reached, add-withdraw}
 use Rattle.implied_line.specs.Answer as line
@@ -39,7 +39,7 @@ use Rattle.c_session_asked.specs.Calls.{lineReturned, pairReturned}
 use Rattle.c_deciding.specs.Calls.{decideCode}
 use Rattle.c_deciding.specs.Laws.{decisions-apart}
 use Rattle.c_session.specs.Calls.{doneCode, StartReturns, AddReturns, WithdrawReturns}
-use Rattle.c_session.specs.Laws.{start-placed, withdraw-placed, adds-below, done-apart}
+use Rattle.c_session.specs.Laws.{start-placed, withdraw-placed, add-below, done-apart}
 use Rattle.demands.specs.Calls.{Call}
 use Rattle.demands.specs.Demands.{NothingUnlearned, nothing-unlearned}
 use Rattle.demands.specs.Refusals.{Row, _when_, lineTable, roomsTable, FirstApplies}
@@ -89,8 +89,8 @@ add-refused-exactly-if n ls refused s p l x b t a d r =
     let f = gives-refused (gives-row (true-test refused) (gives-or (gives-row (less-test maxLines (length ls + 1)) (line-gives n (length ls) l)) (rooms-give lentRooms n (lengthsOf b)))) r in
     let g = refused-unless refused (validityFor n (numbersOf (ls ++ l ∷ [])) b) (answerFor n (numbersOf (ls ++ l ∷ [])) b) r (decision-refused n (numbersOf (ls ++ l ∷ [])) b r) in
     let computed = ap (λ (v : Validity). refuseIf refused AfterNo orElse v) (add-validity n ls l (k .valid) b) in (
-      (λ e. f .0 (sym computed ∙ g .0 (sym (add-answer k l b) ∙ d .refused r .0 e))),
-      (λ e. d .refused r .1 (add-answer k l b ∙ g .1 (computed ∙ f .1 e))),
+      (λ e. f .0 (sym computed ∙ g .0 (sym (add-answer k l b) ∙ sym (d .is) ∙ e))),
+      (λ e. d .is ∙ add-answer k l b ∙ g .1 (computed ∙ f .1 e)),
     )
   where
     refused-unless : (q : Bool) (v : Validity) (y : Answer) (r : Refusal) → (y ≡ decide.Refused r) ↔ (v ≡ validity.Refused r)
@@ -152,24 +152,88 @@ session-unlearns-nothing n ls refused s p l x b t a d h ms u g m y c v e f k =
 
 -- ---- whatever stands in the state
 
--- A refusal changes neither the state nor a buffer. That the calls end is part of every promise; and of the state only the table's numbers may be any.
+-- A refusal changes neither the state nor a buffer. That the calls end is part of every promise.
 pub refused-start-changes-nothing : (n : ℕ) (s : List ℤ) (r : Refusal) (t : List ℤ) → Starts n s (validity.Refused r) t → t ≡ s
 refused-start-changes-nothing n s r t d = d .state
 
 pub refused-add-changes-nothing : (s : List ℤ) (l : Line) (r : Refusal) (b : Lent) (t : List ℤ) (a : Lent) → Adds s l (decide.Refused r) b t a → (t ≡ s) × (a ≡ b)
-refused-add-changes-nothing s l r b t a d = (d .state, d .unchanged r refl)
+refused-add-changes-nothing s l r b t a d = (d .state, d .left)
 
 pub refused-withdrawal-changes-nothing : (s : List ℤ) (r : Refusal) (t : List ℤ) → Withdraws s (validity.Refused r) t → t ≡ s
 refused-withdrawal-changes-nothing s r t d = d .state
 
--- Whatever stands in the state, an add that is answered leaves it with one line more and a table, and answers and leaves what deciding all lines does, or says
--- yes and leaves what that table gives; a withdrawal leaves it with one line less and a table.
-pub add-writes : (s : List ℤ) (l : Line) (x : Answer) (b : Lent) (t : List ℤ) (a : Lent) → Adds s l x b t a → NotRefused x
-    → (u : List ℤ) × (length u ≡ tableRoom (variablesIn s)) × (t ≡ addState s l u x) × EitherWay (variablesIn s) (numbersWith s l) x b a u
-add-writes s l x b t a d h = (d .table, d .size h, d .state, d .either h)
+-- No call guesses, whatever stands in the state, a wrong table too: two calls that are handed the same numbers have the same answer and leave the same state,
+-- and two adds leave the same in the buffers, but for the walks of a no.
+pub starts-alike : (n : ℕ) (s : List ℤ) (x y : Validity) (t u : List ℤ) → Starts n s x t → Starts n s y u → (x ≡ y) × (t ≡ u)
+starts-alike n s x y t u d f = let e : x ≡ y = d .is ∙ sym (f .is) in (e, d .state ∙ ap (startState n s) e ∙ sym (f .state))
 
-pub withdraw-writes : (s t : List ℤ) → Withdraws s validity.Valid t → (u : List ℤ) × (length u ≡ tableRoom (variablesIn s)) × (t ≡ withdrawState s u validity.Valid)
-withdraw-writes s t d = (d .table, d .size refl, d .state)
+pub withdrawals-alike : (s : List ℤ) (x y : Validity) (t u : List ℤ) → Withdraws s x t → Withdraws s y u → (x ≡ y) × (t ≡ u)
+withdrawals-alike s x y t u d f = let e : x ≡ y = d .is ∙ sym (f .is) in (e, d .state ∙ ap (withdrawState s) e ∙ sym (f .state))
+
+pub record Alike (x : Answer) (a e : Lent) : Type 0 where
+  pub model : a .model ≡ e .model
+  pub bounds : a .bounds ≡ e .bounds
+  pub groups : a .groups ≡ e .groups
+  pub work : a .work ≡ e .work
+  pub refutation : (x ≡ decide.No → ⊥) → a .refutation ≡ e .refutation
+  pub identifiers : (x ≡ decide.No → ⊥) → a .identifiers ≡ e .identifiers
+
+pub adds-alike : (s : List ℤ) (l : Line) (x y : Answer) (b : Lent) (t u : List ℤ) (a e : Lent) → Adds s l x b t a → Adds s l y b u e → (x ≡ y) × (t ≡ u) × Alike x a e
+adds-alike s l x y b t u a e d f =
+    let same : x ≡ y = d .is ∙ sym (f .is) in
+    (same, d .state ∙ ap (addState s l (learntTable s l)) same ∙ sym (f .state), go x (d .left) (subst (λ (z : Answer). AddLeft z s l b e) (sym same) (f .left)))
+  where
+    -- both are what the same definitions say of b
+    from-table : (n : ℕ) (v : List ℤ) → FromTable n v b a → FromTable n v b e → Alike decide.Yes a e
+    from-table n v p q =
+        record {
+          model = p .outputs .model-is ∙ sym (q .outputs .model-is);
+          bounds = p .outputs .bounds-is ∙ sym (q .outputs .bounds-is);
+          groups = p .outputs .groups-is ∙ sym (q .outputs .groups-is);
+          work = p .work ∙ sym (q .work);
+          refutation = λ z. p .refutation ∙ sym (q .refutation);
+          identifiers = λ z. p .identifiers ∙ sym (q .identifiers);
+        }
+
+    yes : (c : Bool) (n : ℕ) (L v : List ℤ) → LearntLeft c n L v decide.Yes b a → LearntLeft c n L v decide.Yes b e → Alike decide.Yes a e
+    yes true n L v p q = from-table n v p q
+    yes false n L v p q =
+        record {
+          model = p .model ∙ sym (q .model);
+          bounds = p .bounds ∙ sym (q .bounds);
+          groups = p .groups ∙ sym (q .groups);
+          work = p .work ∙ sym (q .work);
+          refutation = λ z. p .refutation ∙ sym (q .refutation);
+          identifiers = λ z. p .identifiers ∙ sym (q .identifiers);
+        }
+
+    no : (c : Bool) (n : ℕ) (L v : List ℤ) → LearntLeft c n L v decide.No b a → LearntLeft c n L v decide.No b e → Alike decide.No a e
+    no true n L v p q =
+        let o = from-table n v p q in
+        record { model = o .model; bounds = o .bounds; groups = o .groups; work = o .work; refutation = λ z. absurd (z refl); identifiers = λ z. absurd (z refl) }
+    no false n L v p q =
+        record {
+          model = p .model ∙ sym (q .model);
+          bounds = p .bounds ∙ sym (q .bounds);
+          groups = p .groups ∙ sym (q .groups);
+          work = p .work ∙ sym (q .work);
+          refutation = λ z. absurd (z refl);
+          identifiers = λ z. absurd (z refl);
+        }
+
+    go : (z : Answer) → AddLeft z s l b a → AddLeft z s l b e → Alike z a e
+    go decide.Yes p q = yes (learnsIn s l) _ _ (learntTable s l) p q
+    go decide.No p q = no (learnsIn s l) _ _ (learntTable s l) p q
+    go (decide.Refused r) p q =
+        let same : a ≡ e = p ∙ sym q in
+        record {
+          model = ap (λ (c : Lent). c .model) same;
+          bounds = ap (λ (c : Lent). c .bounds) same;
+          groups = ap (λ (c : Lent). c .groups) same;
+          work = ap (λ (c : Lent). c .work) same;
+          refutation = λ z. ap (λ (c : Lent). c .refutation) same;
+          identifiers = λ z. ap (λ (c : Lent). c .identifiers) same;
+        }
 
 -- ---- questions, without adding
 
@@ -199,17 +263,17 @@ pub returned-start : (n : ℕ) (s : List ℤ) (r : ℤ) (t : List ℤ) → Start
 returned-start n s r t d = (startAnswer n (length s), d .is, record { is = refl; state = d .state })
 
 pub returned-add : (s : List ℤ) (l : Line) (r : ℤ) (b : Lent) (t : List ℤ) (a : Lent) → AddReturns s l r b t a → (x : Answer) × (r ≡ decideCode x) × Adds s l x b t a
-returned-add s l r b t a d = (d .answer, d .is, d .adds)
+returned-add s l r b t a d = (addAnswer s l b, d .is, record { is = refl; state = d .state; left = d .left })
 
 pub returned-withdrawal : (s : List ℤ) (r : ℤ) (t : List ℤ) → WithdrawReturns s r t → (x : Validity) × (r ≡ doneCode x) × Withdraws s x t
-returned-withdrawal s r t d = (withdrawAnswer s, d .is, d .withdraws)
+returned-withdrawal s r t d = (withdrawAnswer s, d .is, record { is = refl; state = d .state })
 
 -- No two answers are returned as one number.
 pub starts-returned-apart : (n m : ℕ) (s u : List ℤ) → doneCode (startAnswer n (length s)) ≡ doneCode (startAnswer m (length u)) → startAnswer n (length s) ≡ startAnswer m (length u)
 starts-returned-apart n m s u = done-apart _ _ (start-placed n (length s)) (start-placed m (length u))
 
-pub adds-returned-apart : (s u : List ℤ) (l m : Line) (x y : Answer) (b c : Lent) (t v : List ℤ) (a e : Lent) → Adds s l x b t a → Adds u m y c v e → decideCode x ≡ decideCode y → x ≡ y
-adds-returned-apart s u l m x y b c t v a e d f = decisions-apart x y (adds-below x d) (adds-below y f)
+pub adds-returned-apart : (s u : List ℤ) (l m : Line) (b c : Lent) → decideCode (addAnswer s l b) ≡ decideCode (addAnswer u m c) → addAnswer s l b ≡ addAnswer u m c
+adds-returned-apart s u l m b c = decisions-apart _ _ (add-below s l b) (add-below u m c)
 
 pub withdrawals-returned-apart : (s u : List ℤ) → doneCode (withdrawAnswer s) ≡ doneCode (withdrawAnswer u) → withdrawAnswer s ≡ withdrawAnswer u
 withdrawals-returned-apart s u = done-apart _ _ (withdraw-placed s) (withdraw-placed u)

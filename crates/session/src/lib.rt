@@ -22,8 +22,7 @@ ghost use lib.ListN.{length};
 ghost use Rattle.lines.specs.Limits.{maxVariables};
 ghost use Rattle.session_state.specs.State.{sessionRoom, countIn, isState};
 ghost use Rattle.lines.specs.declared.Validity.the-variants.{Valid};
-ghost use Rattle.session_promise.specs.Promise.{startState, Starts, Adds, Withdraws};
-ghost use Rattle.session.specs.Taken.{Taken};
+ghost use Rattle.session_promise.specs.Promise.{startState, withdrawState, Starts, Adds, Withdraws};
 
 // Writes the state of n variables and no lines.
 fn write_start(n: usize, state: &mut [i64])
@@ -86,7 +85,7 @@ pub fn add(
 // Takes the last line away. After a no the table is that of the lines before it; else it is made anew.
 fn take_last(state: &mut [i64])
     requires { ⌜ (isState (now state) ≡ true) × (0 < countIn (now state)) ⌝ }
-    ensures { λ _. ⌜ Taken (now (state .entry)) (now (state .exit)) ⌝ }
+    ensures { λ _. ⌜ now (state .exit) ≡ withdrawState (now (state .entry)) Valid ⌝ }
 {
     let head = read_head(state);
     if head.refused {

@@ -1,29 +1,29 @@
 -- How adding a line comes to its promise: by what is answered where the line is learnt.
 use mathlib.Core.Path.{_≡_, refl, sym, ap, subst, _∙_}
 use mathlib.Core.Bool.{Bool, true, false, cond}
-use mathlib.Core.List.{List, [], _∷_, _++_}
-use Prim.Native.Nat.{ℕ, _+_, _%_, _<_}
+use mathlib.Core.List.{List}
+use Prim.Native.Nat.{ℕ, _<_}
 use native.Mathlib.Omega.{arith}
 use lib.IntN.{ℤ}
 use lib.ListN.{length}
 use Rattle.integers.specs.Laws.{never}
 use Rattle.lines.specs.declared.Line.{Line}
+use Rattle.lines.specs.declared.Refusal.{Refusal}
+use Rattle.lines.specs.declared.Validity.{Validity}
 use Rattle.lines.specs.declared.Validity.the-variants as validity
-use Rattle.lines.specs.Limits.{lineSize, maxLines}
-use Rattle.lines.specs.Line.{linesOf, lineNumbers, numbersOf}
-use Rattle.lines.specs.LineNumbers.{length-numbersOf, lines-of-numbers}
-use Rattle.steps.specs.Step.{stepsOf}
+use Rattle.lines.specs.Limits.{maxLines}
+use Rattle.lines.specs.Line.{linesOf}
+use Rattle.lines.specs.Valid.{workable}
 use Rattle.theory_bounds.specs.Verdict.{verdictOf}
 use Rattle.decide_buffers.specs.Room.{Lent}
 use Rattle.decide.specs.declared.Answer.{Answer}
 use Rattle.decide.specs.declared.Answer.the-variants as decide
-use Rattle.decide.specs.Decided.{NotRefused, decideAnswer, validityFor, decide-ok}
-use Rattle.session_step.specs.Meaning.{TableFor}
-use Rattle.session_state.specs.State.{tableFor, variablesIn, countIn, refusedIn, numbersWith, tableIn, headOk, isState, pushed}
-use Rattle.session_state.specs.Laws.{state-head, state-head-ok, with-head, with-count}
-use Rattle.session_state.specs.Session.{numbers-more}
-use Rattle.session_promise.specs.Promise.{Stands, addAnswer, addState, Learns, Adds}
-use Rattle.session_promise.specs.Standing.{length-with, line-room, variables, table-read, all-numbers, table-holds, decided-same, went-on}
+use Rattle.decide.specs.Decided.{unlessRefused, decideAnswer, validityFor, decide-ok}
+use Rattle.session_learn.specs.Learnt.{learnt-size}
+use Rattle.session_state.specs.State.{tableRoom, variablesIn, countIn, refusedIn, numbersWith, tableIn, headOk, isState, pushed}
+use Rattle.session_state.specs.Laws.{state-head, state-head-ok, with-head, with-count, length-tableIn}
+use Rattle.session_promise.specs.Promise.{learnsIn, learntTable, learntAnswer, addState, LearntLeft, AddLeft, Adds}
+use Rattle.session_promise.specs.Standing.{length-with, line-room, went-on}
 use Rattle.session_answer.specs.Answers.{AnswerReady, Answers}
 
 -- ---- the line is part of the state
@@ -59,59 +59,47 @@ module _ (s : List ℤ) (l : Line) (b : Lent) (e : isState s ≡ true) (q : refu
     pub room-left : countIn s < maxLines
     room-left = line-room s l e (decide-ok n L b v .list)
 
-    not-refused : NotRefused (addAnswer s l b)
-    unfolding decideAnswer
-    not-refused r z = go (verdictOf n (linesOf L)) (sym (went-on s l b e q ∙ rw v) ∙ z)
-      where
-        go : (c : Bool) → cond c decide.Yes decide.No ≡ decide.Refused r → ⊥
-        go true f = never (cc)
-        go false f = never (cc)
+    -- the table keeps its size
+    sized : length (learntTable s l) ≡ tableRoom (variablesIn s)
+    sized = learnt-size n L (countIn s) (tableIn n s) (record { variables = workable n L (decide-ok n L b v .list) .variables; size = length-tableIn n s (state-head s e .room) })
 
     module _ (x : Answer) (m : List ℤ) (a : Lent) (d : Answers (variablesIn s) (numbersWith s l) (countIn s) s x b m a) where
       pub head-kept : headOk m ≡ true
-      head-kept = ap headOk (d .state) ∙ with-head n s (d .table) (state-head s e .room) (d .size) ∙ state-head-ok s e
+      head-kept = ap headOk (d .state) ∙ with-head n s (learntTable s l) (state-head s e .room) sized ∙ state-head-ok s e
 
       pub room-kept : countIn m < maxLines
-      room-kept = omega (arith, room-left, ap countIn (d .state) ∙ with-count n s (d .table) (state-head s e .room) (d .size))
+      room-kept = omega (arith, room-left, ap countIn (d .state) ∙ with-count n s (learntTable s l) (state-head s e .room) sized)
 
-      -- where the state stands
-      learns : (j : ℕ) (ls : List Line) → Stands j ls false s → Learns j ls l x b a (d .table)
-      learns j ls k =
-          let same : numbersWith s l ≡ numbersOf ls ++ lineNumbers l = all-numbers k l ∙ numbers-more ls l in
-          let lines : linesOf (numbersOf ls) ≡ ls = lines-of-numbers ls in
-          let whole : length (numbersOf ls) % lineSize ≡ 0 = omega (arith, length-numbersOf ls) in
-          let table : TableFor n (stepsOf (linesOf (numbersOf ls))) (tableIn n s) =
-          subst (λ (i : ℕ). TableFor i (stepsOf (linesOf (numbersOf ls))) (tableIn i s)) (sym (variables k))
-          (subst (λ (t : List ℤ). TableFor j (stepsOf (linesOf (numbersOf ls))) t) (sym (table-read k))
-          (subst (λ (ms : List Line). TableFor j (stepsOf ms) (tableFor j ls)) (sym lines) (table-holds j ls (k .valid) (k .solvable)))) in
-          let yes : verdictOf n (linesOf (numbersOf ls)) ≡ true = ap (verdictOf n) lines ∙ ap (λ (i : ℕ). verdictOf i ls) (variables k) ∙ k .solvable in
-          let f = d .learns (numbersOf ls) l same whole table yes in
-          record {
-            decided = decided-same (variables k) (all-numbers k l) (f .decided);
-            yes = λ z.
-                f .yes z
-                ∙ ap (λ (M : List ℤ). tableFor n (linesOf M)) (all-numbers k l)
-                ∙ ap (tableFor n) (lines-of-numbers (ls ++ l ∷ []))
-                ∙ ap (λ (i : ℕ). tableFor i (ls ++ l ∷ [])) (variables k);
-            no = λ z. f .no z ∙ ap (λ (i : ℕ). tableIn i s) (variables k) ∙ table-read k;
-          }
+      -- it is answered
+      not-refused : (r : Refusal) → x ≡ decide.Refused r → ⊥
+      unfolding decideAnswer
+      not-refused r z = go (learnsIn s l) (sym (d .is) ∙ z)
+        where
+          decided : (c : Bool) → cond c decide.Yes decide.No ≡ decide.Refused r → ⊥
+          decided true f = never (cc)
+          decided false f = never (cc)
 
-      state-is : (y : Answer) → x ≡ y → takenIn m l y ≡ addState s l (d .table) y
+          go : (c : Bool) → learntAnswer c (variablesIn s) (numbersWith s l) b ≡ decide.Refused r → ⊥
+          go true f = never (cc)
+          go false f = decided (verdictOf n (linesOf L)) (sym (rw v) ∙ f)
+
+      state-is : (y : Answer) → x ≡ y → takenIn m l y ≡ addState s l (learntTable s l) y
       state-is decide.Yes z = ap (λ (t : List ℤ). pushed t l false) (d .state)
       state-is decide.No z = ap (λ (t : List ℤ). pushed t l true) (d .state)
-      state-is (decide.Refused r) z = absurd (d .answered r z)
+      state-is (decide.Refused r) z = absurd (not-refused r z)
+
+      left-is : (y : Answer) → x ≡ y → LearntLeft (learnsIn s l) (variablesIn s) (numbersWith s l) (learntTable s l) y b a → AddLeft y s l b a
+      left-is decide.Yes z o = o
+      left-is decide.No z o = o
+      left-is (decide.Refused r) z o = absurd (not-refused r z)
 
       pub adds : (r : Answer) (t : List ℤ) → TakenIn m l x r t → Adds s l r b t a
       adds r t p =
           subst (λ (y : Answer). Adds s l y b t a) (sym (p .answer-is))
           (record {
-            refused = λ w. ((λ z. absurd (d .answered w z)), (λ z. absurd (not-refused w z)));
-            unchanged = λ w z. absurd (d .answered w z);
-            table = d .table;
-            size = λ h. d .size;
+            is = d .is ∙ sym (went-on s l b e q ∙ ap (λ (u : Validity). unlessRefused u (learntAnswer (learnsIn s l) (variablesIn s) (numbersWith s l) b)) v);
             state = p .state ∙ state-is x refl;
-            either = λ h. d .either;
-            learns = learns;
+            left = left-is x refl (d .left);
           })
 
 -- ---- the same by other names

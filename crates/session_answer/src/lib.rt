@@ -7,15 +7,18 @@ use session_learn::learn_line;
 use session_outputs::write_learned;
 use session_state::FRONT_ROOM;
 use session_state::session_room;
-ghost use Rattle.session_answer.specs.Answers.{LearnInReady, LearnsIn, YesReady, YesWritten, AnswerReady, Answers};
+ghost use mathlib.Core.Path.{_≡_};
+ghost use Rattle.session_state.specs.State.{tableIn, withTable};
+ghost use Rattle.session_learn.specs.Learnt.{learns, learnt};
+ghost use Rattle.session_answer.specs.Answers.{LearnInReady, YesReady, YesWritten, AnswerReady, Answers};
 
-// Line k learnt in the table of a state. The spare numbers are touched.
-fn learn_in(list: &[i32], k: usize, state: &mut [i64], spare: &mut [i64], n: usize) -> bool
-    requires { ⌜ LearnInReady n (now list) k (now state) (now spare) ⌝ }
-    ensures { λ r. ⌜ LearnsIn n (now (list .entry)) k (now (state .entry)) (now (spare .entry)) (now (state .exit)) (now (spare .exit)) r ⌝ }
+// Line k learnt in the table of a state.
+fn learn_in(list: &[i32], k: usize, state: &mut [i64], n: usize) -> bool
+    requires { ⌜ LearnInReady n (now list) k (now state) ⌝ }
+    ensures { λ r. ⌜ (r ≡ learns n (now (list .entry)) k (tableIn n (now (state .entry)))) × (now (state .exit) ≡ withTable n (now (state .entry)) (learnt n (now (list .entry)) k (tableIn n (now (state .entry))))) ⌝ }
 {
     let end = session_room(n);
-    learn_line(list, k, &mut state[FRONT_ROOM..end], spare, n)
+    learn_line(list, k, &mut state[FRONT_ROOM..end], n)
 }
 
 // The outputs from the table of a state, and zeros in the work area.
@@ -55,7 +58,7 @@ pub fn answer_learnt(
         (now (state .exit))
         (record { model = now (model .exit); bounds = now (bounds .exit); groups = now (groups .exit); refutation = now (refutation .exit); identifiers = now (identifiers .exit); work = now (work .exit) }) ⌝ }
 {
-    if learn_in(list, k, state, work, n) {
+    if learn_in(list, k, state, n) {
         write_yes(state, n, model, bounds, groups, work);
         return Answer::Yes;
     }

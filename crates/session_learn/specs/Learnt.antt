@@ -1,14 +1,13 @@
--- What learning a line does, whatever the table holds; and what it means where the table is that of a list with a solution: the verdict on the longer list,
--- and its table, or that of the list.
-use mathlib.Core.Path.{_≡_, refl, sym, ap, subst, _∙_}
+-- What learning a line answers and leaves, whatever the table holds; and what it means where the table is that of a list with a solution: the verdict on the
+-- longer list, and its table.
+use mathlib.Core.Path.{_≡_, refl, sym, ap, _∙_}
 use mathlib.Core.Bool.{Bool, true, false, not, cond, _&&_}
-use mathlib.Core.List.{List, [], _++_, append-nil}
-use Prim.Native.Nat.{ℕ, _+_, _*_, _%_, _<_, _≤_}
+use mathlib.Core.List.{List, _++_}
+use Prim.Native.Nat.{ℕ, _+_, _*_, _%_, _<_}
 use native.Mathlib.Omega.{arith}
 use lib.IntN.{ℤ}
-use lib.ListN.{length, take, drop, drop-of-length-le, length-append, length-drop}
-use lib.Seq.{take-at, drop-at}
-use Rattle.integers.specs.Laws.{never}
+use lib.ListN.{length}
+use Rattle.integers.specs.Laws.{and-true}
 use Rattle.integers.specs.Table.{allBelow}
 use Rattle.lines.specs.declared.Line.{Line}
 use Rattle.lines.specs.Limits.{lineSize}
@@ -16,109 +15,63 @@ use Rattle.lines.specs.Line.{lineCount, lineAt, linesOf, lineNumbers, isFalse}
 use Rattle.lines.specs.LineNumbers.{length-numbers, line-last}
 use Rattle.lines.specs.Valid.{LinesOk}
 use Rattle.steps.specs.Step.{stepsOf}
-use Rattle.theory_bounds.specs.Agree.{all-ok-same}
 use Rattle.theory_bounds.specs.Verdict.{halvesOk, verdictOf}
-use Rattle.decide_stored_table.specs.Table.{tableOf}
-use Rattle.engine_packed_steps.specs.Scratch.{Scratch, scratch-none}
-use Rattle.session_step.specs.Read.{smallTable, SizedTable, small-agree}
-use Rattle.session_step.specs.Meaning.{TableFor, short-table}
-use Rattle.session_line.specs.Both.{AddDone}
-use Rattle.session_line.specs.Longer.{longer-table}
-use Rattle.session_line.specs.Verdict.{false-verdict, longer-verdict}
+use Rattle.session_step.specs.Read.{SizedTable}
+use Rattle.session_step.specs.Meaning.{TableFor}
+use Rattle.session_line.specs.Numbered.{lineAfter, line-sized}
+use Rattle.session_line.specs.Both.{lineStaysIn, lineInserted}
+use Rattle.session_line.specs.Longer.{longer-table, longer-agree}
+use Rattle.session_line.specs.Verdict.{longer-verdict}
 
 -- ---- definitions
--- whether all halves that are read stand
-abbrev pub standing : ℕ → List ℤ → Bool
-standing n t = allBelow (2 * n) (halvesOk (smallTable (2 * n) t))
+-- whether line k is learnt: it is not false, its steps close no walk of negative sum, and with them all halves stand
+unfoldable pub learns : ℕ → List ℤ → ℕ → List ℤ → Bool
+learns n L k t = not (isFalse (lineAt L k)) && (lineStaysIn (2 * n) L k t && allBelow (2 * n) (halvesOk (lineInserted (2 * n) L k t)))
 
--- the line is put in, with scratch numbers on the way; then the halves are looked at
-pub record Tried (n : ℕ) (L : List ℤ) (k : ℕ) (t t′ : List ℤ) (r : Bool) : Type 0 where
-  pub scratch : List ℤ
-  pub sums : List ℤ
-  pub answer : Bool
-  pub added : AddDone (2 * n) L k t scratch t′ sums answer
-  pub is : r ≡ (answer && standing n t′)
+-- the table with it, or as it was
+unfoldable pub learnt : ℕ → List ℤ → ℕ → List ℤ → List ℤ
+learnt n L k t = cond (learns n L k t) (lineAfter (2 * n) L k t) t
 
 -- what is asked: of the table only its size, not its numbers
-pub record LearnReady (n : ℕ) (L : List ℤ) (k : ℕ) (t u : List ℤ) : Type 0 where
+pub record LearnReady (n : ℕ) (L : List ℤ) (k : ℕ) (t : List ℤ) : Type 0 where
   pub table : SizedTable n t
   pub valid : LinesOk n L
   pub line : k < lineCount L
-  pub room : 2 * n * (2 * n) ≤ length u
-
--- a line that is not false: the table in which it was tried, or the one before
-pub record Put (n : ℕ) (L : List ℤ) (k : ℕ) (t t′ : List ℤ) (r : Bool) : Type 0 where
-  pub table : List ℤ
-  pub tried : Tried n L k t table r
-  pub is : t′ ≡ cond r table t
-
--- a false line changes nothing
-abbrev pub LearnBy : Bool → ℕ → List ℤ → ℕ → List ℤ → List ℤ → Bool → Type 0
-LearnBy true n L k t t′ r = (r ≡ false) × (t′ ≡ t)
-LearnBy false n L k t t′ r = Put n L k t t′ r
-
--- of the spare numbers only as many are touched as the table has
-pub record LearnDone (n : ℕ) (L : List ℤ) (k : ℕ) (t u t′ u′ : List ℤ) (r : Bool) : Type 0 where
-  pub by-line : LearnBy (isFalse (lineAt L k)) n L k t t′ r
-  pub spare : Scratch 0 (2 * n * (2 * n)) u u′
 
 -- ---- the ways through the code
--- the line is put in
-module _ (n : ℕ) (L : List ℤ) (k : ℕ) (t w t₁ w₁ : List ℤ) (a : Bool) (added : AddDone (2 * n) L k t w t₁ w₁ a) where
-  pub tried-no : a ≡ false → Tried n L k t t₁ false
-  tried-no e = record { scratch = w; sums = w₁; answer = a; added = added; is = ap (λ (b : Bool). b && standing n t₁) (sym e) }
+module _ (n : ℕ) (L : List ℤ) (k : ℕ) (t : List ℤ) where
+  pub learns-not-false : isFalse (lineAt L k) ≡ true → false ≡ learns n L k t
+  unfolding learns
+  learns-not-false e = rw e refl
 
-  pub tried-on : a ≡ true → (r : Bool) → r ≡ standing n t₁ → Tried n L k t t₁ r
-  tried-on e r q = record { scratch = w; sums = w₁; answer = a; added = added; is = q ∙ ap (λ (b : Bool). b && standing n t₁) (sym e) }
+  pub learns-not-negative : isFalse (lineAt L k) ≡ false → lineStaysIn (2 * n) L k t ≡ false → false ≡ learns n L k t
+  unfolding learns
+  learns-not-negative e q = rw e (ap (λ (b : Bool). b && allBelow (2 * n) (halvesOk (lineInserted (2 * n) L k t))) (sym q))
 
-module _ (n : ℕ) (L : List ℤ) (k : ℕ) (t u : List ℤ) (ready : LearnReady n L k t u) where
-  -- the spare numbers, with the table in front
-  copied : (u₁ : List ℤ) → u₁ ≡ t ++ drop (length t) u → Scratch 0 (2 * n * (2 * n)) u u₁
-  copied u₁ e =
-      record {
-        same-length = ap length e ∙ length-append t (drop (length t) u) ∙ omega (arith, length-drop (length t) u, ready .room, ready .table .size);
-        front = refl;
-        behind = ap (drop (2 * n * (2 * n))) e ∙ drop-at t (drop (length t) u) (2 * n * (2 * n)) (ready .table .size) ∙ ap (λ (j : ℕ). drop j u) (ready .table .size);
-      }
+  pub learns-by-halves : isFalse (lineAt L k) ≡ false → lineStaysIn (2 * n) L k t ≡ true → (r : Bool) → r ≡ allBelow (2 * n) (halvesOk (lineInserted (2 * n) L k t)) → r ≡ learns n L k t
+  unfolding learns
+  learns-by-halves e q r h = rw e (h ∙ ap (λ (b : Bool). b && allBelow (2 * n) (halvesOk (lineInserted (2 * n) L k t))) (sym q))
 
-  pub learn-false : isFalse (lineAt L k) ≡ true → LearnDone n L k t u t u false
-  learn-false e = record { by-line = subst (λ (b : Bool). LearnBy b n L k t t false) (sym e) (refl, refl); spare = scratch-none 0 (2 * n * (2 * n)) u }
+  pub learnt-no : learns n L k t ≡ false → t ≡ learnt n L k t
+  unfolding learnt
+  learnt-no e = rw e refl
 
-  module _ (right : isFalse (lineAt L k) ≡ false) (u₁ : List ℤ) (copy : u₁ ≡ t ++ drop (length t) u) (t₁ : List ℤ) (r : Bool) (tried : Tried n L k t t₁ r) where
-    done : (b : Bool) → r ≡ b → (t′ : List ℤ) → t′ ≡ cond b t₁ t → LearnDone n L k t u t′ u₁ b
-    done b e t′ q =
-        record {
-          by-line =
-              subst (λ (c : Bool). LearnBy c n L k t t′ b) (sym right) (record { table = t₁; tried = subst (λ (c : Bool). Tried n L k t t₁ c) e tried; is = q });
-          spare = copied u₁ copy;
-        }
+  pub learnt-yes : learns n L k t ≡ true → (t′ : List ℤ) → t′ ≡ lineAfter (2 * n) L k t → t′ ≡ learnt n L k t
+  unfolding learnt
+  learnt-yes e t′ q = q ∙ rw e refl
 
-    pub learn-yes : r ≡ true → LearnDone n L k t u t₁ u₁ true
-    learn-yes e = done true e t₁ refl
-
-    -- the table is copied back, over one of the same length
-    pub learn-no : r ≡ false → (size : ℕ) → size ≡ length t₁ → length t₁ ≡ length t → (t′ : List ℤ) → t′ ≡ take size u₁ ++ drop (length (take size u₁)) t₁ → LearnDone n L k t u t′ u₁ false
-    learn-no e size s same t′ q = done false e t′ (q ∙ back)
-      where
-        front : take size u₁ ≡ t
-        front = ap (take size) copy ∙ take-at t (drop (length t) u) size (omega (arith, s, same))
-
-        back : take size u₁ ++ drop (length (take size u₁)) t₁ ≡ t
-        back =
-            let none : drop (length t) t₁ ≡ [] = drop-of-length-le t₁ {i = length t} (omega (arith, same)) in
-            ap (λ (x : List ℤ). x ++ drop (length x) t₁) front ∙ ap (λ (x : List ℤ). t ++ x) none ∙ append-nil t
-
--- ---- a no leaves the table as it was
-pub learn-kept : (n : ℕ) (L : List ℤ) (k : ℕ) (t u t′ u′ : List ℤ) (r : Bool) → LearnDone n L k t u t′ u′ r → r ≡ false → t′ ≡ t
-learn-kept n L k t u t′ u′ r d e = go (isFalse (lineAt L k)) (d .by-line)
-  where
-    go : (b : Bool) → LearnBy b n L k t t′ r → t′ ≡ t
-    go true p = p .1
-    go false p = p .is ∙ ap (λ (b : Bool). cond b (p .table) t) e
+  -- it keeps its size
+  pub learnt-size : SizedTable n t → length (learnt n L k t) ≡ 2 * n * (2 * n)
+  unfolding learnt
+  learnt-size a = go (learns n L k t)
+    where
+      go : (b : Bool) → length (cond b (lineAfter (2 * n) L k t) t) ≡ 2 * n * (2 * n)
+      go true = line-sized n L k t a .size
+      go false = a .size
 
 -- ---- what it means
 module _ (n : ℕ) (L : List ℤ) (l : Line) (whole : length L % lineSize ≡ 0) (ok : LinesOk n (L ++ lineNumbers l)) (yes-verdict : verdictOf n (linesOf L) ≡ true)
-    (t : List ℤ) (a : TableFor n (stepsOf (linesOf L)) t) (u t′ u′ : List ℤ) (r : Bool) (done : LearnDone n (L ++ lineNumbers l) (lineCount L) t u t′ u′ r) where
+    (t : List ℤ) (a : TableFor n (stepsOf (linesOf L)) t) where
   abbrev M : List ℤ
   M = L ++ lineNumbers l
 
@@ -128,60 +81,16 @@ module _ (n : ℕ) (L : List ℤ) (l : Line) (whole : length L % lineSize ≡ 0)
   one : lineCount (lineNumbers l) ≡ 1
   one = omega (arith, length-numbers l)
 
-  line-is : isFalse (lineAt M k) ≡ isFalse l
-  line-is = ap isFalse (line-last L l whole)
-
-  Meant : Bool → Type 0
-  Meant b = (r ≡ b) × (r ≡ true → TableFor n (stepsOf (linesOf M)) t′)
-
-  -- the line was tried
-  module _ (right : isFalse l ≡ false) (p : Put n M k t t′ r) where
-    abbrev t₁ : List ℤ
-    t₁ = p .table
-
-    abbrev tried : Tried n M k t t₁ r
-    tried = p .tried
-
-    longer : tried .answer ≡ true → TableFor n (stepsOf (linesOf M)) t₁
-    longer e = longer-table L (lineNumbers l) whole n ok one t a (tried .scratch) t₁ (tried .sums) (tried .answer) (tried .added) e
-
-    -- the halves that are read are those of the table
-    halves-read : (b : Bool) → tried .answer ≡ b → (b && standing n t₁) ≡ (b && allBelow (2 * n) (halvesOk (tableOf (2 * n) t₁)))
-    halves-read true e = all-ok-same n (smallTable (2 * n) t₁) (tableOf (2 * n) t₁) (small-agree n t₁ (short-table n (stepsOf (linesOf M)) t₁ (longer e)))
-    halves-read false e = refl
-
-    verdict-is : r ≡ verdictOf n (linesOf M)
-    verdict-is =
-        tried .is
-        ∙ halves-read (tried .answer) refl
-        ∙ ap (λ (b : Bool). not b && (tried .answer && allBelow (2 * n) (halvesOk (tableOf (2 * n) t₁)))) (sym right)
-        ∙ sym (longer-verdict n L l whole yes-verdict ok t a (tried .scratch) t₁ (tried .sums) (tried .answer) (tried .added))
-
-    put-means : Meant (verdictOf n (linesOf M))
-    unfolding Meant
-    put-means = (verdict-is, λ e. rw (p .is ∙ ap (λ (b : Bool). cond b t₁ t) e) (longer (went-in (tried .answer) (sym (tried .is) ∙ e))))
-      where
-        went-in : (b : Bool) → (b && standing n t₁) ≡ true → b ≡ true
-        went-in true e = refl
-        went-in false e = never (cc)
-
-  by-false : (r ≡ false) × (t′ ≡ t) → Meant false
-  unfolding Meant
-  by-false d = (d .0, λ q. let z : true ≡ false = sym q ∙ d .0 in never (cc))
-
-  means : Meant (verdictOf n (linesOf M))
-  means = go (isFalse l) refl (subst (λ (b : Bool). LearnBy b n M k t t′ r) line-is (done .by-line))
-    where
-      go : (b : Bool) → isFalse l ≡ b → LearnBy b n M k t t′ r → Meant (verdictOf n (linesOf M))
-      go true e d = subst Meant (sym (false-verdict n L l whole yes-verdict e)) (by-false d)
-      go false e d = put-means e d
-
   -- the answer is the verdict on the longer list
-  pub learn-verdict : r ≡ verdictOf n (linesOf (L ++ lineNumbers l))
-  unfolding Meant
-  learn-verdict = means .0
+  pub learn-verdict : learns n (L ++ lineNumbers l) (lineCount L) t ≡ verdictOf n (linesOf (L ++ lineNumbers l))
+  unfolding learns
+  learn-verdict =
+      ap (λ (b : Bool). not b && (lineStaysIn (2 * n) M k t && allBelow (2 * n) (halvesOk (lineInserted (2 * n) M k t)))) (ap isFalse (line-last L l whole))
+      ∙ sym (longer-verdict n L l whole yes-verdict ok t a (lineInserted (2 * n) M k t) (λ e. longer-agree L (lineNumbers l) whole n ok one t a e))
 
   -- on a yes the table is that of the longer list
-  pub learn-table : r ≡ true → TableFor n (stepsOf (linesOf (L ++ lineNumbers l))) t′
-  unfolding Meant
-  learn-table = means .1
+  pub learn-table : learns n (L ++ lineNumbers l) (lineCount L) t ≡ true → TableFor n (stepsOf (linesOf (L ++ lineNumbers l))) (learnt n (L ++ lineNumbers l) (lineCount L) t)
+  unfolding learns learnt
+  learn-table e =
+      let rest = and-true (not (isFalse (lineAt M k))) _ e .1 in
+      rw e (longer-table L (lineNumbers l) whole n ok one t a (and-true (lineStaysIn (2 * n) M k t) _ rest .0))

@@ -1,43 +1,106 @@
-// A line learnt: whether the list with it has a solution, and the table of the longer list; or the table as it was, where it
-// has none.
-use decide_stored_table::sum;
+// A line learnt: whether the lines with it have a solution, from the table of those before it; and then the table of all.
+// Nothing is written where they have none.
+use decide_rows::NO_WALK;
+use decide_stored_table::smaller;
+use integers::halved;
 use lines::is_false;
-use lines::limits::MAX_VARIABLES;
 use lines::line_at;
-use session_line::insert_line;
-use session_questions::half_of;
+use session_line::both_stay;
+use session_line::put_line;
+use session_step::read_at;
+use steps::NamedStep;
 use steps::opposite_of;
+use steps::step_numbered;
 ghost use mathlib.Core.Path.{_≡_};
-ghost use mathlib.Core.List.{_++_};
-ghost use Prim.Native.Nat.{_*_, _<_, _≤_};
-ghost use lib.ListN.{length, drop};
+ghost use Prim.Native.Nat.{_*_, _<_};
+ghost use Rattle.integers.specs.Integer.{Within};
 ghost use Rattle.integers.specs.Table.{allBelow};
-ghost use Rattle.lines.specs.Line.{lineCount};
-ghost use Rattle.lines.specs.Valid.{LinesOk};
+ghost use Rattle.steps.specs.Step.{maxWeight};
+ghost use Rattle.theory_walks.specs.Distance.{minD, halfD, _⊕_, _⊞_};
+ghost use Rattle.theory_walks.specs.Negative.{notBelow0};
 ghost use Rattle.theory_bounds.specs.Verdict.{halvesOk};
-ghost use Rattle.session_step.specs.Read.{smallTable, SizedTable};
-ghost use Rattle.session_learn.specs.Learnt.{Tried, LearnReady, LearnDone};
+ghost use Rattle.theory_inserting.specs.Two.{insertNamed};
+ghost use Rattle.decide_rows.specs.Stored.{stored};
+ghost use Rattle.decide_rows.specs.Read.{distanceOf, Short};
+ghost use Rattle.session_step.specs.Read.{smallTable};
+ghost use Rattle.session_learn.specs.With.{maxWay, EntryReady, StepsReady};
+ghost use Rattle.session_learn.specs.Learnt.{LearnReady, learns, learnt};
 
-// How many points the most variables have.
-pub const MOST_POINTS: usize = 2 * MAX_VARIABLES;
-
-// Whether the greatest value of a point is not below its least.
-fn halves_ok(table: &[i64], n: usize, p: usize) -> bool
-    requires { ⌜ SizedTable n (now table) × (p < 2 * n) ⌝ }
-    ensures { λ r. ⌜ r ≡ halvesOk (smallTable (2 * n) (now (table .entry))) p ⌝ }
+// A distance, or the way along a step of this weight where that is less.
+fn way_with(own: i64, before: i64, weight: i64, after: i64) -> i64
+    requires { ⌜ Short maxWay (distanceOf before) × Short maxWay (distanceOf after) × Within maxWeight weight ⌝ }
+    ensures { λ r. ⌜ r ≡ stored (minD (distanceOf own) (distanceOf before ⊕ weight ⊞ distanceOf after)) ⌝ }
 {
-    0 <= sum(half_of(table, n, p), half_of(table, n, opposite_of(p)))
+    if before == NO_WALK {
+        return own;
+    }
+    if after == NO_WALK {
+        return own;
+    }
+    smaller(own, before + weight + after)
+}
+
+// The distance from u to v with a step that may be there.
+fn entry_with(table: &[i64], n: usize, x: NamedStep, u: usize, v: usize) -> i64
+    requires { ⌜ EntryReady n (now table) x u v ⌝ }
+    ensures { λ r. ⌜ r ≡ stored (insertNamed (smallTable (2 * n) (now (table .entry))) x u v) ⌝ }
+{
+    let own = read_at(table, n, u, v);
+    if let NamedStep::Found(s) = x {
+        let before = read_at(table, n, u, s.from);
+        let after = read_at(table, n, s.to, v);
+        return way_with(own, before, s.weight, after);
+    }
+    own
+}
+
+// The same with another step, too.
+fn entry_with_both(table: &[i64], n: usize, x: NamedStep, y: NamedStep, u: usize, v: usize) -> i64
+    requires { ⌜ EntryReady n (now table) x u v × EntryReady n (now table) y u v ⌝ }
+    ensures { λ r. ⌜ r ≡ stored (insertNamed (insertNamed (smallTable (2 * n) (now (table .entry))) x) y u v) ⌝ }
+{
+    let own = entry_with(table, n, x, u, v);
+    if let NamedStep::Found(s) = y {
+        let before = entry_with(table, n, x, u, s.from);
+        let after = entry_with(table, n, x, s.to, v);
+        return way_with(own, before, s.weight, after);
+    }
+    own
+}
+
+// Whether the halves of two distances do not sum below 0.
+fn halves_meet(there: i64, back: i64) -> bool
+    ensures { λ r. ⌜ r ≡ notBelow0 (halfD (distanceOf there) ⊞ halfD (distanceOf back)) ⌝ }
+{
+    if there == NO_WALK {
+        return true;
+    }
+    if back == NO_WALK {
+        return true;
+    }
+    0 <= halved(there) + halved(back)
+}
+
+// Whether the greatest value of a point is not below its least, with two steps.
+fn point_stands(table: &[i64], n: usize, x: NamedStep, y: NamedStep, p: usize) -> bool
+    requires { ⌜ StepsReady n (now table) x y × (p < 2 * n) ⌝ }
+    ensures { λ r. ⌜ r ≡ halvesOk (insertNamed (insertNamed (smallTable (2 * n) (now (table .entry))) x) y) p ⌝ }
+{
+    let q = opposite_of(p);
+    let there = entry_with_both(table, n, x, y, p, q);
+    let back = entry_with_both(table, n, x, y, q, p);
+    halves_meet(there, back)
 }
 
 // The same of all points.
-fn halves_stand(table: &[i64], n: usize) -> bool
-    requires { ⌜ SizedTable n (now table) ⌝ }
-    ensures { λ r. ⌜ r ≡ allBelow (2 * n) (halvesOk (smallTable (2 * n) (now (table .entry)))) ⌝ }
+fn points_stand(table: &[i64], n: usize, x: NamedStep, y: NamedStep) -> bool
+    requires { ⌜ StepsReady n (now table) x y ⌝ }
+    ensures { λ r. ⌜ r ≡ allBelow (2 * n) (halvesOk (insertNamed (insertNamed (smallTable (2 * n) (now (table .entry))) x) y)) ⌝ }
 {
     let count = 2 * n;
     let mut p = 0;
     while p < count {
-        if !halves_ok(table, n, p) {
+        if !point_stands(table, n, x, y, p) {
             return false;
         }
         p += 1;
@@ -45,44 +108,30 @@ fn halves_stand(table: &[i64], n: usize) -> bool
     true
 }
 
-// Copies numbers to the front of others.
-fn copy_front(numbers: &[i64], others: &mut [i64])
-    requires { ⌜ length (now numbers) ≤ length (now others) ⌝ }
-    ensures { λ _. ⌜ now (others .exit) ≡ now (numbers .entry) ++ drop (length (now (numbers .entry))) (now (others .entry)) ⌝ }
-{
-    let mut i = 0;
-    while i < numbers.len() {
-        others[i] = numbers[i];
-        i += 1;
-    }
-}
-
-// Line k put in, and whether the lines then stand: no closed walk of negative sum, and no halves that contradict.
-fn stands_with(list: &[i32], k: usize, table: &mut [i64], n: usize) -> bool
-    requires { ⌜ SizedTable n (now table) × LinesOk n (now list) × (k < lineCount (now list)) ⌝ }
-    ensures { λ r. ⌜ Tried n (now (list .entry)) k (now (table .entry)) (now (table .exit)) r ⌝ }
-{
-    let mut scratch = [0i64; MOST_POINTS];
-    if !insert_line(list, k, table, &mut scratch, n) {
-        return false;
-    }
-    halves_stand(table, n)
-}
-
-// Line k behind those before it, whose table is lent: yes, and the table with its steps; or no, and the table as it was. That
-// halves contradict is seen once the line is in, so that the table is first copied to the spare numbers.
-pub fn learn_line(list: &[i32], k: usize, table: &mut [i64], spare: &mut [i64], n: usize) -> bool
-    requires { ⌜ LearnReady n (now list) k (now table) (now spare) ⌝ }
-    ensures { λ r. ⌜ LearnDone n (now (list .entry)) k (now (table .entry)) (now (spare .entry)) (now (table .exit)) (now (spare .exit)) r ⌝ }
+// Whether the lines with line k have a solution, where the table is that of the lines before, and these have one.
+fn can_learn(list: &[i32], k: usize, table: &[i64], n: usize) -> bool
+    requires { ⌜ LearnReady n (now list) k (now table) ⌝ }
+    ensures { λ r. ⌜ r ≡ learns n (now (list .entry)) k (now (table .entry)) ⌝ }
 {
     if is_false(line_at(list, k)) {
         return false;
     }
-    copy_front(table, spare);
-    if stands_with(list, k, table, n) {
-        return true;
+    if !both_stay(list, k, table, n) {
+        return false;
     }
-    let size = table.len();
-    copy_front(&spare[0..size], table);
-    false
+    let x = step_numbered(list, 2 * k);
+    let y = step_numbered(list, 2 * k + 1);
+    points_stand(table, n, x, y)
+}
+
+// Line k behind those before it, whose table is lent: yes, and the table with its steps; or no, and the table as it was.
+pub fn learn_line(list: &[i32], k: usize, table: &mut [i64], n: usize) -> bool
+    requires { ⌜ LearnReady n (now list) k (now table) ⌝ }
+    ensures { λ r. ⌜ (r ≡ learns n (now (list .entry)) k (now (table .entry))) × (now (table .exit) ≡ learnt n (now (list .entry)) k (now (table .entry))) ⌝ }
+{
+    if !can_learn(list, k, table, n) {
+        return false;
+    }
+    put_line(list, k, table, n);
+    true
 }

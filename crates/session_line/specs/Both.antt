@@ -1,5 +1,5 @@
--- Both steps of a line tested before either is put in, so that a no leaves the table as it was.
-use mathlib.Core.Path.{_≡_, refl, sym, ap, ap₂, subst, _∙_}
+-- Both steps of a line tested before either is put in; and what a table is read as with both.
+use mathlib.Core.Path.{_≡_, refl, sym, ap, ap₂, _∙_}
 use mathlib.Core.Bool.{Bool, true, false, _&&_}
 use mathlib.Core.List.{List, _++_}
 use Prim.Native.Nat.{ℕ, _+_, _*_}
@@ -10,7 +10,6 @@ use mir.Syntax.{w64}
 use mir.Val.{SFits}
 use Rattle.integers.specs.Integer.{_⩽_, Within}
 use Rattle.integers.specs.Linear.{ints, zs}
-use Rattle.integers.specs.Laws.{never}
 use Rattle.lines.specs.Valid.{LinesOk}
 use Rattle.steps.specs.declared.Step.{Step}
 use Rattle.steps.specs.declared.NamedStep.{NamedStep}
@@ -26,10 +25,10 @@ use Rattle.decide_rows.specs.Numbers.{stepsBefore, before-more}
 use Rattle.decide_stored_table.specs.Sum.{maxTight, read-back, sum-short}
 use Rattle.theory_bounds.specs.Agree.{Agree}
 use Rattle.theory_inserting.specs.Insert.{closing, inserted}
-use Rattle.theory_inserting.specs.Two.{insertNamed, stays, stays-same, named-same, two-test}
+use Rattle.theory_inserting.specs.Two.{insertNamed, stays, stays-same, named-same, two-test, two-best}
 use Rattle.session_step.specs.Read.{smallTable, small-agree}
 use Rattle.session_step.specs.Meaning.{TableFor, agree, short-table}
-use Rattle.session_line.specs.Numbered.{LineDone, ends, line-answer, line-table}
+use Rattle.session_line.specs.Numbered.{ends}
 
 -- whether neither step closes a walk of negative sum, the second with the first in place
 abbrev pub bothStay : Table → NamedStep → NamedStep → Bool
@@ -38,19 +37,9 @@ bothStay D x y = stays D x && stays (insertNamed D x) y
 abbrev pub lineStaysIn : ℕ → List ℤ → ℕ → List ℤ → Bool
 lineStaysIn N L k t = bothStay (smallTable N t) (stepNumbered L (2 * k)) (stepNumbered L (2 * k + 1))
 
--- where the test says no, all is as it was
-abbrev pub AddedBy : Bool → ℕ → List ℤ → ℕ → List ℤ → List ℤ → List ℤ → List ℤ → Bool → Type 0
-AddedBy true N L k t w t′ w′ r = LineDone N L k t w t′ w′ r
-AddedBy false N L k t w t′ w′ r = (r ≡ false) × (t′ ≡ t) × (w′ ≡ w)
-
-pub record AddDone (N : ℕ) (L : List ℤ) (k : ℕ) (t w t′ w′ : List ℤ) (r : Bool) : Type 0 where
-  pub by-test : AddedBy (lineStaysIn N L k t) N L k t w t′ w′ r
-
-pub add-no : (N : ℕ) (L : List ℤ) (k : ℕ) (t w : List ℤ) → lineStaysIn N L k t ≡ false → AddDone N L k t w t w false
-add-no N L k t w e = record { by-test = subst (λ (b : Bool). AddedBy b N L k t w t w false) (sym e) (refl, refl, refl) }
-
-pub add-on : (N : ℕ) (L : List ℤ) (k : ℕ) (t w t′ w′ : List ℤ) (r : Bool) → lineStaysIn N L k t ≡ true → LineDone N L k t w t′ w′ r → AddDone N L k t w t′ w′ r
-add-on N L k t w t′ w′ r e d = record { by-test = subst (λ (b : Bool). AddedBy b N L k t w t′ w′ r) (sym e) d }
+-- the table with both, as it is read
+abbrev pub lineInserted : ℕ → List ℤ → ℕ → List ℤ → Table
+lineInserted N L k t = insertNamed (insertNamed (smallTable N t) (stepNumbered L (2 * k))) (stepNumbered L (2 * k + 1))
 
 -- ---- the second step, with the first in place: the stored distance against the weight
 pub not-below-stored : (d : Distance) (w : ℤ) → Within maxWeight w → leZ (pos 0 -ℤ w) (stored d) ≡ notBelow0 (d ⊕ w)
@@ -121,43 +110,22 @@ module _ (n : ℕ) (L : List ℤ) (ok : LinesOk n L) (k : ℕ) (t : List ℤ) (a
       let twice : 2 * k + 1 + 1 ≡ 2 * (k + 1) = omega arith in
       ap (λ (F : List Step). F ++ named y) (sym (before-more L (2 * k))) ∙ sym (before-more L (2 * k + 1)) ∙ ap (stepsBefore L) twice
 
-  -- the test says whether the lines 0 to k have no closed walk of negative sum
-  pub test-is : lineStaysIn N L k t ≡ noNegative (stepsBefore L (2 * (k + 1))) N
-  test-is =
+  both-same : lineStaysIn N L k t ≡ bothStay (best E N) x y
+  both-same =
       ap₂ (λ (p q : Bool). p && q)
       (stays-same N (smallTable N t) (best E N) read-agree x (ends n L ok (2 * k)))
       (stays-same N (insertNamed (smallTable N t) x) (insertNamed (best E N) x) (named-same N (smallTable N t) (best E N) read-agree x (ends n L ok (2 * k))) y (ends n L ok (2 * k + 1)))
+
+  -- the test says whether the lines 0 to k have no closed walk of negative sum
+  pub test-is : lineStaysIn N L k t ≡ noNegative (stepsBefore L (2 * (k + 1))) N
+  test-is =
+      both-same
       ∙ sym (two-test E N (a .within) (a .nonneg) x y (ends n L ok (2 * k)) (ends n L ok (2 * k + 1)))
       ∙ ap (λ (F : List Step). noNegative F N) two
 
-  module _ (w t′ w′ : List ℤ) (r : Bool) (done : AddDone N L k t w t′ w′ r) where
-    Meant : Bool → Type 0
-    Meant b = (r ≡ b) × (r ≡ true → TableFor n (stepsBefore L (2 * (k + 1))) t′) × (r ≡ false → (t′ ≡ t) × (w′ ≡ w))
-
-    meant : Meant (lineStaysIn N L k t)
-    unfolding Meant
-    meant = go (lineStaysIn N L k t) refl (done .by-test)
-      where
-        clash : {A : Type 0} {b : Bool} → b ≡ true → b ≡ false → A
-        clash p q = let z : true ≡ false = sym p ∙ q in never (cc)
-
-        go : (b : Bool) → lineStaysIn N L k t ≡ b → AddedBy b N L k t w t′ w′ r → Meant b
-        go true e d =
-            let yes : r ≡ true = line-answer n L ok k t a w t′ w′ r d ∙ sym test-is ∙ e in
-            (yes, line-table n L ok k t a w t′ w′ r d, λ q. clash yes q)
-        go false e d = (d .0, (λ q. clash q (d .0)), λ q. (d .1, d .2))
-
-    -- the answer is no exactly if the lines 0 to k have a closed walk of negative sum
-    pub add-answer : r ≡ noNegative (stepsBefore L (2 * (k + 1))) N
-    unfolding Meant
-    add-answer = meant .0 ∙ test-is
-
-    -- on a yes the table is that of the lines 0 to k
-    pub add-table : r ≡ true → TableFor n (stepsBefore L (2 * (k + 1))) t′
-    unfolding Meant
-    add-table = meant .1
-
-    -- on a no table and scratch are as they were
-    pub add-kept : r ≡ false → (t′ ≡ t) × (w′ ≡ w)
-    unfolding Meant
-    add-kept = meant .2
+  -- and then what is read with both is the distances of the lines 0 to k
+  pub inserted-agree : lineStaysIn N L k t ≡ true → Agree N (lineInserted N L k t) (best (stepsBefore L (2 * (k + 1))) N)
+  inserted-agree e u v hu hv =
+      named-same N (insertNamed (smallTable N t) x) (insertNamed (best E N) x) (named-same N (smallTable N t) (best E N) read-agree x (ends n L ok (2 * k))) y (ends n L ok (2 * k + 1)) u v hu hv
+      ∙ sym (two-best E N (a .within) (a .nonneg) x y (ends n L ok (2 * k)) (ends n L ok (2 * k + 1)) (sym both-same ∙ e) u v hu hv)
+      ∙ ap (λ (F : List Step). best F N u v) two

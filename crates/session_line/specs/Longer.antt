@@ -1,7 +1,7 @@
--- A list that grows by a line: from the table of the list, `insert_line` makes that of the longer list, or says no exactly if this has a closed walk
--- of negative sum.
+-- A list that grows by a line: from the table of the list, `put_line` makes that of the longer list, where `both_stay` says that this has no closed walk of
+-- negative sum.
 use mathlib.Core.Path.{_≡_, sym, ap, ap₂, subst, _∙_}
-use mathlib.Core.Bool.{Bool, true, false}
+use mathlib.Core.Bool.{true}
 use mathlib.Core.List.{List, _++_}
 use Prim.Native.Nat.{ℕ, zero, suc, _+_, _*_, _/_, _%_, _<_, _≤_}
 use native.Mathlib.Numerals.{add-one}
@@ -16,10 +16,13 @@ use Rattle.lines.specs.LineNumbers.{count-append, line-left}
 use Rattle.steps.specs.declared.Step.{Step}
 use Rattle.steps.specs.declared.NamedStep.{NamedStep}
 use Rattle.steps.specs.Step.{stepNumbered, stepsOf, named}
+use Rattle.theory_walks.specs.Row.{best}
 use Rattle.theory_walks.specs.Negative.{noNegative}
+use Rattle.theory_bounds.specs.Agree.{Agree}
 use Rattle.decide_rows.specs.Numbers.{stepsBefore, before-zero, before-more, before-all}
 use Rattle.session_step.specs.Meaning.{TableFor}
-use Rattle.session_line.specs.Both.{AddDone, add-answer, add-table, add-kept}
+use Rattle.session_line.specs.Numbered.{lineAfter, line-table}
+use Rattle.session_line.specs.Both.{lineStaysIn, lineInserted, test-is, inserted-agree}
 
 module _ (L M : List ℤ) (whole : length L % lineSize ≡ 0) where
   -- ---- the steps of the shorter list keep their numbers
@@ -39,8 +42,7 @@ module _ (L M : List ℤ) (whole : length L % lineSize ≡ 0) where
       ∙ ap (stepsBefore L) (add-one k)
 
   -- ---- one line more
-  module _ (n : ℕ) (ok : LinesOk n (L ++ M)) (one : lineCount M ≡ 1) (t : List ℤ) (a : TableFor n (stepsOf (linesOf L)) t) (w t′ w′ : List ℤ) (r : Bool)
-      (done : AddDone (2 * n) (L ++ M) (lineCount L) t w t′ w′ r) where
+  module _ (n : ℕ) (ok : LinesOk n (L ++ M)) (one : lineCount M ≡ 1) (t : List ℤ) (a : TableFor n (stepsOf (linesOf L)) t) where
     shorter : TableFor n (stepsBefore (L ++ M) (2 * lineCount L)) t
     shorter = subst (λ (E : List Step). TableFor n E t) (sym (before-left (2 * lineCount L) (omega arith) ∙ before-all L)) a
 
@@ -49,14 +51,16 @@ module _ (L M : List ℤ) (whole : length L % lineSize ≡ 0) where
         let e : lineCount L + 1 ≡ lineCount (L ++ M) = omega (arith, count-append L M whole, one) in
         ap (λ (k : ℕ). stepsBefore (L ++ M) (2 * k)) e ∙ before-all (L ++ M)
 
-    -- the answer is no exactly if the longer list has a closed walk of negative sum
-    pub longer-answer : r ≡ noNegative (stepsOf (linesOf (L ++ M))) (2 * n)
-    longer-answer = add-answer n (L ++ M) ok (lineCount L) t shorter w t′ w′ r done ∙ ap (λ (E : List Step). noNegative E (2 * n)) all
+    -- both steps stay exactly if the longer list has no closed walk of negative sum
+    pub longer-answer : lineStaysIn (2 * n) (L ++ M) (lineCount L) t ≡ noNegative (stepsOf (linesOf (L ++ M))) (2 * n)
+    longer-answer = test-is n (L ++ M) ok (lineCount L) t shorter ∙ ap (λ (E : List Step). noNegative E (2 * n)) all
 
-    -- on a yes the table is that of the longer list
-    pub longer-table : r ≡ true → TableFor n (stepsOf (linesOf (L ++ M))) t′
-    longer-table e = subst (λ (E : List Step). TableFor n E t′) all (add-table n (L ++ M) ok (lineCount L) t shorter w t′ w′ r done e)
+    -- then the table with them is that of the longer list,
+    pub longer-table : lineStaysIn (2 * n) (L ++ M) (lineCount L) t ≡ true → TableFor n (stepsOf (linesOf (L ++ M))) (lineAfter (2 * n) (L ++ M) (lineCount L) t)
+    longer-table e =
+        subst (λ (E : List Step). TableFor n E (lineAfter (2 * n) (L ++ M) (lineCount L) t)) all
+        (line-table n (L ++ M) ok (lineCount L) t shorter (sym (test-is n (L ++ M) ok (lineCount L) t shorter) ∙ e))
 
-    -- on a no the table is as it was
-    pub longer-kept : r ≡ false → t′ ≡ t
-    longer-kept e = add-kept n (L ++ M) ok (lineCount L) t shorter w t′ w′ r done e .0
+    -- and so is what is read with them
+    pub longer-agree : lineStaysIn (2 * n) (L ++ M) (lineCount L) t ≡ true → Agree (2 * n) (lineInserted (2 * n) (L ++ M) (lineCount L) t) (best (stepsOf (linesOf (L ++ M))) (2 * n))
+    longer-agree e u v hu hv = inserted-agree n (L ++ M) ok (lineCount L) t shorter e u v hu hv ∙ ap (λ (E : List Step). best E (2 * n) u v) all

@@ -1,11 +1,11 @@
--- The steps of a list's line put into a table, by their numbers: what the code is asked, and what it does.
+-- The steps of a list's line put into a table, by their numbers: what is left, whatever the table holds; and that the table of the lines before becomes that
+-- of one line more, where no closed walk of negative sum comes of it.
 use mathlib.Core.Path.{_≡_, refl, sym, ap, subst, _∙_}
 use mathlib.Core.Bool.{Bool, true, false}
 use mathlib.Core.List.{List, _++_, append-nil}
-use Prim.Native.Nat.{ℕ, _+_, _*_, _≤_}
+use Prim.Native.Nat.{ℕ, _+_, _*_}
 use native.Mathlib.Omega.{arith}
 use lib.IntN.{ℤ}
-use lib.ListN.{length}
 use Rattle.integers.specs.Laws.{never}
 use Rattle.lines.specs.Valid.{LinesOk}
 use Rattle.steps.specs.declared.Step.{Step}
@@ -13,79 +13,41 @@ use Rattle.steps.specs.declared.NamedStep.{NamedStep}
 use Rattle.steps.specs.declared.NamedStep.the-variants.{Found, Nothing}
 use Rattle.steps.specs.Step.{stepNumbered, named}
 use Rattle.theory_walks.specs.Row.{WithinPoints}
-use Rattle.theory_walks.specs.Negative.{noNegative, no-negative-true}
+use Rattle.theory_walks.specs.Negative.{noNegative}
 use Rattle.decide_rows.specs.Numbers.{StepOk, stepsBefore, before-more, numbered-ok}
 use Rattle.theory_walks.specs.Graph.{in-left}
-use Rattle.session_step.specs.Read.{SizedTable}
 use Rattle.theory_inserting.specs.Two.{EndsBelow, named-within, negative-among}
-use Rattle.session_step.specs.Done.{InsertDone}
-use Rattle.session_step.specs.Meaning.{TableFor, insert-answer, insert-table}
+use Rattle.session_step.specs.Read.{SizedTable}
+use Rattle.session_step.specs.Done.{stepAfter, after-size}
+use Rattle.session_step.specs.Meaning.{TableFor, step-table}
 
-pub record NumberedReady (n : ℕ) (L t w : List ℤ) : Type 0 where
-  pub table : SizedTable n t
-  pub valid : LinesOk n L
-  pub room : 2 * n ≤ length w
+-- a step that may be there
+abbrev pub namedAfter : ℕ → NamedStep → List ℤ → List ℤ
+namedAfter N (Found s) t = stepAfter N s t
+namedAfter N Nothing t = t
 
--- a step that may be there: where it is not, all is as it was
-abbrev pub NamedDone : ℕ → NamedStep → List ℤ → List ℤ → List ℤ → List ℤ → Bool → Type 0
-NamedDone N (Found s) t w t′ w′ r = InsertDone N s t w t′ w′ r
-NamedDone N Nothing t w t′ w′ r = (r ≡ true) × (t′ ≡ t) × (w′ ≡ w)
-
--- after the first step's answer, the second step; or nothing more
-abbrev pub SecondDone : Bool → ℕ → NamedStep → List ℤ → List ℤ → List ℤ → List ℤ → Bool → Type 0
-SecondDone true N x t w t′ w′ r = NamedDone N x t w t′ w′ r
-SecondDone false N x t w t′ w′ r = (r ≡ false) × (t′ ≡ t) × (w′ ≡ w)
-
--- the two steps of line k, with the numbers between them
-pub record LineDone (N : ℕ) (L : List ℤ) (k : ℕ) (t w t′ w′ : List ℤ) (r : Bool) : Type 0 where
-  pub answer : Bool
-  pub table : List ℤ
-  pub scratch : List ℤ
-  pub first : NamedDone N (stepNumbered L (2 * k)) t w table scratch answer
-  pub second : SecondDone answer N (stepNumbered L (2 * k + 1)) table scratch t′ w′ r
+-- the two steps of line k
+abbrev pub lineAfter : ℕ → List ℤ → ℕ → List ℤ → List ℤ
+lineAfter N L k t = namedAfter N (stepNumbered L (2 * k + 1)) (namedAfter N (stepNumbered L (2 * k)) t)
 
 -- ---- for the code
-pub named-found : (N : ℕ) (x : NamedStep) (s : Step) → x ≡ Found s → {t w t′ w′ : List ℤ} {r : Bool} → InsertDone N s t w t′ w′ r → NamedDone N x t w t′ w′ r
-named-found N x s e {t} {w} {t′} {w′} {r} d = subst (λ (y : NamedStep). NamedDone N y t w t′ w′ r) (sym e) d
+pub named-found : (N : ℕ) (x : NamedStep) (s : Step) → x ≡ Found s → (t t′ : List ℤ) → t′ ≡ stepAfter N s t → t′ ≡ namedAfter N x t
+named-found N x s e t t′ q = q ∙ ap (λ (y : NamedStep). namedAfter N y t) (sym e)
 
-pub named-nothing : (N : ℕ) (x : NamedStep) → x ≡ Nothing → (t w : List ℤ) → NamedDone N x t w t w true
-named-nothing N x e t w = subst (λ (y : NamedStep). NamedDone N y t w t w true) (sym e) (refl, refl, refl)
+pub named-nothing : (N : ℕ) (x : NamedStep) → x ≡ Nothing → (t : List ℤ) → t ≡ namedAfter N x t
+named-nothing N x e t = ap (λ (y : NamedStep). namedAfter N y t) (sym e)
 
-module _ (N : ℕ) (L : List ℤ) (k : ℕ) (t w t₁ w₁ : List ℤ) (a : Bool) (first : NamedDone N (stepNumbered L (2 * k)) t w t₁ w₁ a) where
-  pub line-no : a ≡ false → LineDone N L k t w t₁ w₁ false
-  line-no e =
-      record {
-        answer = a;
-        table = t₁;
-        scratch = w₁;
-        first = first;
-        second = subst (λ (b : Bool). SecondDone b N (stepNumbered L (2 * k + 1)) t₁ w₁ t₁ w₁ false) (sym e) (refl, refl, refl);
-      }
+pub named-sized : (n : ℕ) (x : NamedStep) (t : List ℤ) → SizedTable n t → SizedTable n (namedAfter (2 * n) x t)
+named-sized n (Found s) t a = record { variables = a .variables; size = after-size (2 * n) s t }
+named-sized n Nothing t a = a
 
-  pub line-on : a ≡ true → (t′ w′ : List ℤ) (r : Bool) → NamedDone N (stepNumbered L (2 * k + 1)) t₁ w₁ t′ w′ r → LineDone N L k t w t′ w′ r
-  line-on e t′ w′ r second =
-      record {
-        answer = a;
-        table = t₁;
-        scratch = w₁;
-        first = first;
-        second = subst (λ (b : Bool). SecondDone b N (stepNumbered L (2 * k + 1)) t₁ w₁ t′ w′ r) (sym e) second;
-      }
+pub line-sized : (n : ℕ) (L : List ℤ) (k : ℕ) (t : List ℤ) → SizedTable n t → SizedTable n (lineAfter (2 * n) L k t)
+line-sized n L k t a = named-sized n (stepNumbered L (2 * k + 1)) _ (named-sized n (stepNumbered L (2 * k)) t a)
 
 -- ---- what it means: the table of the steps with numbers below k becomes that of one more
 module _ (n : ℕ) (L : List ℤ) (ok : LinesOk n L) where
   abbrev N : ℕ
   N = 2 * n
-
-  Meant : List Step → List ℤ → Bool → Type 0
-  Meant F t r = (r ≡ noNegative F N) × (r ≡ true → TableFor n F t)
-
-  named-means : (E : List Step) (t : List ℤ) → TableFor n E t → (x : NamedStep) → ((s : Step) → x ≡ Found s → StepOk n s)
-      → (w t′ w′ : List ℤ) (r : Bool) → NamedDone N x t w t′ w′ r → Meant (E ++ named x) t′ r
-  unfolding Meant
-  named-means E t a (Found s) ready w t′ w′ r d = (insert-answer n E t a s (ready s refl) w t′ w′ r d, insert-table n E t a s (ready s refl) w t′ w′ r d)
-  named-means E t a Nothing ready w t′ w′ r d =
-      rw (append-nil E) (d .0 ∙ sym (no-negative-true E N (a .nonneg)), λ e. rw (d .1) a)
 
   pub ends : (k : ℕ) → EndsBelow N (stepNumbered L k)
   ends k = go (stepNumbered L k) refl
@@ -94,10 +56,15 @@ module _ (n : ℕ) (L : List ℤ) (ok : LinesOk n L) where
       go (Found s) e = let a = numbered-ok n L ok k s e in (a .from-lt, a .to-lt)
       go Nothing e = tt
 
-  number-means : (k : ℕ) (t : List ℤ) → TableFor n (stepsBefore L k) t → (w t′ w′ : List ℤ) (r : Bool)
-      → NamedDone N (stepNumbered L k) t w t′ w′ r → Meant (stepsBefore L (k + 1)) t′ r
-  number-means k t a w t′ w′ r d =
-      subst (λ (F : List Step). Meant F t′ r) (sym (before-more L k)) (named-means (stepsBefore L k) t a (stepNumbered L k) (numbered-ok n L ok k) w t′ w′ r d)
+  named-table : (E : List Step) (t : List ℤ) → TableFor n E t → (x : NamedStep) → ((s : Step) → x ≡ Found s → StepOk n s) → noNegative (E ++ named x) N ≡ true
+      → TableFor n (E ++ named x) (namedAfter N x t)
+  named-table E t a (Found s) ready e = step-table n E t a s (ready s refl) e
+  named-table E t a Nothing ready e = rw (append-nil E) a
+
+  number-table : (k : ℕ) (t : List ℤ) → TableFor n (stepsBefore L k) t → noNegative (stepsBefore L (k + 1)) N ≡ true → TableFor n (stepsBefore L (k + 1)) (namedAfter N (stepNumbered L k) t)
+  number-table k t a e =
+      subst (λ (F : List Step). TableFor n F (namedAfter N (stepNumbered L k) t)) (sym (before-more L k))
+      (named-table (stepsBefore L k) t a (stepNumbered L k) (numbered-ok n L ok k) (ap (λ (F : List Step). noNegative F N) (sym (before-more L k)) ∙ e))
 
   -- a closed walk of negative sum stays
   pub negative-next : (k : ℕ) → WithinPoints N (stepsBefore L k) → noNegative (stepsBefore L k) N ≡ false → noNegative (stepsBefore L (k + 1)) N ≡ false
@@ -109,30 +76,18 @@ module _ (n : ℕ) (L : List ℤ) (ok : LinesOk n L) where
   pub within-next : (k : ℕ) → WithinPoints N (stepsBefore L k) → WithinPoints N (stepsBefore L (k + 1))
   within-next k within = rw (before-more L k) (named-within (stepsBefore L k) N within (stepNumbered L k) (ends k))
 
-  module _ (k : ℕ) (t : List ℤ) (a : TableFor n (stepsBefore L (2 * k)) t) (w t′ w′ : List ℤ) (r : Bool) (done : LineDone N L k t w t′ w′ r) where
-    both : Meant (stepsBefore L (2 * k + 1 + 1)) t′ r
-    unfolding Meant
-    both = go (done .answer) refl (done .second)
-      where
-        one : Meant (stepsBefore L (2 * k + 1)) (done .table) (done .answer)
-        one = number-means (2 * k) t a w (done .table) (done .scratch) (done .answer) (done .first)
+  -- where the lines 0 to k have no closed walk of negative sum, the table is theirs
+  pub line-table : (k : ℕ) (t : List ℤ) → TableFor n (stepsBefore L (2 * k)) t → noNegative (stepsBefore L (2 * (k + 1))) N ≡ true → TableFor n (stepsBefore L (2 * (k + 1))) (lineAfter N L k t)
+  line-table k t a e =
+      subst (λ (j : ℕ). TableFor n (stepsBefore L j) (lineAfter N L k t)) twice
+      (number-table (2 * k + 1) (namedAfter N (stepNumbered L (2 * k)) t) (number-table (2 * k) t a (first (noNegative (stepsBefore L (2 * k + 1)) N) refl)) both)
+    where
+      twice : 2 * k + 1 + 1 ≡ 2 * (k + 1)
+      twice = omega arith
 
-        go : (b : Bool) → done .answer ≡ b → SecondDone b N (stepNumbered L (2 * k + 1)) (done .table) (done .scratch) t′ w′ r → Meant (stepsBefore L (2 * k + 1 + 1)) t′ r
-        go true e d = number-means (2 * k + 1) (done .table) (one .1 e) (done .scratch) t′ w′ r d
-        go false e d = (
-          d .0 ∙ sym (negative-next (2 * k + 1) (within-next (2 * k) (a .within)) (sym (one .0) ∙ e)),
-          (λ q. let clash : true ≡ false = sym q ∙ d .0 in never (cc)),
-        )
+      both : noNegative (stepsBefore L (2 * k + 1 + 1)) N ≡ true
+      both = ap (λ (j : ℕ). noNegative (stepsBefore L j) N) twice ∙ e
 
-    twice : 2 * k + 1 + 1 ≡ 2 * (k + 1)
-    twice = omega arith
-
-    -- the answer is no exactly if the lines 0 to k have a closed walk of negative sum
-    pub line-answer : r ≡ noNegative (stepsBefore L (2 * (k + 1))) N
-    unfolding Meant
-    line-answer = both .0 ∙ ap (λ (j : ℕ). noNegative (stepsBefore L j) N) twice
-
-    -- on a yes the table is that of the lines 0 to k
-    pub line-table : r ≡ true → TableFor n (stepsBefore L (2 * (k + 1))) t′
-    unfolding Meant
-    line-table e = subst (λ (j : ℕ). TableFor n (stepsBefore L j) t′) twice (both .1 e)
+      first : (b : Bool) → noNegative (stepsBefore L (2 * k + 1)) N ≡ b → b ≡ true
+      first true q = refl
+      first false q = let clash : true ≡ false = sym both ∙ negative-next (2 * k + 1) (within-next (2 * k) (a .within)) q in never (cc)

@@ -1,5 +1,5 @@
--- The verdict on a list that grows by a line, where the list had a solution: the line is not false, `insert_line` says yes, and the halves in the table
--- that it leaves are consistent.
+-- The verdict on a list that grows by a line, where the list had a solution: the line is not false, its steps close no walk of negative sum, and the halves
+-- in the distances with them are consistent.
 use mathlib.Core.Path.{_≡_, refl, sym, ap, ap₂, _∙_}
 use mathlib.Core.Bool.{Bool, true, false, not, _&&_, _||_}
 use mathlib.Core.List.{List, [], _∷_, _++_}
@@ -16,12 +16,12 @@ use Rattle.lines.specs.LineNumbers.{length-numbers, lines-snoc}
 use Rattle.lines.specs.Valid.{LinesOk}
 use Rattle.steps.specs.Step.{stepsOf}
 use Rattle.theory_walks.specs.Negative.{noNegative}
-use Rattle.theory_bounds.specs.Agree.{all-ok-same}
+use Rattle.theory_bounds.specs.Tight.{Table}
+use Rattle.theory_bounds.specs.Agree.{Agree, all-ok-same}
 use Rattle.theory_bounds.specs.Verdict.{hasFalse, distances, halvesOk, consistentHalves, verdictOf}
-use Rattle.decide_stored_table.specs.Table.{tableOf}
-use Rattle.session_step.specs.Meaning.{TableFor, agree}
-use Rattle.session_line.specs.Both.{AddDone}
-use Rattle.session_line.specs.Longer.{longer-answer, longer-table}
+use Rattle.session_step.specs.Meaning.{TableFor}
+use Rattle.session_line.specs.Both.{lineStaysIn}
+use Rattle.session_line.specs.Longer.{longer-answer}
 
 -- a false line behind others
 false-more : (ls : List Line) (l : Line) → hasFalse ls ≡ false → hasFalse (ls ++ l ∷ []) ≡ isFalse l
@@ -57,24 +57,24 @@ module _ (n : ℕ) (L : List ℤ) (l : Line) (whole : length L % lineSize ≡ 0)
   unfolding verdictOf
   false-verdict e = ap (λ (b : Bool). not b && (noNegative (stepsOf ls) (2 * n) && consistentHalves n ls)) (false-is ∙ e)
 
-  -- by the line, the insertion and the halves
-  module _ (ok : LinesOk n (L ++ lineNumbers l)) (t : List ℤ) (a : TableFor n (stepsOf (linesOf L)) t) (w t′ w′ : List ℤ) (r : Bool)
-      (done : AddDone (2 * n) (L ++ lineNumbers l) (lineCount L) t w t′ w′ r) where
+  -- by the line, the walks and the halves; D is what the table is read as with the line
+  module _ (ok : LinesOk n (L ++ lineNumbers l)) (t : List ℤ) (a : TableFor n (stepsOf (linesOf L)) t) where
     one : lineCount (lineNumbers l) ≡ 1
     one = omega (arith, length-numbers l)
 
-    walks-are : noNegative (stepsOf ls) (2 * n) ≡ r
-    walks-are = sym (longer-answer L (lineNumbers l) whole n ok one t a w t′ w′ r done)
+    abbrev stay : Bool
+    stay = lineStaysIn (2 * n) (L ++ lineNumbers l) (lineCount L) t
 
-    -- where the insertion says no, halves are not asked for
-    halves-are : (b : Bool) → r ≡ b → (b && consistentHalves n ls) ≡ (b && allBelow (2 * n) (halvesOk (tableOf (2 * n) t′)))
+    -- where a closed walk is negative, halves are not asked for
+    halves-are : (D : Table) → (lineStaysIn (2 * n) (L ++ lineNumbers l) (lineCount L) t ≡ true → Agree (2 * n) D (distances n (linesOf (L ++ lineNumbers l))))
+        → (b : Bool) → stay ≡ b → (b && consistentHalves n ls) ≡ (b && allBelow (2 * n) (halvesOk D))
     unfolding consistentHalves
-    halves-are false e = refl
-    halves-are true e =
-        let longer = longer-table L (lineNumbers l) whole n ok one t a w t′ w′ r done e in
-        sym (all-ok-same n (tableOf (2 * n) t′) (distances n ls) (agree n (stepsOf ls) t′ longer))
+    halves-are D same false e = refl
+    halves-are D same true e = sym (all-ok-same n D (distances n ls) (same e))
 
-    pub longer-verdict : verdictOf n (linesOf (L ++ lineNumbers l)) ≡ (not (isFalse l) && (r && allBelow (2 * n) (halvesOk (tableOf (2 * n) t′))))
+    pub longer-verdict : (D : Table) → (lineStaysIn (2 * n) (L ++ lineNumbers l) (lineCount L) t ≡ true → Agree (2 * n) D (distances n (linesOf (L ++ lineNumbers l))))
+        → verdictOf n (linesOf (L ++ lineNumbers l)) ≡ (not (isFalse l) && (lineStaysIn (2 * n) (L ++ lineNumbers l) (lineCount L) t && allBelow (2 * n) (halvesOk D)))
     unfolding verdictOf
-    longer-verdict =
-        ap₂ (λ (p q : Bool). not p && q) false-is (ap (λ (b : Bool). b && consistentHalves n ls) walks-are ∙ halves-are r refl)
+    longer-verdict D same =
+        ap₂ (λ (p q : Bool). not p && q) false-is
+        (ap (λ (b : Bool). b && consistentHalves n ls) (sym (longer-answer L (lineNumbers l) whole n ok one t a)) ∙ halves-are D same stay refl)

@@ -1,12 +1,10 @@
--- What each call of a session answers and leaves, whatever stands in the state: the promise of the three calls.
+-- What each call of a session answers and leaves, whatever stands in the state: the promise of the three calls, an equation each but for the walks of a no.
 --
--- A call takes the state as any numbers. Whether it is refused, and all that it leaves in the state, is fixed for all of them but for the table, and where the
--- state stands (`Stands`), that too; there an add answers and leaves what deciding does. Of a state that does not stand the answer may be wrong: an add then
--- answers and leaves what deciding does, or says yes and leaves what the table gives.
+-- A call takes the state as any numbers. Where the state stands (`Stands`), an add answers and leaves what deciding all lines so far does, and the table that
+-- it leaves is theirs (Standing.antt). A table that is not that of the lines may make a wrong answer; what it is, is fixed here, too.
 use mathlib.Core.Path.{_≡_}
-use mathlib.Core.Logic.{_↔_, _⊎_}
 use mathlib.Core.Bool.{Bool, true, false, not}
-use mathlib.Core.List.{List, [], _∷_, _++_}
+use mathlib.Core.List.{List, [], _++_}
 use Prim.Native.Nat.{ℕ}
 use lib.Dec.{ltb, eqb}
 use lib.IntN.{ℤ}
@@ -23,9 +21,11 @@ use Rattle.theory_bounds.specs.Verdict.{verdictOf}
 use Rattle.decide_buffers.specs.Room.{Lent}
 use Rattle.decide.specs.declared.Answer.{Answer}
 use Rattle.decide.specs.declared.Answer.the-variants as decide
-use Rattle.decide.specs.Decided.{NotRefused, unlessRefused, answerFor, cleared, Decided}
+use Rattle.decide.specs.Decided.{unlessRefused, validityFor, answerFor, cleared, Leaves}
 use Rattle.session_outputs.specs.Outputs.{OutputsDone}
-use Rattle.session_state.specs.State.{tableRoom, sessionRoom, stateOf, kept, tableFor, variablesIn, countIn, refusedIn, numbersWith, isState, pushed, popped, withTable}
+use Rattle.session_state.specs.State.{sessionRoom, stateOf, kept, variablesIn, countIn, refusedIn, numbersWith, tableIn, isState, pushed, popped, withTable}
+use Rattle.session_learn.specs.Learnt.{learns, learnt}
+use Rattle.session_remake.specs.Remade.{remadeTable}
 
 -- the place of the state among the buffers that may be too short
 abbrev pub statePlace : ℕ
@@ -62,9 +62,21 @@ pub record Starts (n : ℕ) (s : List ℤ) (answer : Validity) (t : List ℤ) : 
 abbrev pub addValidity : List ℤ → Validity
 addValidity s = refuseIf (not (isState s)) noState orElse refuseIf (refusedIn s) AfterNo
 
--- a session that was refuted takes no line; else the answer is that of deciding all lines so far, and so are the other refusals
+-- whether the state's table learns the line, and the table that is left: with the line, or as it was
+abbrev pub learnsIn : List ℤ → Line → Bool
+learnsIn s l = learns (variablesIn s) (numbersWith s l) (countIn s) (tableIn (variablesIn s) s)
+
+abbrev pub learntTable : List ℤ → Line → List ℤ
+learntTable s l = learnt (variablesIn s) (numbersWith s l) (countIn s) (tableIn (variablesIn s) s)
+
+-- yes where the line is learnt, else what deciding the list L answers
+abbrev pub learntAnswer : Bool → ℕ → List ℤ → Lent → Answer
+learntAnswer true n L b = decide.Yes
+learntAnswer false n L b = answerFor n L b
+
+-- a session that was refuted takes no line; all else is refused as deciding all lines so far is
 unfoldable pub addAnswer : List ℤ → Line → Lent → Answer
-addAnswer s l b = unlessRefused (addValidity s) (answerFor (variablesIn s) (numbersWith s l) b)
+addAnswer s l b = unlessRefused (addValidity s) (unlessRefused (validityFor (variablesIn s) (numbersWith s l) b) (learntAnswer (learnsIn s l) (variablesIn s) (numbersWith s l) b))
 
 -- the line is part of the state, after a no too; with a table u
 abbrev pub addState : List ℤ → Line → List ℤ → Answer → List ℤ
@@ -79,38 +91,34 @@ pub record FromTable (n : ℕ) (u : List ℤ) (b a : Lent) : Type 0 where
   pub identifiers : a .identifiers ≡ b .identifiers
   pub work : a .work ≡ cleared n (b .work)
 
--- by deciding the list L, or from the table
-abbrev pub EitherWay : ℕ → List ℤ → Answer → Lent → Lent → List ℤ → Type 0
-EitherWay n L answer b a u = Decided n L answer b a ⊎ ((answer ≡ decide.Yes) × FromTable n u b a)
+-- what is left where the line is learnt, by the table u, and where the list L is decided
+abbrev pub LearntLeft : Bool → ℕ → List ℤ → List ℤ → Answer → Lent → Lent → Type 0
+LearntLeft true n L u x b a = FromTable n u b a
+LearntLeft false n L u x b a = Leaves n L x b a
 
--- all lines so far are decided, and the table is theirs on a yes, that of the lines before on a no
-pub record Learns (n : ℕ) (ls : List Line) (l : Line) (answer : Answer) (b a : Lent) (u : List ℤ) : Type 0 where
-  pub decided : Decided n (numbersOf (ls ++ l ∷ [])) answer b a
-  pub yes : answer ≡ decide.Yes → u ≡ tableFor n (ls ++ l ∷ [])
-  pub no : answer ≡ decide.No → u ≡ tableFor n ls
+abbrev pub AddLeft : Answer → List ℤ → Line → Lent → Lent → Type 0
+AddLeft decide.Yes s l b a = LearntLeft (learnsIn s l) (variablesIn s) (numbersWith s l) (learntTable s l) decide.Yes b a
+AddLeft decide.No s l b a = LearntLeft (learnsIn s l) (variablesIn s) (numbersWith s l) (learntTable s l) decide.No b a
+AddLeft (decide.Refused r) s l b a = a ≡ b
 
 pub record Adds (s : List ℤ) (l : Line) (answer : Answer) (b : Lent) (t : List ℤ) (a : Lent) : Type 0 where
-  -- refused exactly as deciding all lines so far is
-  pub refused : (r : Refusal) → (answer ≡ decide.Refused r) ↔ (addAnswer s l b ≡ decide.Refused r)
-  pub unchanged : (r : Refusal) → answer ≡ decide.Refused r → a ≡ b
-  pub table : List ℤ
-  pub size : NotRefused answer → length table ≡ tableRoom (variablesIn s)
-  pub state : t ≡ addState s l table answer
-  pub either : NotRefused answer → EitherWay (variablesIn s) (numbersWith s l) answer b a table
-  pub learns : (n : ℕ) (ls : List Line) → Stands n ls false s → Learns n ls l answer b a table
+  pub is : answer ≡ addAnswer s l b
+  pub state : t ≡ addState s l (learntTable s l) answer
+  pub left : AddLeft answer s l b a
 
 -- ---- the last line is withdrawn
 unfoldable pub withdrawAnswer : List ℤ → Validity
 withdrawAnswer s = refuseIf (not (isState s)) noState orElse refuseIf (eqb (countIn s) 0) NoLines
 
-abbrev pub withdrawState : List ℤ → List ℤ → Validity → List ℤ
-withdrawState s u validity.Valid = popped (withTable (variablesIn s) s u)
-withdrawState s u (validity.Refused r) = s
+-- the table that is left: after a no it is that of the lines before already, else it is made anew
+abbrev pub tableBefore : Bool → List ℤ → List ℤ
+tableBefore true s = tableIn (variablesIn s) s
+tableBefore false s = remadeTable s
+
+abbrev pub withdrawState : List ℤ → Validity → List ℤ
+withdrawState s validity.Valid = popped (withTable (variablesIn s) s (tableBefore (refusedIn s) s))
+withdrawState s (validity.Refused r) = s
 
 pub record Withdraws (s : List ℤ) (answer : Validity) (t : List ℤ) : Type 0 where
   pub is : answer ≡ withdrawAnswer s
-  pub table : List ℤ
-  pub size : answer ≡ validity.Valid → length table ≡ tableRoom (variablesIn s)
-  pub state : t ≡ withdrawState s table answer
-  -- the table is that of the lines that are left
-  pub learned : (n : ℕ) (ls : List Line) (l : Line) (refused : Bool) → Stands n (ls ++ l ∷ []) refused s → table ≡ tableFor n ls
+  pub state : t ≡ withdrawState s answer

@@ -6,20 +6,20 @@
 use mathlib.Core.Path.{_≡_, refl, sym, ap, subst, _∙_}
 use mathlib.Core.Bool.{Bool, true, false, not, cond}
 use mathlib.Core.List.{List, [], _∷_, _++_, append-assoc, append-nil}
-use Prim.Native.Nat.{ℕ, _+_, _%_, _<_, _≤_}
+use Prim.Native.Nat.{ℕ, _+_, _-_, _*_, _%_, _<_, _≤_}
 use native.Mathlib.Omega.{arith}
 use borrow.Author.Tests.{ltb-false, le-ltb, eq-eqb, ne-eqb}
 use lib.Dec.{ltb, eqb}
 use lib.IntN.{ℤ, pos}
-use lib.ListN.{length, drop}
-use lib.Seq.{drop-at}
+use lib.ListN.{length, take, drop}
+use lib.Seq.{take-at, drop-at}
 use Rattle.lines.specs.declared.Line.{Line}
 use Rattle.lines.specs.declared.Refusal.{Refusal}
 use Rattle.lines.specs.declared.Refusal.the-variants.{TooManyVariables, BrokenLength, TooManyLines, AfterNo, NoLines}
 use Rattle.lines.specs.declared.Validity.{Validity}
 use Rattle.lines.specs.declared.Validity.the-variants as validity
 use Rattle.lines.specs.Limits.{lineSize, maxVariables, maxLines}
-use Rattle.lines.specs.Line.{lineCount, linesOf, numbersOf, Solvable}
+use Rattle.lines.specs.Line.{lineCount, linesOf, lineNumbers, numbersOf, Solvable}
 use Rattle.lines.specs.LineNumbers.{length-numbersOf, lines-of-numbers}
 use Rattle.lines.specs.Refusal.{_orElse_, refuseIf, lineValidity, linesValidity, validityOf}
 use Rattle.lines.specs.Valid.{or-valid, not-refused, workable}
@@ -30,10 +30,11 @@ use Rattle.decide.specs.declared.Answer.{Answer}
 use Rattle.decide.specs.declared.Answer.the-variants as decide
 use Rattle.decide.specs.Decided.{NotRefused, unlessRefused, answerFor, validityFor, Decided, decide-ok}
 use Rattle.decide.specs.Parts.{answered-valid, yes-answers, no-answers, yes-verdict, no-verdict}
-use Rattle.session_state.specs.State.{sessionRoom, stateOf, kept, tableFor, countIn}
-use Rattle.session_state.specs.Session.{length-more, length-state, kept-no}
-use Rattle.session_promise.specs.Promise.{Stands, startAnswer, addState, withdrawAnswer, withdrawState, Starts, Learns, Adds, Withdraws}
-use Rattle.session_promise.specs.Standing.{variables-few, lines-few, stands, empty, shorter, shorter-yes, is-state, count, add-answer, pushed-to, popped-to}
+use Rattle.session_state.specs.State.{sessionRoom, stateOf, kept, tableFor, countIn, refusedIn, tableIn}
+use Rattle.session_state.specs.Session.{numbers-more, length-more, length-state, kept-no}
+use Rattle.session_remake.specs.Remade.{numbersBefore, remade-is}
+use Rattle.session_promise.specs.Promise.{Stands, startAnswer, addState, withdrawAnswer, withdrawState, learntTable, tableBefore, AddLeft, Starts, Adds, Withdraws}
+use Rattle.session_promise.specs.Standing.{variables-few, lines-few, stands, empty, shorter, shorter-yes, is-state, variables, count, refused-in, numbers, table-read, add-answer, pushed-to, popped-to, Learns, stand-learns}
 
 -- ---- the states that are reached, with n, the lines so far and whether the last answer was a no; a refused call leaves the state as it was
 pub data Reached : ℕ → List Line → Bool → List ℤ → Type 0 where
@@ -99,14 +100,30 @@ module _ (n : ℕ) (ls : List Line) (l : Line) (v : validityOf n (numbersOf ls) 
   unfolding decideValidity
   add-validity b = ap (λ (u : Validity). u orElse roomsValidity n (lengthsOf b)) one-more-validity
 
+-- ---- the table that a withdrawal leaves is that of the lines before
+before-is : {n : ℕ} (ls : List Line) (l : Line) {r : Bool} {s : List ℤ} → Stands n (ls ++ l ∷ []) r s → numbersBefore s ≡ numbersOf ls
+before-is ls l {s = s} k =
+    let end : length (numbersOf ls) ≡ lineSize * (countIn s - 1) = omega (arith, length-numbersOf ls, count k, length-more ls l) in
+    ap (take (lineSize * (countIn s - 1))) (numbers k ∙ numbers-more ls l) ∙ take-at (numbersOf ls) (lineNumbers l) (lineSize * (countIn s - 1)) end
+
+table-left : {n : ℕ} (ls : List Line) (l : Line) {r : Bool} {s : List ℤ} → Stands n (ls ++ l ∷ []) r s → tableBefore (refusedIn s) s ≡ tableFor n ls
+table-left {n} ls l {r} {s} k = ap (λ (q : Bool). tableBefore q s) (refused-in k) ∙ go r k
+  where
+    go : (q : Bool) → Stands n (ls ++ l ∷ []) q s → tableBefore q s ≡ tableFor n ls
+    go true stood = ap (λ (m : ℕ). tableIn m s) (variables stood) ∙ table-read stood ∙ ap (tableFor n) (kept-no ls l)
+    go false stood =
+        remade-is s ls (before-is ls l stood) (subst (λ (j : ℕ). validityOf j (numbersOf ls) ≡ validity.Valid) (sym (variables stood)) (shorter n ls l (stood .valid)))
+        (subst (λ (j : ℕ). verdictOf j ls ≡ true) (sym (variables stood)) (shorter-yes n ls l (stood .valid) (stood .solvable)))
+        ∙ ap (λ (j : ℕ). tableFor j ls) (variables stood)
+
 -- ---- what each call does at what stands in the state
 module _ {n : ℕ} {ls : List Line} {r : Bool} {s : List ℤ} (k : Stands n ls r s) where
   module _ (l : Line) {x : Answer} {b : Lent} {t : List ℤ} {a : Lent} (d : Adds s l x b t a) where
     after-no : r ≡ true → x ≡ decide.Refused AfterNo
-    after-no e = d .refused AfterNo .1 (add-answer k l b ∙ ap (λ (q : Bool). unlessRefused (refuseIf q AfterNo) (answerFor n (numbersOf (ls ++ l ∷ [])) b)) e)
+    after-no e = d .is ∙ (add-answer k l b ∙ ap (λ (q : Bool). unlessRefused (refuseIf q AfterNo) (answerFor n (numbersOf (ls ++ l ∷ [])) b)) e)
 
-    learns : r ≡ false → Learns n ls l x b a (d .table)
-    learns e = d .learns n ls (subst (λ (q : Bool). Stands n ls q s) e k)
+    learns : r ≡ false → Learns n ls l x b a (learntTable s l)
+    learns e = stand-learns (subst (λ (q : Bool). Stands n ls q s) e k) l d
 
     -- an answer comes only where the last was no no
     pub went-on : NotRefused x → r ≡ false
@@ -127,12 +144,12 @@ module _ {n : ℕ} {ls : List Line} {r : Bool} {s : List ℤ} (k : Stands n ls r
     state-yes : x ≡ decide.Yes → t ≡ stateOf n (ls ++ l ∷ []) false ++ drop (sessionRoom n) s
     state-yes e =
         let h : NotRefused x = subst NotRefused (sym e) yes-answers in
-        d .state ∙ ap (addState s l (d .table)) e ∙ pushed-to k l false (d .table) (room-left h) (learns (went-on h) .yes e)
+        d .state ∙ ap (addState s l (learntTable s l)) e ∙ pushed-to k l false (learntTable s l) (room-left h) (learns (went-on h) .yes e)
 
     state-no : x ≡ decide.No → t ≡ stateOf n (ls ++ l ∷ []) true ++ drop (sessionRoom n) s
     state-no e =
         let h : NotRefused x = subst NotRefused (sym e) no-answers in
-        d .state ∙ ap (addState s l (d .table)) e ∙ pushed-to k l true (d .table) (room-left h) (learns (went-on h) .no e ∙ ap (tableFor n) (sym (kept-no ls l)))
+        d .state ∙ ap (addState s l (learntTable s l)) e ∙ pushed-to k l true (learntTable s l) (room-left h) (learns (went-on h) .no e ∙ ap (tableFor n) (sym (kept-no ls l)))
 
     pub adds-to : AddsTo n ls r s l x b t a
     adds-to =
@@ -141,7 +158,7 @@ module _ {n : ℕ} {ls : List Line} {r : Bool} {s : List ℤ} (k : Stands n ls r
           afresh = λ e. learns e .decided;
           yes = state-yes;
           no = state-no;
-          unchanged = λ q e. (d .state ∙ ap (addState s l (d .table)) e, d .unchanged q e);
+          unchanged = λ q e. (d .state ∙ ap (addState s l (learntTable s l)) e, subst (λ (y : Answer). AddLeft y s l b a) e (d .left));
         }
 
     -- the state after it stands: its last answer was right
@@ -180,13 +197,13 @@ module _ {n : ℕ} {ls : List Line} {r : Bool} {s : List ℤ} (k : Stands n ls r
         none = λ e.
             let zero : countIn s ≡ 0 = count k ∙ ap length e in
             let q : x ≡ validity.Refused NoLines = d .is ∙ rw (is-state k, eq-eqb (countIn s) 0 zero) refl in
-            (q, d .state ∙ ap (withdrawState s (d .table)) q);
+            (q, d .state ∙ ap (withdrawState s) q);
         last = λ ms l e.
             let some : countIn s ≡ length ms + 1 = count k ∙ ap length e ∙ length-more ms l in
             let more : eqb (countIn s) 0 ≡ false = ne-eqb (countIn s) 0 (λ z. absurd (omega arith)) in
             let q : x ≡ validity.Valid = d .is ∙ rw (is-state k, more) refl in
             let with : Stands n (ms ++ l ∷ []) r s = subst (λ (ks : List Line). Stands n ks r s) e k in
-            (q, d .state ∙ ap (withdrawState s (d .table)) q ∙ popped-to ms l with (d .table) (d .learned n ms l r with));
+            (q, d .state ∙ ap (withdrawState s) q ∙ popped-to ms l with (tableBefore (refusedIn s) s) (table-left ms l with));
       }
 
 -- the lines before have a solution, whether the last answer was a yes or a no

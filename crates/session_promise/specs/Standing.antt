@@ -1,5 +1,5 @@
 -- What is read from the numbers of a state that stands, and what the calls make of it.
-use mathlib.Core.Path.{_≡_, refl, sym, ap, subst, _∙_}
+use mathlib.Core.Path.{_≡_, refl, sym, ap, ap₂, subst, _∙_}
 use mathlib.Core.Bool.{Bool, true, false, not, _&&_}
 use mathlib.Core.List.{List, [], _∷_, _++_}
 use Prim.Native.Nat.{ℕ, _+_, _*_, _%_, _<_, _≤_}
@@ -7,7 +7,7 @@ use native.Mathlib.Omega.{arith}
 use borrow.Author.Tests.{le-ltb}
 use lib.IntN.{ℤ}
 use lib.ListN.{length, drop, length-append}
-use Rattle.integers.specs.Laws.{never, and-true}
+use Rattle.integers.specs.Laws.{and-true}
 use Rattle.lines.specs.declared.Line.{Line}
 use Rattle.lines.specs.declared.Refusal.{Refusal}
 use Rattle.lines.specs.declared.Refusal.the-variants.{AfterNo}
@@ -15,11 +15,11 @@ use Rattle.lines.specs.declared.Validity.{Validity}
 use Rattle.lines.specs.declared.Validity.the-variants as validity
 use Rattle.lines.specs.Fits.{numbers-fit}
 use Rattle.lines.specs.Limits.{lineSize, maxVariables, maxLines}
-use Rattle.lines.specs.Line.{lineCount, lineNumbers, numbersOf, Solves}
+use Rattle.lines.specs.Line.{lineCount, linesOf, lineNumbers, numbersOf, Solves}
 use Rattle.lines.specs.LineNumbers.{length-numbers, length-numbersOf, lines-of-numbers}
 use Rattle.lines.specs.Refusal.{refuseIf, linesValidity, validityOf}
 use Rattle.lines.specs.Solutions.{solves-append}
-use Rattle.lines.specs.Valid.{AllOk, valid-list, shorter-valid, workable}
+use Rattle.lines.specs.Valid.{AllOk, LinesOk, valid-list, shorter-valid, workable, modellable}
 use Rattle.steps.specs.Step.{stepsOf}
 use Rattle.theory_walks.specs.Graph.{ends-points, weights-small}
 use Rattle.theory_walks.specs.Negative.{noNegative, no-negative-yes}
@@ -29,12 +29,15 @@ use Rattle.theory_answers.specs.Longer.{yes-before}
 use Rattle.decide_buffers.specs.Room.{Lent}
 use Rattle.decide.specs.declared.Answer.{Answer}
 use Rattle.decide.specs.declared.Answer.the-variants as decide
-use Rattle.decide.specs.Decided.{unlessRefused, answerFor, validityFor, Decided, refused}
+use Rattle.decide.specs.Decided.{NotRefused, unlessRefused, answerFor, validityFor, Leaves, decideAnswer, Decided, decide-ok, judged-yes, refused}
+use Rattle.decide.specs.Parts.{answered-valid, yes-answers, no-answers, yes-verdict, no-verdict}
 use Rattle.session_step.specs.Meaning.{TableFor}
+use Rattle.session_learn.specs.Learnt.{learns, learnt, learnt-no, learn-verdict, learn-table}
+use Rattle.session_outputs.specs.Meaning.{learned-model, learned-bounds, learned-groups}
 use Rattle.session_state.specs.State.{tableRoom, sessionRoom, frontOf, stateOf, kept, tableFor, variablesIn, countIn, refusedIn, numbersIn, numbersWith, tableIn, isState, pushed, popped, withTable}
 use Rattle.session_state.specs.Laws.{all-fit, state-head, length-numbersIn}
 use Rattle.session_state.specs.Session.{numbers-more, length-more, length-front, variables-is, count-is, refused-is, numbers-is, state-is, pushed-is, popped-is, table-is, with-is, beyond-is, table-size, state-front}
-use Rattle.session_promise.specs.Promise.{Stands, addValidity, addAnswer, Learns, Adds, noState}
+use Rattle.session_promise.specs.Promise.{Stands, addValidity, learnsIn, learntTable, learntAnswer, addAnswer, FromTable, LearntLeft, AddLeft, Adds, noState}
 
 -- ---- a valid list of lines, and its state
 module _ (n : ℕ) (ls : List Line) (v : validityOf n (numbersOf ls) ≡ validity.Valid) where
@@ -146,13 +149,6 @@ module _ {n : ℕ} {ls : List Line} {r : Bool} {s : List ℤ} (k : Stands n ls r
     pub all-numbers : numbersWith s l ≡ numbersOf (ls ++ l ∷ [])
     all-numbers = ap (λ (x : List ℤ). x ++ lineNumbers l) numbers ∙ sym (numbers-more ls l)
 
-    pub add-answer : (b : Lent) → addAnswer s l b ≡ unlessRefused (refuseIf r AfterNo) (answerFor n (numbersOf (ls ++ l ∷ [])) b)
-    unfolding addAnswer
-    add-answer b =
-        ap (λ (v : Validity). unlessRefused v (answerFor (variablesIn s) (numbersWith s l) b)) state-validity
-        ∙ ap (λ (m : ℕ). unlessRefused (refuseIf r AfterNo) (answerFor m (numbersWith s l) b)) variables
-        ∙ ap (λ (L : List ℤ). unlessRefused (refuseIf r AfterNo) (answerFor n L b)) all-numbers
-
     -- the state with one line more, and its table
     pub pushed-to : (q : Bool) (u : List ℤ) → length ls < maxLines → u ≡ tableFor n (kept (ls ++ l ∷ []) q)
         → pushed (withTable (variablesIn s) s u) l q ≡ stateOf n (ls ++ l ∷ []) q ++ drop (sessionRoom n) s
@@ -173,36 +169,157 @@ popped-to {n} ls l {r} {s} k u e =
     ∙ ap (λ (x : List ℤ). frontOf n ls false ++ (x ++ beyond)) e
     ∙ sym (state-front n ls false beyond)
 
-pub decided-same : {n m : ℕ} {L M : List ℤ} {x : Answer} {b a : Lent} → n ≡ m → L ≡ M → Decided n L x b a → Decided m M x b a
-decided-same {n} {m} {L} {M} {x} {b} {a} p q d = subst (λ (j : ℕ). Decided j M x b a) p (subst (λ (N : List ℤ). Decided n N x b a) q d)
+-- ---- a line learnt at a state that stands: its table is that of the lines, and these have a solution
+module _ {n : ℕ} {ls : List Line} {s : List ℤ} (k : Stands n ls false s) (l : Line) where
+  abbrev K : List ℤ
+  K = numbersOf ls
+
+  abbrev more : List ℤ
+  more = numbersOf (ls ++ l ∷ [])
+
+  whole : length (numbersOf ls) % lineSize ≡ 0
+  whole = omega (arith, length-numbersOf ls)
+
+  lines : linesOf (numbersOf ls) ≡ ls
+  lines = lines-of-numbers ls
+
+  table-of : TableFor n (stepsOf (linesOf (numbersOf ls))) (tableFor n ls)
+  table-of = subst (λ (ms : List Line). TableFor n (stepsOf ms) (tableFor n ls)) (sym lines) (table-holds n ls (k .valid) (k .solvable))
+
+  yes-so-far : verdictOf n (linesOf (numbersOf ls)) ≡ true
+  yes-so-far = ap (verdictOf n) lines ∙ k .solvable
+
+  -- what learning is asked, in the words of the session
+  asked : {A : Type 0} (f : ℕ → List ℤ → ℕ → List ℤ → A) → f (variablesIn s) (numbersWith s l) (countIn s) (tableIn (variablesIn s) s) ≡ f n (numbersOf ls ++ lineNumbers l) (lineCount (numbersOf ls)) (tableFor n ls)
+  asked f =
+      ap (λ (m : ℕ). f m (numbersWith s l) (countIn s) (tableIn m s)) (variables k)
+      ∙ ap₂ (λ (L t : List ℤ). f n L (countIn s) t) (ap (λ (x : List ℤ). x ++ lineNumbers l) (numbers k)) (table-read k)
+      ∙ ap (λ (j : ℕ). f n (numbersOf ls ++ lineNumbers l) j (tableFor n ls)) (count k ∙ sym (count-of n ls (k .valid)))
+
+  module _ (v : validityOf n (numbersOf (ls ++ l ∷ [])) ≡ validity.Valid) where
+    lines-ready : LinesOk n (numbersOf ls ++ lineNumbers l)
+    lines-ready = subst (LinesOk n) (numbers-more ls l) (workable n more v .lines)
+
+    -- it is learnt exactly if all lines so far have a solution,
+    pub learns-verdict : learnsIn s l ≡ verdictOf n (linesOf (numbersOf (ls ++ l ∷ [])))
+    learns-verdict =
+        asked learns
+        ∙ learn-verdict n (numbersOf ls) l whole lines-ready yes-so-far (tableFor n ls) table-of
+        ∙ ap (λ (L : List ℤ). verdictOf n (linesOf L)) (sym (numbers-more ls l))
+
+    -- and then the table is theirs
+    table-more : learnsIn s l ≡ true → TableFor n (stepsOf (linesOf (numbersOf (ls ++ l ∷ [])))) (learntTable s l)
+    table-more e =
+        subst (λ (t : List ℤ). TableFor n (stepsOf (linesOf more)) t) (sym (asked learnt))
+        (subst (λ (L : List ℤ). TableFor n (stepsOf (linesOf L)) (learnt n (numbersOf ls ++ lineNumbers l) (lineCount (numbersOf ls)) (tableFor n ls))) (sym (numbers-more ls l))
+        (learn-table n (numbersOf ls) l whole lines-ready yes-so-far (tableFor n ls) table-of (sym (asked learns) ∙ e)))
+
+    pub learnt-table : learnsIn s l ≡ true → learntTable s l ≡ tableFor n (ls ++ l ∷ [])
+    learnt-table e = table-more e .is ∙ ap (tableFor n) (lines-of-numbers (ls ++ l ∷ []))
+
+    -- what is read off it is what deciding writes
+    from-table : learnsIn s l ≡ true → {b a : Lent} → FromTable n (learntTable s l) b a → Leaves n (numbersOf (ls ++ l ∷ [])) decide.Yes b a
+    from-table e {b} {a} o =
+        let works = workable n more v in
+        let modelled = modellable n more v in
+        let yes : verdictOf n (linesOf more) ≡ true = sym learns-verdict ∙ e in
+        record {
+          model = learned-model n more works modelled yes (learntTable s l) (table-more e) (b .model) (b .bounds) (b .groups) (a .model) (a .bounds) (a .groups) (o .outputs);
+          bounds = learned-bounds n more works modelled yes (learntTable s l) (table-more e) (b .model) (b .bounds) (b .groups) (a .model) (a .bounds) (a .groups) (o .outputs);
+          groups = learned-groups n more works modelled yes (learntTable s l) (table-more e) (b .model) (b .bounds) (b .groups) (a .model) (a .bounds) (a .groups) (o .outputs);
+          refutation = o .refutation;
+          identifiers = o .identifiers;
+          work = o .work;
+        }
+
+  -- else it is as it was
+  pub kept-table : learnsIn s l ≡ false → learntTable s l ≡ tableFor n ls
+  kept-table e = sym (learnt-no (variablesIn s) (numbersWith s l) (countIn s) (tableIn (variablesIn s) s) e) ∙ ap (λ (m : ℕ). tableIn m s) (variables k) ∙ table-read k
+
+-- ---- so an add is answered as deciding all lines so far is, after a no it is refused
+answer-yes : (n : ℕ) (L : List ℤ) (b : Lent) → validityFor n L b ≡ validity.Valid → verdictOf n (linesOf L) ≡ true → decide.Yes ≡ answerFor n L b
+unfolding decideAnswer
+answer-yes n L b e v = judged-yes n L (validityFor n L b) e v
+
+pub add-answer : {n : ℕ} {ls : List Line} {r : Bool} {s : List ℤ} → Stands n ls r s → (l : Line) (b : Lent) → addAnswer s l b ≡ unlessRefused (refuseIf r AfterNo) (answerFor n (numbersOf (ls ++ l ∷ [])) b)
+unfolding addAnswer
+add-answer {n} {ls} {r} {s} k l b =
+    ap₂ (λ (u : Validity) (x : Answer). unlessRefused u x) (state-validity k)
+    (ap₂ (λ (m : ℕ) (L : List ℤ). unlessRefused (validityFor m L b) (learntAnswer (learnsIn s l) m L b)) (variables k) (all-numbers k l))
+    ∙ by-state r k
+  where
+    L : List ℤ
+    L = numbersOf (ls ++ l ∷ [])
+
+    by-list : Stands n ls false s → (u : Validity) → validityFor n (numbersOf (ls ++ l ∷ [])) b ≡ u → unlessRefused u (learntAnswer (learnsIn s l) n (numbersOf (ls ++ l ∷ [])) b) ≡ answerFor n (numbersOf (ls ++ l ∷ [])) b
+    by-list stood validity.Valid e = go (learnsIn s l) refl
+      where
+        go : (c : Bool) → learnsIn s l ≡ c → learntAnswer c n (numbersOf (ls ++ l ∷ [])) b ≡ answerFor n (numbersOf (ls ++ l ∷ [])) b
+        go true q = answer-yes n (numbersOf (ls ++ l ∷ [])) b e (sym (learns-verdict stood l (decide-ok n (numbersOf (ls ++ l ∷ [])) b e .list)) ∙ q)
+        go false q = refl
+    by-list stood (validity.Refused q) e = refused n (numbersOf (ls ++ l ∷ [])) b q e .is
+
+    by-state : (r : Bool) → Stands n ls r s
+        → unlessRefused (refuseIf r AfterNo) (unlessRefused (validityFor n (numbersOf (ls ++ l ∷ [])) b) (learntAnswer (learnsIn s l) n (numbersOf (ls ++ l ∷ [])) b)) ≡ unlessRefused (refuseIf r AfterNo) (answerFor n (numbersOf (ls ++ l ∷ [])) b)
+    by-state true stood = refl
+    by-state false stood = by-list stood (validityFor n (numbersOf (ls ++ l ∷ [])) b) refl
+
+-- all lines so far are decided, and the table u is theirs on a yes, that of the lines before on a no
+pub record Learns (n : ℕ) (ls : List Line) (l : Line) (answer : Answer) (b a : Lent) (u : List ℤ) : Type 0 where
+  pub decided : Decided n (numbersOf (ls ++ l ∷ [])) answer b a
+  pub yes : answer ≡ decide.Yes → u ≡ tableFor n (ls ++ l ∷ [])
+  pub no : answer ≡ decide.No → u ≡ tableFor n ls
+
+module _ {n : ℕ} {ls : List Line} {s : List ℤ} (k : Stands n ls false s) (l : Line) {x : Answer} {b : Lent} {t : List ℤ} {a : Lent} (d : Adds s l x b t a) where
+  answered : x ≡ answerFor n (numbersOf (ls ++ l ∷ [])) b
+  answered = d .is ∙ add-answer k l b
+
+  -- where it is not refused, the list is valid
+  valid-then : (y : Answer) → x ≡ y → NotRefused y → validityOf n (numbersOf (ls ++ l ∷ [])) ≡ validity.Valid
+  valid-then y e h = decide-ok n (numbersOf (ls ++ l ∷ [])) b (answered-valid n (numbersOf (ls ++ l ∷ [])) b (λ q z. h q (sym e ∙ answered ∙ z))) .list
+
+  learns-yes : x ≡ decide.Yes → learnsIn s l ≡ true
+  learns-yes e = learns-verdict k l (valid-then decide.Yes e yes-answers) ∙ yes-verdict n (numbersOf (ls ++ l ∷ [])) b (sym answered ∙ e)
+
+  learns-no : x ≡ decide.No → learnsIn s l ≡ false
+  learns-no e = learns-verdict k l (valid-then decide.No e no-answers) ∙ no-verdict n (numbersOf (ls ++ l ∷ [])) b (sym answered ∙ e)
+
+  left-is : (y : Answer) → x ≡ y → AddLeft y s l b a → Leaves n (numbersOf (ls ++ l ∷ [])) y b a
+  left-is decide.Yes e o =
+      from-table k l (valid-then decide.Yes e yes-answers) (learns-yes e)
+      (subst (λ (m : ℕ). FromTable m (learntTable s l) b a) (variables k) (subst (λ (c : Bool). LearntLeft c (variablesIn s) (numbersWith s l) (learntTable s l) decide.Yes b a) (learns-yes e) o))
+  left-is decide.No e o =
+      subst (λ (L : List ℤ). Leaves n L decide.No b a) (all-numbers k l)
+      (subst (λ (m : ℕ). Leaves m (numbersWith s l) decide.No b a) (variables k) (subst (λ (c : Bool). LearntLeft c (variablesIn s) (numbersWith s l) (learntTable s l) decide.No b a) (learns-no e) o))
+  left-is (decide.Refused q) e o = o
+
+  pub stand-learns : Learns n ls l x b a (learntTable s l)
+  stand-learns =
+      record {
+        decided = record { is = answered; leaves = left-is x refl (d .left) };
+        yes = λ e. learnt-table k l (valid-then decide.Yes e yes-answers) (learns-yes e);
+        no = λ e. kept-table k l (learns-no e);
+      }
 
 -- ---- how a refused add keeps the promise
 module _ (s : List ℤ) (l : Line) (b : Lent) where
-  refused-by : (r : Refusal) → addAnswer s l b ≡ decide.Refused r → ((n : ℕ) (ls : List Line) → Stands n ls false s → Learns n ls l (decide.Refused r) b b []) → Adds s l (decide.Refused r) b s b
-  refused-by r e d = record { refused = λ q. ((λ f. e ∙ f), (λ f. sym e ∙ f)); unchanged = λ q f. refl; table = []; size = λ h. absurd (h r refl); state = refl; either = λ h. absurd (h r refl); learns = d }
+  refused-by : (r : Refusal) → addAnswer s l b ≡ decide.Refused r → Adds s l (decide.Refused r) b s b
+  refused-by r e = record { is = sym e; state = refl; left = refl }
 
   pub no-state : isState s ≡ false → Adds s l (decide.Refused noState) b s b
   unfolding addAnswer
-  no-state e = refused-by noState (rw e) (λ n ls k. let clash : true ≡ false = sym (is-state k) ∙ e in never (cc))
+  no-state e = refused-by noState (rw e)
 
   module _ (e : isState s ≡ true) where
     pub after-no : refusedIn s ≡ true → Adds s l (decide.Refused AfterNo) b s b
     unfolding addAnswer
-    after-no q = refused-by AfterNo (rw (e, q)) (λ n ls k. let clash : true ≡ false = sym q ∙ refused-in k in never (cc))
+    after-no q = refused-by AfterNo (rw (e, q))
 
     module _ (q : refusedIn s ≡ false) where
-      pub went-on : addAnswer s l b ≡ answerFor (variablesIn s) (numbersWith s l) b
+      pub went-on : addAnswer s l b ≡ unlessRefused (validityFor (variablesIn s) (numbersWith s l) b) (learntAnswer (learnsIn s l) (variablesIn s) (numbersWith s l) b)
       unfolding addAnswer
       went-on = rw (e, q)
 
       -- by deciding
       pub decide-refuses : (r : Refusal) → validityFor (variablesIn s) (numbersWith s l) b ≡ validity.Refused r → Adds s l (decide.Refused r) b s b
-      decide-refuses r f =
-          let d = refused (variablesIn s) (numbersWith s l) b r f in
-          refused-by r (went-on ∙ sym (d .is))
-          (λ n ls k.
-          record {
-            decided = decided-same (variables k) (all-numbers k l) d;
-            yes = λ z. never (cc);
-            no = λ z. never (cc);
-          })
+      decide-refuses r f = refused-by r (went-on ∙ ap (λ (u : Validity). unlessRefused u (learntAnswer (learnsIn s l) (variablesIn s) (numbersWith s l) b)) f)

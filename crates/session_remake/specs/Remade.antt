@@ -1,11 +1,11 @@
--- What making a state's table anew leaves, whatever stands in the state; and that it is the table of the lines, where these have a solution.
-use mathlib.Core.Path.{_≡_, refl, sym, ap, subst, _∙_}
+-- The table of a state made anew from its lines without the last, whatever stands in the state; and that it is the table of these lines, where they have a
+-- solution.
+use mathlib.Core.Path.{_≡_, refl, sym, ap, _∙_}
 use mathlib.Core.Bool.{true}
 use mathlib.Core.List.{List}
 use Prim.Native.Nat.{ℕ, _*_, _-_, _≤_}
 use lib.IntN.{ℤ}
 use lib.ListN.{length, take}
-use Rattle.integers.specs.Laws.{never}
 use Rattle.lines.specs.declared.Line.{Line}
 use Rattle.lines.specs.declared.Refusal.{Refusal}
 use Rattle.lines.specs.declared.Validity.{Validity}
@@ -16,69 +16,52 @@ use Rattle.lines.specs.LineNumbers.{lines-of-numbers}
 use Rattle.lines.specs.Refusal.{validityOf}
 use Rattle.lines.specs.Valid.{workable}
 use Rattle.theory_bounds.specs.Verdict.{verdictOf}
-use Rattle.session_step.specs.Meaning.{short-table}
-use Rattle.decide_rows.specs.Numbers.{stepsBefore}
-use Rattle.session_table.specs.Anew.{AnewDone, anew-yes}
+use Rattle.session_table.specs.Anew.{anewTable, anew-size, anew-yes}
 use Rattle.session_state.specs.State.{tableRoom, sessionRoom, tableFor, variablesIn, countIn, numbersIn, tableIn, withTable}
 use Rattle.session_state.specs.Laws.{with-own, length-tableIn}
 
 -- ---- definitions
--- with scratch numbers on the way, and how many lines were put in
-pub record MadeAnew (n : ℕ) (L s t : List ℤ) : Type 0 where
-  pub table : List ℤ
-  pub scratch : List ℤ
-  pub sums : List ℤ
-  pub count : ℕ
-  pub done : AnewDone n L scratch table sums count
-  pub is : t ≡ withTable n s table
-
 -- the numbers of the lines before the last
 abbrev pub numbersBefore : List ℤ → List ℤ
 numbersBefore s = take (lineSize * (countIn s - 1)) (numbersIn s)
 
-abbrev pub RemadeBy : Validity → List ℤ → List ℤ → Type 0
-RemadeBy Valid s t = MadeAnew (variablesIn s) (numbersBefore s) s t
-RemadeBy (Refused r) s t = t ≡ s
+-- the table of valid lines, or the table t as it was
+abbrev pub remadeBy : Validity → ℕ → List ℤ → List ℤ → List ℤ
+remadeBy Valid n L t = anewTable n L
+remadeBy (Refused r) n L t = t
 
-pub record Remade (s t : List ℤ) : Type 0 where
-  pub by-lines : RemadeBy (validityOf (variablesIn s) (numbersBefore s)) s t
+unfoldable pub remadeTable : List ℤ → List ℤ
+remadeTable s = remadeBy (validityOf (variablesIn s) (numbersBefore s)) (variablesIn s) (numbersBefore s) (tableIn (variablesIn s) s)
 
--- ---- the ways through the code
-pub remade-anew : (s t : List ℤ) → validityOf (variablesIn s) (numbersBefore s) ≡ Valid → MadeAnew (variablesIn s) (numbersBefore s) s t → Remade s t
-remade-anew s t e d = record { by-lines = subst (λ (v : Validity). RemadeBy v s t) (sym e) d }
+-- ---- by what is found of the lines
+module _ (s : List ℤ) where
+  abbrev n : ℕ
+  n = variablesIn s
 
-pub remade-not : (s : List ℤ) (r : Refusal) → validityOf (variablesIn s) (numbersBefore s) ≡ Refused r → Remade s s
-remade-not s r e = record { by-lines = subst (λ (v : Validity). RemadeBy v s s) (sym e) refl }
+  by-lines : (v : Validity) → validityOf n (numbersBefore s) ≡ v → remadeTable s ≡ remadeBy v n (numbersBefore s) (tableIn n s)
+  unfolding remadeTable
+  by-lines v e = ap (λ (w : Validity). remadeBy w n (numbersBefore s) (tableIn n s)) e
 
--- ---- the table has its size
-pub made-size : {n : ℕ} {L s t : List ℤ} (m : MadeAnew n L s t) → length (m .table) ≡ tableRoom n
-made-size {n} {L} m = short-table n (stepsBefore L (2 * m .count)) (m .table) (m .done .left .table) .size
+  pub remade-anew : validityOf (variablesIn s) (numbersBefore s) ≡ Valid → remadeTable s ≡ anewTable (variablesIn s) (numbersBefore s)
+  remade-anew e = by-lines Valid e
 
--- ---- the table of the lines, where these have a solution
-pub made-is : {n : ℕ} {L s t : List ℤ} (m : MadeAnew n L s t) (ms : List Line) → L ≡ numbersOf ms → validityOf n (numbersOf ms) ≡ Valid → verdictOf n ms ≡ true → m .table ≡ tableFor n ms
-made-is {n} {L} m ms e v y =
-    let valid : validityOf n L ≡ Valid = ap (validityOf n) e ∙ v in
-    let lines : linesOf L ≡ ms = ap linesOf e ∙ lines-of-numbers ms in
-    let verdict : verdictOf n (linesOf L) ≡ true = ap (verdictOf n) lines ∙ y in
-    anew-yes n L (workable n L valid .lines) (m .scratch) (m .table) (m .sums) (m .count) (m .done) verdict .1 ∙ ap (tableFor n) lines
+  -- the state stays as it is
+  pub remade-not : (r : Refusal) → validityOf (variablesIn s) (numbersBefore s) ≡ Refused r → s ≡ withTable (variablesIn s) s (remadeTable s)
+  remade-not r e = sym (ap (withTable n s) (by-lines (Refused r) e) ∙ with-own n s)
 
--- ---- the table that is left, whatever it is
-pub record Left (s t : List ℤ) : Type 0 where
-  pub table : List ℤ
-  pub size : length table ≡ tableRoom (variablesIn s)
-  pub is : t ≡ withTable (variablesIn s) s table
-  pub learned : (ms : List Line) → numbersBefore s ≡ numbersOf ms → validityOf (variablesIn s) (numbersOf ms) ≡ Valid → verdictOf (variablesIn s) ms ≡ true
-      → table ≡ tableFor (variablesIn s) ms
+  -- the table has its size
+  pub remade-size : sessionRoom (variablesIn s) ≤ length s → length (remadeTable s) ≡ tableRoom (variablesIn s)
+  remade-size room = go (validityOf n (numbersBefore s)) refl
+    where
+      go : (v : Validity) → validityOf n (numbersBefore s) ≡ v → length (remadeTable s) ≡ tableRoom n
+      go Valid e = ap length (by-lines Valid e) ∙ anew-size n (numbersBefore s)
+      go (Refused r) e = ap length (by-lines (Refused r) e) ∙ length-tableIn n s room
 
-pub left-of : (s t : List ℤ) → sessionRoom (variablesIn s) ≤ length s → Remade s t → Left s t
-left-of s t room d = go (validityOf (variablesIn s) (numbersBefore s)) refl (d .by-lines)
-  where
-    go : (v : Validity) → validityOf (variablesIn s) (numbersBefore s) ≡ v → RemadeBy v s t → Left s t
-    go Valid e m = record { table = m .table; size = made-size m; is = m .is; learned = made-is m }
-    go (Refused r) e q =
-        record {
-          table = tableIn (variablesIn s) s;
-          size = length-tableIn (variablesIn s) s room;
-          is = q ∙ sym (with-own (variablesIn s) s);
-          learned = λ ms f v y. let clash : Valid ≡ Refused r = sym v ∙ ap (validityOf (variablesIn s)) (sym f) ∙ e in never (cc);
-        }
+  -- it is that of the lines, where these have a solution
+  pub remade-is : (ms : List Line) → numbersBefore s ≡ numbersOf ms → validityOf (variablesIn s) (numbersOf ms) ≡ Valid → verdictOf (variablesIn s) ms ≡ true
+      → remadeTable s ≡ tableFor (variablesIn s) ms
+  remade-is ms e v y =
+      let valid : validityOf n (numbersBefore s) ≡ Valid = ap (validityOf n) e ∙ v in
+      let lines : linesOf (numbersBefore s) ≡ ms = ap linesOf e ∙ lines-of-numbers ms in
+      let verdict : verdictOf n (linesOf (numbersBefore s)) ≡ true = ap (verdictOf n) lines ∙ y in
+      remade-anew valid ∙ anew-yes n (numbersBefore s) (workable n (numbersBefore s) valid .lines) verdict ∙ ap (tableFor n) lines

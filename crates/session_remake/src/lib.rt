@@ -3,7 +3,6 @@ use lines::Validity;
 use lines::limits::LINE_SIZE;
 use lines::list_validity;
 use longer_list::MOST_NUMBERS;
-use session_learn::MOST_POINTS;
 use session_state::FRONT_ROOM;
 use session_state::copy_lines;
 use session_state::read_head;
@@ -15,23 +14,23 @@ ghost use Prim.Native.Nat.{_<_, _≤_};
 ghost use lib.ListN.{length};
 ghost use Rattle.lines.specs.Limits.{maxVariables};
 ghost use Rattle.lines.specs.Valid.{LinesOk};
-ghost use Rattle.session_state.specs.State.{sessionRoom, countIn, isState};
-ghost use Rattle.session_remake.specs.Remade.{MadeAnew, Remade};
+ghost use Rattle.session_table.specs.Anew.{anewTable};
+ghost use Rattle.session_state.specs.State.{sessionRoom, variablesIn, countIn, isState, withTable};
+ghost use Rattle.session_remake.specs.Remade.{remadeTable};
 
 // The table of a list, in place of the state's.
 fn put_table(list: &[i32], n: usize, state: &mut [i64])
     requires { ⌜ (n ≤ maxVariables) × LinesOk n (now list) × (sessionRoom n ≤ length (now state)) ⌝ }
-    ensures { λ _. ⌜ MadeAnew n (now (list .entry)) (now (state .entry)) (now (state .exit)) ⌝ }
+    ensures { λ _. ⌜ now (state .exit) ≡ withTable n (now (state .entry)) (anewTable n (now (list .entry))) ⌝ }
 {
-    let mut scratch = [0i64; MOST_POINTS];
     let end = session_room(n);
-    table_anew(list, n, &mut state[FRONT_ROOM..end], &mut scratch);
+    table_anew(list, n, &mut state[FRONT_ROOM..end]);
 }
 
 // The table of the lines before the last, where these are valid; else the state is left as it is.
 pub fn remake_table(state: &mut [i64])
     requires { ⌜ (isState (now state) ≡ true) × (0 < countIn (now state)) ⌝ }
-    ensures { λ _. ⌜ Remade (now (state .entry)) (now (state .exit)) ⌝ }
+    ensures { λ _. ⌜ now (state .exit) ≡ withTable (variablesIn (now (state .entry))) (now (state .entry)) (remadeTable (now (state .entry))) ⌝ }
 {
     let mut list = [0i32; MOST_NUMBERS];
     copy_lines(state, &mut list);

@@ -1,6 +1,6 @@
 -- What inserting a step does to a table of numbers, whatever they are, and what its contract asks.
-use mathlib.Core.Path.{_≡_, refl, sym, ap, _∙_}
-use mathlib.Core.Bool.{Bool, true, false, not, cond, _&&_}
+use mathlib.Core.Path.{_≡_, refl, sym, ap, ap₂, _∙_}
+use mathlib.Core.Bool.{Bool, false, cond}
 use mathlib.Core.List.{List, _++_}
 use Prim.Native.Nat.{ℕ, _+_, _*_, _<_, _≤_}
 use native.Mathlib.Omega.{arith}
@@ -23,10 +23,9 @@ use Rattle.decide_rows.specs.Numbers.{StepOk}
 use Rattle.decide_stored_table.specs.Sum.{maxTight, read-back}
 use Rattle.decide_stored_table.specs.Table.{tableOf, ShortTable}
 use Rattle.theory_bounds.specs.Agree.{Agree}
-use Rattle.theory_inserting.specs.Insert.{closing, inserted, through}
-use Rattle.theory_inserting.specs.Two.{closing-same}
+use Rattle.theory_inserting.specs.Insert.{isAtMost, asNear, closing, inserted, insertedWhere, through}
 use Rattle.session_step.specs.Read.{smallTable, SizedTable, small-short, small-agree}
-use Rattle.session_step.specs.Written.{written, written-same}
+use Rattle.session_step.specs.Written.{written, written-length, written-same}
 use Rattle.session_step.specs.Lower.{RowsReady, lowered}
 
 -- ---- definitions
@@ -34,42 +33,25 @@ use Rattle.session_step.specs.Lower.{RowsReady, lowered}
 abbrev pub along : Table → Step → ℕ → Distance
 along D s u = D u (s .from) ⊕ s .weight
 
+-- whether a distance is at most a weight
 abbrev pub atMost : Distance → ℤ → Bool
 atMost none w = false
 atMost (some d) w = leZ d w
 
--- whether the table has a way that is as short as the step
-abbrev pub implied : Table → Step → Bool
-implied D s = atMost (D (s .from) (s .to)) (s .weight)
-
--- whether the step is put in: it closes no walk of negative sum, and nothing as short is there
-abbrev pub changes : Table → Step → Bool
-changes D s = notBelow0 (closing D s) && not (implied D s)
-
--- entries are added as they are read, and compared as they stand
+-- the table with the step: entries are added as they are read, and compared as they stand
 abbrev pub insertedIn : ℕ → List ℤ → Step → Table
-insertedIn N t s u v = minD (tableOf N t u v) (through (smallTable N t) s u v)
+insertedIn N t s u v = cond (asNear (smallTable N t) s v) (tableOf N t u v) (minD (tableOf N t u v) (through (smallTable N t) s u v))
 
-abbrev pub tableAfter : ℕ → Step → List ℤ → List ℤ
-tableAfter N s t = cond (changes (smallTable N t) s) (written (insertedIn N t s) N N) t
+unfoldable pub stepAfter : ℕ → Step → List ℤ → List ℤ
+stepAfter N s t = written (insertedIn N t s) N N
 
--- the sums that the scratch numbers hold
+pub after-size : (N : ℕ) (s : Step) (t : List ℤ) → length (stepAfter N s t) ≡ N * N
+unfolding stepAfter
+after-size N s t = written-length (insertedIn N t s) N N
+
+-- the sums that are written on the way
 abbrev pub sumsAfter : Table → Step → ℕ → List ℤ → List ℤ
 sumsAfter D s N w = tabulate N (λ u. stored (along D s u)) ++ drop N w
-
-abbrev pub scratchAfter : ℕ → Step → List ℤ → List ℤ → List ℤ
-scratchAfter N s t w = cond (changes (smallTable N t) s) (sumsAfter (smallTable N t) s N w) w
-
--- what is asked of the step; of the table only its size, not its numbers
-pub record InsertReady (n : ℕ) (s : Step) (t w : List ℤ) : Type 0 where
-  pub table : SizedTable n t
-  pub step : StepOk n s
-  pub room : 2 * n ≤ length w
-
-pub record InsertDone (N : ℕ) (s : Step) (t w t′ w′ : List ℤ) (r : Bool) : Type 0 where
-  pub answer : r ≡ notBelow0 (closing (smallTable N t) s)
-  pub table-is : t′ ≡ tableAfter N s t
-  pub scratch-is : w′ ≡ scratchAfter N s t w
 
 -- ---- a distance and the step's weight
 -- the greatest sum
@@ -133,60 +115,33 @@ module _ (n : ℕ) (s : Step) (t : List ℤ) (ready : StepOk n s) where
         List·getD-append (tabulate N (λ u. stored (along D s u))) (drop N w) (pos 0) u (rw (length-tabulate N (λ u. stored (along D s u))) h)
         ∙ getD-tabulate N u (λ u. stored (along D s u)) (pos 0) h
 
-    pub rows-ready : SizedTable n t → RowsReady n (s .to) t (sumsAfter D s N w)
+    pub rows-ready : SizedTable n t → RowsReady n s t (sumsAfter D s N w)
     rows-ready sized =
         record {
           table = sized;
-          to-lt = ready .to-lt;
+          step = ready;
           long = rw (length-append (tabulate N (λ u. stored (along D s u))) (drop N w), length-tabulate N (λ u. stored (along D s u))) (omega arith);
           sums-short = λ u h. rw (sum-at u h, along-back u) (short-more (omega arith) (along-small u));
         }
 
     -- the rows are lowered to those of the table with the step
-    pub lowered-is : written (lowered N t (sumsAfter D s N w) (s .to)) N N ≡ written (insertedIn N t s) N N
-    lowered-is = written-same N (lowered N t (sumsAfter D s N w) (s .to)) (insertedIn N t s) same N (omega arith)
+    pub lowered-is : written (lowered N t (sumsAfter D s N w) s) N N ≡ stepAfter N s t
+    unfolding stepAfter
+    lowered-is = written-same N (lowered N t (sumsAfter D s N w) s) (insertedIn N t s) same N (omega arith)
       where
-        same : (u v : ℕ) → u < N → v < N → lowered N t (sumsAfter D s N w) (s .to) u v ≡ insertedIn N t s u v
-        same u v h l = ap (λ (d : Distance). minD (tableOf N t u v) (d ⊞ D (s .to) v)) (ap distanceOf (sum-at u h) ∙ along-back u)
+        same : (u v : ℕ) → u < N → v < N → lowered N t (sumsAfter D s N w) s u v ≡ insertedIn N t s u v
+        same u v h l = ap (λ (d : Distance). cond (asNear (smallTable N t) s v) (tableOf N t u v) (minD (tableOf N t u v) (d ⊞ D (s .to) v))) (ap distanceOf (sum-at u h) ∙ along-back u)
 
--- ---- the three ways through the code
-module _ (N : ℕ) (s : Step) (t w : List ℤ) where
-  abbrev C : Table
-  C = smallTable N t
-
-  pub done-negative : notBelow0 (closing C s) ≡ false → InsertDone N s t w t w false
-  done-negative e = record { answer = sym e; table-is = rw e refl; scratch-is = rw e refl }
-
-  pub done-implied : notBelow0 (closing C s) ≡ true → implied C s ≡ true → InsertDone N s t w t w true
-  done-implied e f = record { answer = sym e; table-is = rw (e, f) refl; scratch-is = rw (e, f) refl }
-
-  pub done-changed : notBelow0 (closing C s) ≡ true → implied C s ≡ false → (t′ w′ : List ℤ) → t′ ≡ written (insertedIn N t s) N N → w′ ≡ sumsAfter C s N w → InsertDone N s t w t′ w′ true
-  done-changed e f t′ w′ et ew = record { answer = sym e; table-is = et ∙ rw (e, f) refl; scratch-is = ew ∙ rw (e, f) refl }
-
--- ---- a table of distances: the answer and the table are those of the table as it stands, with no reading between
+-- ---- a table of distances: it is that of the table as it stands, with no reading between
 module _ (n : ℕ) (s : Step) (t : List ℤ) (short : ShortTable n t) (ready : StepOk n s) where
   abbrev P : Table
   P = tableOf (2 * n) t
 
-  closing-plain : closing (smallTable (2 * n) t) s ≡ closing P s
-  closing-plain = closing-same (2 * n) (smallTable (2 * n) t) P (small-agree n t short) s (ready .from-lt) (ready .to-lt)
+  plain : Agree (2 * n) (insertedIn (2 * n) t s) (insertedWhere P s)
+  plain u v hu hv =
+      ap₂ (λ (a b : Distance). cond (asNear (smallTable (2 * n) t) s v) (P u v) (minD (P u v) (a ⊕ s .weight ⊞ b))) (small-agree n t short u (s .from) hu (ready .from-lt)) (small-agree n t short (s .to) v (ready .to-lt) hv)
+      ∙ ap₂ (λ (a b : Distance). cond (isAtMost a (b ⊕ s .weight)) (P u v) (inserted P s u v)) (small-agree n t short (s .from) v (ready .from-lt) hv) (small-agree n t short (s .to) v (ready .to-lt) hv)
 
-  implied-plain : implied (smallTable (2 * n) t) s ≡ implied P s
-  implied-plain = ap (λ (d : Distance). atMost d (s .weight)) (small-agree n t short (s .from) (s .to) (ready .from-lt) (ready .to-lt))
-
-  inserted-plain : Agree (2 * n) (insertedIn (2 * n) t s) (inserted P s)
-  inserted-plain u v hu hv = ap (λ (d : Distance). minD (P u v) d) (through-plain u v hu hv)
-    where
-      through-plain : Agree (2 * n) (through (smallTable (2 * n) t) s) (through P s)
-      through-plain u v hu hv =
-          ap (λ (d : Distance). d ⊕ s .weight ⊞ smallTable (2 * n) t (s .to) v) (small-agree n t short u (s .from) hu (ready .from-lt))
-          ∙ ap (λ (d : Distance). P u (s .from) ⊕ s .weight ⊞ d) (small-agree n t short (s .to) v (ready .to-lt) hv)
-
-  pub answer-plain : notBelow0 (closing (smallTable (2 * n) t) s) ≡ notBelow0 (closing P s)
-  answer-plain = ap notBelow0 closing-plain
-
-  pub table-plain : tableAfter (2 * n) s t ≡ cond (changes P s) (written (inserted P s) (2 * n) (2 * n)) t
-  table-plain =
-      ap (λ (x : List ℤ). cond (changes (smallTable (2 * n) t) s) x t) (written-same (2 * n) (insertedIn (2 * n) t s) (inserted P s) inserted-plain (2 * n) (omega arith))
-      ∙ ap (λ (d : Distance). cond (notBelow0 d && not (implied (smallTable (2 * n) t) s)) (written (inserted P s) (2 * n) (2 * n)) t) closing-plain
-      ∙ ap (λ (b : Bool). cond (notBelow0 (closing P s) && not b) (written (inserted P s) (2 * n) (2 * n)) t) implied-plain
+  pub after-plain : stepAfter (2 * n) s t ≡ written (insertedWhere (tableOf (2 * n) t) s) (2 * n) (2 * n)
+  unfolding stepAfter
+  after-plain = written-same (2 * n) (insertedIn (2 * n) t s) (insertedWhere P s) plain (2 * n) (omega arith)

@@ -1,21 +1,30 @@
 -- The code's loops: a row lowered number by number, and a table row by row.
 use mathlib.Core.Path.{_≡_, refl, sym, ap, ap₂, _∙_}
+use mathlib.Core.Bool.{Bool, true, false, cond}
 use mathlib.Core.List.{List, [], _∷_, _++_, append-assoc, append-nil}
 use Prim.Native.Nat.{ℕ, _+_, _*_, _<_, _≤_}
 use native.Mathlib.Nat.{mul-le-mul-right}
 use native.Mathlib.Omega.{arith}
 use lib.IntN.{ℤ, pos}
 use lib.ListN.{length, take, drop, length-take, length-drop, drop-of-length-le}
+use lib.Signed.{leZ}
 use lib.Seq.{getD-append-add, getD-take, getD-drop, take-at, drop-at, drop-drop}
 use Rattle.integers.specs.Sequence.{tabulate, length-tabulate, tabulate-cong}
+use Rattle.integers.specs.Integer.{_⩽_, Within}
+use Rattle.integers.specs.Linear.{ints}
 use Rattle.lines.specs.Line.{number}
-use Rattle.theory_walks.specs.Distance.{Distance, none, some, minD, _⊞_}
+use Rattle.steps.specs.declared.Step.{Step}
+use Rattle.steps.specs.Step.{maxWeight}
+use Rattle.theory_walks.specs.Distance.{Distance, none, some, minD, _⊕_, _⊞_, ⊕-some}
+use Rattle.theory_walks.specs.Size.{within-more, within-sum}
 use Rattle.theory_bounds.specs.Tight.{Table}
 use Rattle.decide_rows.specs.Stored.{stored}
-use Rattle.decide_rows.specs.Read.{noWalk, distanceOf, Short, of-none, short-more, store-none}
+use Rattle.decide_rows.specs.Read.{noWalk, distanceOf, Short, short-more, stored-of}
+use Rattle.decide_rows.specs.Numbers.{StepOk}
 use Rattle.decide_stored_table.specs.Sum.{maxTight, read-back, sum-short}
 use Rattle.decide_stored_table.specs.Table.{tableOf}
 use Rattle.integers.specs.Fill.{filled}
+use Rattle.theory_inserting.specs.Insert.{isAtMost, asNear}
 use Rattle.session_step.specs.Read.{smallOf, smallTable, SizedTable, small-short, small-back}
 use Rattle.session_step.specs.Written.{written, writtenRow, written-more, written-length}
 
@@ -48,105 +57,156 @@ pub lower-is : (e s r m v : ℤ) → Short maxTight (distanceOf s) → Short max
 lower-is e s r m v hs hr em ev =
     ev ∙ ap (λ (d : Distance). stored (minD (distanceOf e) d)) (ap distanceOf em ∙ read-back _ (short-more (omega arith) (sum-short _ _ maxTight maxTight hs hr)))
 
--- a row that there is no walk to is as it was
-pub lower-none : (row sums : List ℤ) (z : ℤ) → z ≡ noWalk → row ≡ tabulate (length row) (lowerAt row sums z)
-lower-none row sums z e = own row ∙ tabulate-cong (length row) (number row) (lowerAt row sums z) (λ i h. sym (same i))
-  where
-    own : (l : List ℤ) → l ≡ tabulate (length l) (number l)
-    own [] = refl
-    own (x ∷ l) = ap (λ (k : List ℤ). x ∷ k) (own l)
+-- ---- a row of a table: its own entries of the step's two ends say whether it is lowered
+-- whether the row's entry of the step's start is at most the way along the step
+abbrev pub staysRow : List ℤ → Step → Bool
+staysRow row s = isAtMost (smallOf (number row (s .from))) (smallOf (number row (s .to)) ⊕ s .weight)
 
-    nothing : (d : Distance) → d ⊞ none ≡ none
-    nothing none = refl
-    nothing (some d) = refl
+abbrev pub rowAfter : List ℤ → List ℤ → Step → List ℤ
+rowAfter row sums s = cond (staysRow row s) row (tabulate (length row) (lowerAt row sums (stored (smallOf (number row (s .to))))))
 
-    same : (i : ℕ) → lowerAt row sums z i ≡ number row i
-    same i =
-        ap (λ (d : Distance). stored (minD (distanceOf (number row i)) (distanceOf (number sums i) ⊞ d))) (of-none z e)
-        ∙ ap (λ (d : Distance). stored (minD (distanceOf (number row i)) d)) (nothing (distanceOf (number sums i)))
-        ∙ store-none (number row i)
+pub record StepRowReady (row sums : List ℤ) (s : Step) : Type 0 where
+  pub from-lt : s .from < length row
+  pub to-lt : s .to < length row
+  pub small : Within maxWeight (s .weight)
+  pub long : length row ≤ length sums
+  pub sums-short : (i : ℕ) → i < length row → Short maxTight (distanceOf (number sums i))
 
--- ---- all rows: the entry of u and v, or the sum of the number for u and the entry of `to` and v, read
-abbrev pub lowered : ℕ → List ℤ → List ℤ → ℕ → Table
-lowered N t sums to u v = minD (tableOf N t u v) (distanceOf (number sums u) ⊞ smallTable N t to v)
+-- ---- all rows: the entry of u and v, or the sum of the number for u and the entry of the step's end and v, read
+abbrev pub lowered : ℕ → List ℤ → List ℤ → Step → Table
+lowered N t sums s u v = cond (asNear (smallTable N t) s v) (tableOf N t u v) (minD (tableOf N t u v) (distanceOf (number sums u) ⊞ smallTable N t (s .to) v))
 
-pub record RowsReady (n to : ℕ) (t sums : List ℤ) : Type 0 where
+pub record RowsReady (n : ℕ) (s : Step) (t sums : List ℤ) : Type 0 where
   pub table : SizedTable n t
-  pub to-lt : to < 2 * n
+  pub step : StepOk n s
   pub long : 2 * n ≤ length sums
   pub sums-short : (i : ℕ) → i < 2 * n → Short maxTight (distanceOf (number sums i))
 
 -- the loop, after the rows 0 to v - 1
-pub record Rows (N to : ℕ) (t₀ sums t : List ℤ) (v at : ℕ) : Type 0 where
+pub record Rows (N : ℕ) (s : Step) (t₀ sums t : List ℤ) (v at : ℕ) : Type 0 where
   pub count : v ≤ N
   pub place-is : at ≡ v * N
-  pub is : t ≡ written (lowered N t₀ sums to) N v ++ drop at t₀
+  pub is : t ≡ written (lowered N t₀ sums s) N v ++ drop at t₀
 
-pub rows-none : (N to : ℕ) (t₀ sums : List ℤ) → Rows N to t₀ sums t₀ 0 0
+pub rows-none : (N : ℕ) (s : Step) (t₀ sums : List ℤ) → Rows N s t₀ sums t₀ 0 0
 unfolding written
-rows-none N to t₀ sums = record { count = omega arith; place-is = omega arith; is = refl }
+rows-none N s t₀ sums = record { count = omega arith; place-is = omega arith; is = refl }
 
-module _ (n to : ℕ) (t₀ sums : List ℤ) (ready : RowsReady n to t₀ sums) (t : List ℤ) (v at : ℕ) (s : Rows (2 * n) to t₀ sums t v at) where
+module _ (n : ℕ) (s : Step) (t₀ sums : List ℤ) (ready : RowsReady n s t₀ sums) (t : List ℤ) (v at : ℕ) (r : Rows (2 * n) s t₀ sums t v at) where
   abbrev N : ℕ
   N = 2 * n
 
   abbrev G : Table
-  G = lowered N t₀ sums to
+  G = lowered N t₀ sums s
 
   front-length : length (written G N v) ≡ at
-  front-length = written-length G N v ∙ sym (s .place-is)
+  front-length = written-length G N v ∙ sym (r .place-is)
 
   pub row-fits : v < N → at + N ≤ length t₀
-  row-fits h = omega (arith, s .place-is, ready .table .size, mul-le-mul-right N h)
+  row-fits h = omega (arith, r .place-is, ready .table .size, mul-le-mul-right N h)
 
   before : take at t ≡ written G N v
-  before = ap (take at) (s .is) ∙ take-at (written G N v) (drop at t₀) at front-length
+  before = ap (take at) (r .is) ∙ take-at (written G N v) (drop at t₀) at front-length
 
   rest : drop at t ≡ drop at t₀
-  rest = ap (drop at) (s .is) ∙ drop-at (written G N v) (drop at t₀) at front-length
+  rest = ap (drop at) (r .is) ∙ drop-at (written G N v) (drop at t₀) at front-length
 
-  -- the numbers that the next row reads are as they were
-  pub rows-next : (u : ℕ) → number t (at + u) ≡ number t₀ (at + u)
-  rows-next u = sym (getD-drop at t u (pos 0)) ∙ ap (λ (l : List ℤ). number l u) rest ∙ getD-drop at t₀ u (pos 0)
+  -- row v, as it was
+  module _ (h : v < N) (k : ℕ) (ek : k ≡ N) where
+    abbrev row : List ℤ
+    row = take k (drop at t)
 
-  entry-is : (u : ℕ) → number t (at + u) ≡ number t₀ (v * N + u)
-  entry-is u = rows-next u ∙ ap (λ (k : ℕ). number t₀ (k + u)) (s .place-is)
+    row-length : length (take k (drop at t)) ≡ N
+    row-length = simp (length-take, rest, length-drop) (omega (arith, row-fits h))
 
-  -- the row is ready to be lowered by the entry of `to`
-  pub row-ready : v < N → (k : ℕ) → k ≡ N → (z : ℤ) → z ≡ stored (smallOf (number t (at + to))) → RowReady (take k (drop at t)) sums z
-  row-ready h k ek z e =
-      let l : length (take k (drop at t)) ≡ N = simp (length-take, rest, length-drop) (omega (arith, row-fits h)) in
-      record {
-        long = omega (arith, l, ready .long);
-        sums-short = λ i b. ready .sums-short i (omega (arith, l, b));
-        rest-short = rw (e, small-back) (short-more (omega arith) (small-short (number t (at + to))));
-      }
+    row-at : (u : ℕ) → u < N → number (take k (drop at t)) u ≡ number t₀ (v * N + u)
+    row-at u b =
+        getD-take k (drop at t) u (pos 0) (omega arith)
+        ∙ ap (λ (l : List ℤ). number l u) rest
+        ∙ getD-drop at t₀ u (pos 0)
+        ∙ ap (λ (j : ℕ). number t₀ (j + u)) (r .place-is)
 
-  pub rows-more : v < N → (k : ℕ) → k ≡ N → (z : ℤ) → z ≡ stored (smallOf (number t (at + to))) → (part : List ℤ)
-      → part ≡ tabulate (length (take k (drop at t))) (lowerAt (take k (drop at t)) sums z)
-      → Rows N to t₀ sums (take at t ++ (part ++ drop k (drop at t))) (v + 1) (at + N)
-  rows-more h k ek z ez part e =
-      let l : length (take k (drop at t)) ≡ N = simp (length-take, rest, length-drop) (omega (arith, row-fits h)) in
-      let row : part ≡ writtenRow G N v = e ∙ ap (λ (m : ℕ). tabulate m (lowerAt (take k (drop at t)) sums z)) l ∙ tabulate-cong N _ _ (λ u b. each u b) in
-      let behind : drop k (drop at t) ≡ drop (at + N) t₀ = ap₂ (λ (i : ℕ) (x : List ℤ). drop i x) ek rest ∙ drop-drop N at t₀ in
-      record {
-        count = omega arith;
-        place-is = omega (arith, s .place-is);
-        is =
-            ap₂ (λ (x y : List ℤ). x ++ y) before (ap₂ (λ (x y : List ℤ). x ++ y) row behind)
-            ∙ sym (append-assoc (written G N v) (writtenRow G N v) (drop (at + N) t₀))
-            ∙ ap (λ (x : List ℤ). x ++ drop (at + N) t₀) (sym (written-more G N v));
-      }
-    where
-      each : (u : ℕ) → u < N → lowerAt (take k (drop at t)) sums z u ≡ stored (G u v)
-      each u b =
-          let x : number (take k (drop at t)) u ≡ number t₀ (v * N + u) = getD-take k (drop at t) u (pos 0) (omega arith) ∙ getD-drop at t u (pos 0) ∙ entry-is u in
-          let y : distanceOf z ≡ smallOf (number t₀ (v * N + to)) = ap distanceOf ez ∙ small-back (number t (at + to)) ∙ ap smallOf (entry-is to) in
-          ap₂ (λ (a : ℤ) (d : Distance). stored (minD (distanceOf a) (distanceOf (number sums u) ⊞ d))) x y
+    pub row-ready : StepRowReady (take k (drop at t)) sums s
+    row-ready =
+        record {
+          from-lt = omega (arith, row-length, ready .step .from-lt);
+          to-lt = omega (arith, row-length, ready .step .to-lt);
+          small = ready .step .small;
+          long = omega (arith, row-length, ready .long);
+          sums-short = λ i b. ready .sums-short i (omega (arith, row-length, b));
+        }
+
+    row-is : rowAfter (take k (drop at t)) sums s ≡ writtenRow G N v
+    row-is =
+        ap₂ (λ (a b : Distance). cond (isAtMost a (b ⊕ s .weight)) row (tabulate (length row) (lowerAt row sums (stored (smallOf (number row (s .to)))))))
+        (ap smallOf (row-at (s .from) (ready .step .from-lt)))
+        (ap smallOf (row-at (s .to) (ready .step .to-lt)))
+        ∙ go (asNear (smallTable N t₀) s v) refl
+      where
+        own : (l : List ℤ) → l ≡ tabulate (length l) (number l)
+        own [] = refl
+        own (x ∷ l) = ap (λ (k : List ℤ). x ∷ k) (own l)
+
+        each : (u : ℕ) → u < N → lowerAt row sums (stored (smallOf (number row (s .to)))) u ≡ stored (minD (tableOf N t₀ u v) (distanceOf (number sums u) ⊞ smallTable N t₀ (s .to) v))
+        each u b =
+            ap₂ (λ (a : ℤ) (d : Distance). stored (minD (distanceOf a) (distanceOf (number sums u) ⊞ d))) (row-at u b)
+            (small-back (number row (s .to)) ∙ ap smallOf (row-at (s .to) (ready .step .to-lt)))
+
+        go : (c : Bool) → asNear (smallTable N t₀) s v ≡ c → cond c row (tabulate (length row) (lowerAt row sums (stored (smallOf (number row (s .to)))))) ≡ writtenRow G N v
+        go true e =
+            own row
+            ∙ ap (λ (m : ℕ). tabulate m (number row)) row-length
+            ∙ tabulate-cong N _ _ (λ u b. row-at u b ∙ sym (stored-of (number t₀ (v * N + u))) ∙ sym (ap (λ (c : Bool). stored (cond c (tableOf N t₀ u v) (minD (tableOf N t₀ u v) (distanceOf (number sums u) ⊞ smallTable N t₀ (s .to) v)))) e))
+        go false e =
+            ap (λ (m : ℕ). tabulate m (lowerAt row sums (stored (smallOf (number row (s .to)))))) row-length
+            ∙ tabulate-cong N _ _ (λ u b. each u b ∙ sym (ap (λ (c : Bool). stored (cond c (tableOf N t₀ u v) (minD (tableOf N t₀ u v) (distanceOf (number sums u) ⊞ smallTable N t₀ (s .to) v)))) e))
+
+    pub rows-more : (part : List ℤ) → part ≡ rowAfter (take k (drop at t)) sums s → Rows N s t₀ sums (take at t ++ (part ++ drop k (drop at t))) (v + 1) (at + N)
+    rows-more part e =
+        let behind : drop k (drop at t) ≡ drop (at + N) t₀ = ap (drop k) rest ∙ ap (λ (m : ℕ). drop m (drop at t₀)) ek ∙ drop-drop N at t₀ in
+        record {
+          count = omega arith;
+          place-is = omega (arith, r .place-is);
+          is =
+              ap₂ (λ (x y : List ℤ). x ++ y) before (ap₂ (λ (x y : List ℤ). x ++ y) (e ∙ row-is) behind)
+              ∙ sym (append-assoc (written G N v) (writtenRow G N v) (drop (at + N) t₀))
+              ∙ ap (λ (x : List ℤ). x ++ drop (at + N) t₀) (sym (written-more G N v));
+        }
 
   pub rows-all : v ≡ N → t ≡ written G N N
   rows-all e =
-      let d : length t₀ ≤ at = omega (arith, s .place-is, ready .table .size, ap (λ (k : ℕ). k * N) e) in
-      s .is
+      let d : length t₀ ≤ at = omega (arith, r .place-is, ready .table .size, ap (λ (k : ℕ). k * N) e) in
+      r .is
       ∙ ap₂ (λ (k : ℕ) (x : List ℤ). written G N k ++ x) e (drop-of-length-le t₀ d)
       ∙ append-nil (written G N N)
+
+-- ---- the test of the code, on stored numbers: the number for no walk is the highest
+pub at-most-both : (a b : Distance) → Short maxTight a → Short maxTight b → leZ (stored a) (stored b) ≡ isAtMost a b
+at-most-both none none ha hb = refl
+at-most-both (some a) none ha hb = below a (ha a refl .high)
+  where
+    below : (a : ℤ) → a ⩽ pos maxTight → leZ a noWalk ≡ true
+    below a = simp ints (omega arith)
+at-most-both none (some b) ha hb = above b (hb b refl .high)
+  where
+    above : (b : ℤ) → b ⩽ pos maxTight → leZ noWalk b ≡ false
+    above b = simp ints (omega arith)
+at-most-both (some a) (some b) ha hb = refl
+
+module _ (row sums : List ℤ) (s : Step) where
+  pub stays-row-is : Within maxWeight (s .weight) → (own way : ℤ) → own ≡ stored (smallOf (number row (s .from))) → way ≡ stored (smallOf (number row (s .to)) ⊕ s .weight) → leZ own way ≡ staysRow row s
+  stays-row-is small own way e f =
+      ap₂ leZ e f
+      ∙ at-most-both (smallOf (number row (s .from))) (smallOf (number row (s .to)) ⊕ s .weight) (short-more (omega arith) (small-short (number row (s .from)))) way-short
+    where
+      way-short : Short maxTight (smallOf (number row (s .to)) ⊕ s .weight)
+      way-short z q =
+          let x = ⊕-some (smallOf (number row (s .to))) (s .weight) z q in
+          within-more (omega arith) (rw (x .2) at (within-sum (small-short (number row (s .to)) (x .0) (x .1)) small))
+
+  -- the two ways through the code
+  pub row-stays : staysRow row s ≡ true → row ≡ rowAfter row sums s
+  row-stays e = rw e refl
+
+  pub row-lowered : staysRow row s ≡ false → (z : ℤ) → z ≡ stored (smallOf (number row (s .to))) → (x : List ℤ) → x ≡ tabulate (length row) (lowerAt row sums z) → x ≡ rowAfter row sums s
+  row-lowered e z q x f = f ∙ ap (λ (y : ℤ). tabulate (length row) (lowerAt row sums y)) q ∙ rw e refl

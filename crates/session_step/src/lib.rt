@@ -17,11 +17,14 @@ ghost use Rattle.decide_rows.specs.Numbers.{StepOk};
 ghost use Rattle.theory_inserting.specs.Insert.{closing};
 ghost use Rattle.session_step.specs.Read.{smallOf, smallTable, SizedTable};
 ghost use Rattle.session_step.specs.Written.{written};
-ghost use Rattle.session_step.specs.Lower.{RowReady, lowerAt, RowsReady, lowered};
-ghost use Rattle.session_step.specs.Done.{along, implied, sumsAfter, InsertReady, InsertDone};
+ghost use Rattle.session_step.specs.Lower.{RowReady, lowerAt, StepRowReady, rowAfter, RowsReady, lowered};
+ghost use Rattle.session_step.specs.Done.{along, sumsAfter, stepAfter};
 
 // Every distance is within plus and minus this: as many steps as there are points, each of at most twice a line's d.
 const MAX_DISTANCE: i64 = 2 * MAX_VARIABLES as i64 * (2 * WORK_CONSTANT);
+
+// How many points the most variables have.
+const MOST_POINTS: usize = 2 * MAX_VARIABLES;
 
 // A number of the table as it is read.
 pub fn read(entry: i64) -> i64
@@ -43,38 +46,6 @@ pub fn read_at(table: &[i64], n: usize, u: usize, v: usize) -> i64
     read(table[at])
 }
 
-// Each entry of a row, or its sum and the rest where that is less.
-fn lower_row(row: &mut [i64], sums: &[i64], rest: i64)
-    requires { ⌜ RowReady (now row) (now sums) rest ⌝ }
-    ensures { λ _. ⌜ now (row .exit) ≡ tabulate (length (now (row .entry))) (lowerAt (now (row .entry)) (now (sums .entry)) rest) ⌝ }
-{
-    if rest == NO_WALK {
-        return;
-    }
-    let count = row.len();
-    let mut i = 0;
-    while i < count {
-        row[i] = smaller(row[i], sum(sums[i], rest));
-        i += 1;
-    }
-}
-
-// Each row, with the row's own entry of the point `to` as the rest.
-fn lower_rows(table: &mut [i64], n: usize, to: usize, sums: &[i64])
-    requires { ⌜ RowsReady n to (now table) (now sums) ⌝ }
-    ensures { λ _. ⌜ now (table .exit) ≡ written (lowered (2 * n) (now (table .entry)) (now (sums .entry)) to) (2 * n) (2 * n) ⌝ }
-{
-    let size = 2 * n;
-    let mut v = 0;
-    let mut at = 0;
-    while v < size {
-        let rest = read(table[at + to]);
-        lower_row(&mut table[at..at + size], sums, rest);
-        v += 1;
-        at += size;
-    }
-}
-
 // The distance from u to the step's start, and along the step.
 pub fn sum_along(table: &[i64], n: usize, u: usize, step: Step) -> i64
     requires { ⌜ SizedTable n (now table) × StepOk n step × (u < 2 * n) ⌝ }
@@ -91,14 +62,6 @@ pub fn stays(table: &[i64], n: usize, step: Step) -> bool
     0 <= sum_along(table, n, step.to, step)
 }
 
-// Whether a walk from the step's start to its end is as short as the step.
-fn is_implied(table: &[i64], n: usize, step: Step) -> bool
-    requires { ⌜ SizedTable n (now table) × StepOk n step ⌝ }
-    ensures { λ r. ⌜ r ≡ implied (smallTable (2 * n) (now (table .entry))) step ⌝ }
-{
-    read_at(table, n, step.from, step.to) <= step.weight
-}
-
 // The distances from all points to the step's start, and along the step.
 fn write_sums(table: &[i64], n: usize, step: Step, sums: &mut [i64])
     requires { ⌜ SizedTable n (now table) × StepOk n step × (2 * n ≤ length (now sums)) ⌝ }
@@ -112,20 +75,56 @@ fn write_sums(table: &[i64], n: usize, step: Step, sums: &mut [i64])
     }
 }
 
-// One more step in the table of 2n points: the distances with it, and yes; or no, where a closed walk through it has a
-// negative sum, and all is as it was. There is one pass over the table at most. The scratch numbers, 2n of them, hold sums
-// on the way.
-pub fn insert_step(table: &mut [i64], scratch: &mut [i64], n: usize, step: Step) -> bool
-    requires { ⌜ InsertReady n step (now table) (now scratch) ⌝ }
-    ensures { λ r. ⌜ InsertDone (2 * n) step (now (table .entry)) (now (scratch .entry)) (now (table .exit)) (now (scratch .exit)) r ⌝ }
+// Each entry of a row, or its sum and the rest where that is less.
+fn lower_row(row: &mut [i64], sums: &[i64], rest: i64)
+    requires { ⌜ RowReady (now row) (now sums) rest ⌝ }
+    ensures { λ _. ⌜ now (row .exit) ≡ tabulate (length (now (row .entry))) (lowerAt (now (row .entry)) (now (sums .entry)) rest) ⌝ }
 {
-    if !stays(table, n, step) {
-        return false;
+    let count = row.len();
+    let mut i = 0;
+    while i < count {
+        row[i] = smaller(row[i], sum(sums[i], rest));
+        i += 1;
     }
-    if is_implied(table, n, step) {
-        return true;
+}
+
+// A row, where the way along the step is shorter than the row's own from the step's start; then no entry of another row
+// gets less.
+fn put_in_row(row: &mut [i64], sums: &[i64], step: Step)
+    requires { ⌜ StepRowReady (now row) (now sums) step ⌝ }
+    ensures { λ _. ⌜ now (row .exit) ≡ rowAfter (now (row .entry)) (now (sums .entry)) step ⌝ }
+{
+    let from = step.from;
+    let to = step.to;
+    let rest = read(row[to]);
+    if read(row[from]) <= sum(rest, step.weight) {
+        return;
     }
-    write_sums(table, n, step, scratch);
-    lower_rows(table, n, step.to, scratch);
-    true
+    lower_row(row, sums, rest);
+}
+
+// Each row.
+fn put_in_rows(table: &mut [i64], n: usize, step: Step, sums: &[i64])
+    requires { ⌜ RowsReady n step (now table) (now sums) ⌝ }
+    ensures { λ _. ⌜ now (table .exit) ≡ written (lowered (2 * n) (now (table .entry)) (now (sums .entry)) step) (2 * n) (2 * n) ⌝ }
+{
+    let size = 2 * n;
+    let mut v = 0;
+    let mut at = 0;
+    while v < size {
+        put_in_row(&mut table[at..at + size], sums, step);
+        v += 1;
+        at += size;
+    }
+}
+
+// One more step in the table of 2n points: the distances with it, where no closed walk through it has a negative sum. Rows
+// that it changes nothing in are left alone.
+pub fn put_step(table: &mut [i64], n: usize, step: Step)
+    requires { ⌜ SizedTable n (now table) × StepOk n step ⌝ }
+    ensures { λ _. ⌜ now (table .exit) ≡ stepAfter (2 * n) step (now (table .entry)) ⌝ }
+{
+    let mut sums = [0i64; MOST_POINTS];
+    write_sums(table, n, step, &mut sums);
+    put_in_rows(table, n, step, &sums);
 }

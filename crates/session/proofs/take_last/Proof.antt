@@ -9,7 +9,7 @@ use lib.IntN.{ℤ}
 use Rattle.session_state.specs.declared.Head.{Head}
 use Rattle.session_state.specs.State.{variablesIn, countIn, refusedIn, headOk}
 use Rattle.session_state.specs.Laws.{HeadOk, state-head, state-head-ok, with-head, with-count}
-use Rattle.session_remake.specs.Remade.{Left, left-of}
+use Rattle.session_remake.specs.Remade.{remadeTable, remade-size}
 use Rattle.session.specs.Taken.{taken-no, taken-anew}
 use Rattle.session.proofs.take_last.Statement.{statement}
 use Rattle.session.proofs.take_last.Tie as tie
@@ -42,7 +42,7 @@ returns c =
     let p = c .before in
     let t = p .before .before in
     let r = t .before in
-    taken-no (state r) _ (sym (refused-is r) ∙ t .if1 .taken) (ok r .room) (p .pop-line .ensures)
+    taken-no (state r) _ (sym (refused-is r) ∙ t .if1 .taken) (p .pop-line .ensures)
 
 remake-table-requires : tie.Need-remake-table-requires
 remake-table-requires c κs = search needs
@@ -55,14 +55,14 @@ module _ (m : tie.After-remake-table) where
   abbrev made : List ℤ
   made = m .remake-table .last .0
 
-  left : Left (state read) made
-  left = left-of (state read) made (ok read .room) (m .remake-table .ensures)
-
   head : headOk made ≡ true
-  head = ap headOk (left .is) ∙ with-head (variablesIn (state read)) (state read) (left .table) (ok read .room) (left .size) ∙ state-head-ok (state read) (start read .pre .0)
+  head =
+      ap headOk (m .remake-table .ensures)
+      ∙ with-head (variablesIn (state read)) (state read) (remadeTable (state read)) (ok read .room) (remade-size (state read) (ok read .room))
+      ∙ state-head-ok (state read) (start read .pre .0)
 
   count : countIn made ≡ countIn (state read)
-  count = ap countIn (left .is) ∙ with-count (variablesIn (state read)) (state read) (left .table) (ok read .room) (left .size)
+  count = ap countIn (m .remake-table .ensures) ∙ with-count (variablesIn (state read)) (state read) (remadeTable (state read)) (ok read .room) (remade-size (state read) (ok read .room))
 
 pop-line-requires-2 : tie.Need-pop-line-requires-2
 pop-line-requires-2 c κs = let m = c .before .before in (head m, omega (arith, count m, start (read m) .pre .1))
@@ -75,7 +75,7 @@ returns-2 c =
     let p = c .before in
     let m = p .before .before .before in
     let r = read m in
-    taken-anew (state r) (made m) _ (sym (refused-is r) ∙ m .before .before .if1 .left) (ok r .room) (m .remake-table .ensures) (p .pop-line2 .ensures)
+    taken-anew (state r) (made m) _ (sym (refused-is r) ∙ m .before .before .if1 .left) (m .remake-table .ensures) (p .pop-line2 .ensures)
 
 pub take-last-spec : {M : Type 1} → statement M
 take-last-spec =

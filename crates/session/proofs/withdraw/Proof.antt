@@ -1,20 +1,17 @@
 -- `session::withdraw` meets its contract: each way out has the tests that led there.
 use mathlib.Core.Path.{_≡_, refl, sym, ap, _∙_}
 use mathlib.Core.Bool.{true, false}
-use mathlib.Core.List.{List, []}
+use mathlib.Core.List.{List}
 use Prim.Native.Nat.{ℕ, _<_}
 use native.Mathlib.Omega.{arith}
 use borrow.Author.Needs.{needs}
 use borrow.Author.Tests.{not-true, not-false, eq-eqb, ne-eqb}
 use lib.Dec.{eqb}
 use lib.IntN.{ℤ}
-use Rattle.integers.specs.Laws.{never}
 use Rattle.session_state.specs.declared.Head.{Head}
 use Rattle.session_state.specs.State.{countIn, isState}
 use Rattle.session_state.specs.Laws.{state-head-ok}
-use Rattle.session_state.specs.Session.{length-more}
 use Rattle.session_promise.specs.Promise.{withdrawAnswer}
-use Rattle.session_promise.specs.Standing.{count, is-state}
 use Rattle.session.proofs.withdraw.Statement.{statement}
 use Rattle.session.proofs.withdraw.Tie as tie
 
@@ -22,7 +19,7 @@ returns : tie.Need-returns
 unfolding withdrawAnswer
 returns c =
     let none : isState (c .before .before .before .args .state .now) ≡ false = sym (c .before .is-state .ensures) ∙ not-true (c .before .is-state .result) (c .if1 .taken) in
-    record { is = rw none; table = []; size = λ v. never (cc); state = refl; learned = λ n ls l refused k. let clash : true ≡ false = sym (is-state k) ∙ none in never (cc) }
+    record { is = rw none; state = refl }
 
 -- the numbers are a state
 module _ (e : tie.Else1) where
@@ -43,13 +40,7 @@ unfolding withdrawAnswer
 returns-2 c =
     let r = c .before .before in
     let zero : countIn (state r) ≡ 0 = sym (count-is r) ∙ c .if2 .taken in
-    record {
-      is = rw (is (r .before .before), eq-eqb (countIn (state r)) 0 zero);
-      table = [];
-      size = λ v. never (cc);
-      state = refl;
-      learned = λ n ls l refused k. absurd (omega (arith, zero, count k, length-more ls l));
-    }
+    record { is = rw (is (r .before .before), eq-eqb (countIn (state r)) 0 zero); state = refl }
 
 -- there is a line
 some : (e : tie.Else2) → 0 < countIn (state (e .before .before))
@@ -69,8 +60,7 @@ returns-3 c =
     let p = c .before in
     let e = p .before .before in
     let r = e .before .before in
-    let taken = p .take-last .ensures in
-    record { is = rw (is (r .before .before), lt-zero (countIn (state r)) (some e)); table = taken .table; size = λ v. taken .size; state = taken .state; learned = taken .learned }
+    record { is = rw (is (r .before .before), lt-zero (countIn (state r)) (some e)); state = p .take-last .ensures }
 
 same-length : tie.Need-same-length
 same-length c = search needs

@@ -1,5 +1,5 @@
 -- `session_answer::learn_in` meets its contract: the part that is lent is the state's table.
-use mathlib.Core.Path.{_≡_, ap, subst, _∙_}
+use mathlib.Core.Path.{_≡_, ap, _∙_}
 use mathlib.Core.List.{List, _++_}
 use Prim.Native.Nat.{ℕ, _-_}
 use native.Mathlib.Omega.{arith}
@@ -7,8 +7,8 @@ use borrow.Author.Needs.{needs}
 use denote.Ref.{now}
 use lib.IntN.{ℤ}
 use lib.ListN.{length, take, drop}
-use Rattle.session_learn.specs.Learnt.{LearnDone}
-use Rattle.session_state.specs.State.{frontRoom, tableRoom}
+use Rattle.session_learn.specs.Learnt.{learns, learnt}
+use Rattle.session_state.specs.State.{frontRoom, tableRoom, withTable}
 use Rattle.session_state.specs.Laws.{room-is, length-tableIn}
 use Rattle.session_answer.proofs.learn_in.Statement.{statement}
 use Rattle.session_answer.proofs.learn_in.Tie as tie
@@ -41,29 +41,24 @@ part-learn-line-end c = omega (arith, c .session-room .ensures, c .before .pre .
 
 learn-line-requires : tie.Need-learn-line-requires
 learn-line-requires c κs =
-    let r = c .before .before in
+    let r = c .before in
     let p = r .before .pre in
-    record { table = record { variables = p .few; size = size r }; valid = p .valid; line = p .line; room = p .spare }
+    record { table = record { variables = p .few; size = size r }; valid = p .valid; line = p .line }
 
 same-length : tie.Need-same-length
 same-length c = search needs
 
-same-length-2 : tie.Need-same-length-2
-same-length-2 c = search needs
-
 returns : tie.Need-returns
 returns c =
-    let d = c .before .before in
-    let r = d .before .before .before in
+    let d = c .before in
+    let r = d .before .before in
     let a = r .before .args in
     let t = d .learn-line .last .1 .1 .0 in
-    let same : length t ≡ length (part r (r .session-room .result)) = search needs in
-    record {
-      table = t;
-      size = same ∙ size r;
-      done = subst (λ (j : ℕ). LearnDone (n r) (now (a .list)) (a .k) (part r j) (now (a .spare)) t (d .learn-line .last .1 .1 .1 .0) (d .learn-line .result)) (r .session-room .ensures) (d .learn-line .ensures);
-      is = ap (λ (j : ℕ). take frontRoom (state r) ++ (t ++ drop (j - frontRoom) (drop frontRoom (state r)))) (r .session-room .ensures);
-    }
+    let end = r .session-room .ensures in (
+      d .learn-line .ensures .0 ∙ ap (λ (j : ℕ). learns (n r) (now (a .list)) (a .k) (part r j)) end,
+      ap (λ (j : ℕ). take frontRoom (state r) ++ (t ++ drop (j - frontRoom) (drop frontRoom (state r)))) end
+          ∙ ap (withTable (n r) (state r)) (d .learn-line .ensures .1 ∙ ap (λ (j : ℕ). learnt (n r) (now (a .list)) (a .k) (part r j)) end),
+    )
 
 pub learn-in-spec : {M : Type 1} → statement M
 learn-in-spec =
@@ -75,5 +70,4 @@ learn-in-spec =
     part-learn-line-end
     learn-line-requires
     same-length
-    same-length-2
     returns)

@@ -1,5 +1,5 @@
 -- `session_remake::put_table` meets its contract: the part that is lent is the state's table.
-use mathlib.Core.Path.{_≡_, ap, _∙_}
+use mathlib.Core.Path.{_≡_, ap, ap₂, _∙_}
 use mathlib.Core.List.{List, _++_}
 use Prim.Native.Nat.{ℕ, _-_}
 use native.Mathlib.Omega.{arith}
@@ -40,24 +40,17 @@ part-table-anew-end c = omega (arith, c .session-room .ensures, c .before .pre .
 
 table-anew-requires : tie.Need-table-anew-requires
 table-anew-requires c κs =
-    let r = c .before .before in
-    record { table = record { variables = r .before .pre .0; size = size r }; valid = r .before .pre .1; room = omega (arith, r .before .pre .0) }
+    let r = c .before in
+    (record { variables = r .before .pre .0; size = size r }, r .before .pre .1)
 
 same-length : tie.Need-same-length
 same-length c = search needs
 
 returns : tie.Need-returns
 returns c =
-    let made = c .before .before in
-    let r = made .before .before .before in
-    record {
-      table = made .table-anew .last .1 .1 .0;
-      scratch = _;
-      sums = made .table-anew .last .1 .1 .1 .0;
-      count = made .table-anew .result;
-      done = made .table-anew .ensures;
-      is = ap (λ (j : ℕ). take frontRoom (state r) ++ (made .table-anew .last .1 .1 .0 ++ drop (j - frontRoom) (drop frontRoom (state r)))) (r .session-room .ensures);
-    }
+    let made = c .before in
+    let r = made .before .before in
+    ap₂ (λ (t : List ℤ) (j : ℕ). take frontRoom (state r) ++ (t ++ drop (j - frontRoom) (drop frontRoom (state r)))) (made .table-anew .ensures) (r .session-room .ensures)
 
 pub put-table-spec : {M : Type 1} → statement M
 put-table-spec =
@@ -67,7 +60,6 @@ put-table-spec =
     sub-table-anew
     part-table-anew-start
     part-table-anew-end
-    (search needs)
     table-anew-requires
     same-length
     returns)

@@ -1,5 +1,5 @@
 -- `session_remake::remake_table` meets its contract: the list that is looked at has the lines before the last.
-use mathlib.Core.Path.{_≡_, sym, ap, subst, _∙_}
+use mathlib.Core.Path.{_≡_, sym, ap, ap₂, subst, _∙_}
 use mathlib.Core.List.{List}
 use Prim.Native.Nat.{ℕ, _*_, _-_, _≤_}
 use native.Mathlib.Omega.{arith}
@@ -12,10 +12,11 @@ use Rattle.lines.specs.declared.Validity.the-variants.{Valid}
 use Rattle.lines.specs.Limits.{lineSize, maxLines}
 use Rattle.lines.specs.Refusal.{validityOf}
 use Rattle.lines.specs.Valid.{LinesOk, workable}
+use Rattle.session_table.specs.Anew.{anewTable}
 use Rattle.session_state.specs.declared.Head.{Head}
-use Rattle.session_state.specs.State.{sessionRoom, variablesIn, countIn, numbersIn}
+use Rattle.session_state.specs.State.{sessionRoom, variablesIn, countIn, numbersIn, withTable}
 use Rattle.session_state.specs.Laws.{HeadOk, state-head, state-head-ok, length-numbersIn}
-use Rattle.session_remake.specs.Remade.{MadeAnew, numbersBefore, remade-anew, remade-not}
+use Rattle.session_remake.specs.Remade.{numbersBefore, remade-anew, remade-not}
 use Rattle.session_remake.proofs.remake_table.Statement.{statement}
 use Rattle.session_remake.proofs.remake_table.Tie as tie
 
@@ -123,10 +124,9 @@ returns c =
     let put = c .before in
     let e = put .before .before .before in
     let r = read (looked e) in
-    let t = put .put-table .last .1 .1 .0 in
-    remade-anew (state r) t (valid e)
-    (subst (λ (j : ℕ). MadeAnew j (numbersBefore (state r)) (state r) t) (variables-is r)
-    (subst (λ (L : List ℤ). MadeAnew (r .read-head .result .n) L (state r) t) (list-is r) (put .put-table .ensures)))
+    put .put-table .ensures
+    ∙ ap₂ (λ (j : ℕ) (L : List ℤ). withTable j (state r) (anewTable j L)) (variables-is r) (list-is r)
+    ∙ ap (withTable (variablesIn (state r)) (state r)) (sym (remade-anew (state r) (valid e)))
 
 returns-2 : tie.Need-returns-2
 returns-2 c =

@@ -1,5 +1,5 @@
 -- `session_step::lower_row` meets its contract. The invariant: the first i entries are lowered.
-use mathlib.Core.Path.{_≡_, refl, sym, ap, ap₂, _∙_}
+use mathlib.Core.Path.{_≡_, refl, ap, ap₂, _∙_}
 use mathlib.Core.List.{List}
 use Prim.Native.Nat.{ℕ, _-_, _≤_, _<_}
 use native.Mathlib.Omega.{arith}
@@ -15,7 +15,7 @@ use Rattle.lines.specs.Line.{number}
 use Rattle.decide_rows.specs.Read.{distanceOf, Short}
 use Rattle.decide_stored_table.specs.Sum.{maxTight}
 use Rattle.integers.specs.Fill.{filled, filled-more}
-use Rattle.session_step.specs.Lower.{lowerAt, filled-next, filled-all, lower-is, lower-none}
+use Rattle.session_step.specs.Lower.{lowerAt, filled-next, filled-all, lower-is}
 use Rattle.session_step.proofs.lower_row.Statement.{statement}
 use Rattle.session_step.proofs.lower_row.Tie as tie
 
@@ -31,7 +31,7 @@ module _ (c : tie.After-sum-arg Inv-loop μ-loop) where
   l = c .before .before .before
 
   abbrev s : tie.Start Inv-loop μ-loop
-  s = l .before .before
+  s = l .before
 
   abbrev i : ℕ
   i = l .loop .i
@@ -82,13 +82,8 @@ same-length c = search needs
 
 returns : tie.Need-returns Inv-loop μ-loop
 returns c =
-    let s = c .before in
-    lower-none (now (s .args .row)) (now (s .args .sums)) (s .args .rest) (sym (toZ-ofZ (s .fits .rest)) ∙ ap (toZ w64) (c .if1 .taken))
-
-returns-2 : tie.Need-returns-2 Inv-loop μ-loop
-returns-2 c =
     let l = c .before in
-    let s = l .before .before in
+    let s = l .before in
     let row = now (s .args .row) in
     let e : l .loop .i ≡ length row = omega (arith, l .loop .inv .0, c .loop-test .left) in
     l .loop .inv .2
@@ -101,7 +96,6 @@ lower-row-spec =
     (tie.spec
     Inv-loop
     μ-loop
-    returns
     (λ c. (omega arith, refl, refl))
     (search needs)
     (search needs)
@@ -115,4 +109,4 @@ lower-row-spec =
     (search needs)
     loop-again
     same-length
-    returns-2)
+    returns)
