@@ -24,19 +24,24 @@ struct Adds {
     slowest: f64,
 }
 
-/// The seconds of a session: of deciding all its lines once, of the library's adds and of
-/// plain Rust's, and of the library's last line withdrawn.
+/// The seconds of a session: of deciding all its lines once, of clearing the work area alone,
+/// which every add does, of the library's adds and of plain Rust's, and of the library's last
+/// line withdrawn.
 struct Times {
     decided: f64,
+    cleared: f64,
     library: Adds,
     plain: Adds,
     withdrawn: f64,
 }
 
-/// An add as a multiple of deciding all lines once: on average, and the slowest.
+/// As multiples of deciding all lines once: an add on average, the slowest, plain Rust's on
+/// average, and clearing the work area alone.
 struct Multiples {
     mean: f64,
     slowest: f64,
+    plain: f64,
+    cleared: f64,
 }
 
 /// Prints a row for each family whose lists may be those of a session, and what the bar
@@ -51,12 +56,17 @@ pub fn print(families: &[Family]) {
     println!();
     println!("| Bar | Measured |");
     println!("|---|---|");
-    for (_, Multiples { mean, slowest }) in rows.iter().filter(|(name, _)| *name == SPARSE) {
+    for (_, sparse) in rows.iter().filter(|(name, _)| *name == SPARSE) {
         println!(
             "| Sparse sessions of {MOST_VARIABLES} variables, an add as a multiple of deciding \
              all lines once, at most 0.10 | {}; the slowest {} |",
-            shown(*mean),
-            shown(*slowest)
+            shown(sparse.mean),
+            shown(sparse.slowest)
+        );
+        println!(
+            "| The same, plain Rust | {}; clearing the work area alone {} |",
+            shown(sparse.plain),
+            shown(sparse.cleared)
         );
     }
 }
@@ -102,6 +112,8 @@ fn print_row(family: &Family) -> Multiples {
     let multiples = Multiples {
         mean: all / lines / decided,
         slowest: slowest / decided,
+        plain: plain_all / lines / decided,
+        cleared: mean(|times| times.cleared) / decided,
     };
     let cells = [
         milliseconds(decided),
@@ -123,6 +135,7 @@ fn print_row(family: &Family) -> Multiples {
 fn times(n: usize, list: &[Line]) -> Option<Times> {
     let mut out = Buffers::new(n);
     let decided = decided(n, list, &mut out)?;
+    let cleared = cleared(&mut out);
     let mut least = vec![[f64::MAX; 2]; list.len()];
     let mut state = vec![0; session_room(n)];
     for _ in 0..PASSES {
@@ -136,6 +149,7 @@ fn times(n: usize, list: &[Line]) -> Option<Times> {
     };
     Some(Times {
         decided,
+        cleared,
         library: adds(0),
         plain: adds(1),
         withdrawn,
@@ -157,6 +171,16 @@ fn decided(n: usize, list: &[Line], out: &mut Buffers) -> Option<f64> {
         }
     }
     Some(least)
+}
+
+/// The seconds of clearing the work area, the least of some tries.
+fn cleared(out: &mut Buffers) -> f64 {
+    let mut least = f64::MAX;
+    for _ in 0..TRIES {
+        out.fill();
+        timed(&mut least, || black_box(&mut out.work).fill(0));
+    }
+    least
 }
 
 /// Adds all lines of a list to a session that starts here, by the library and in plain Rust
