@@ -11,6 +11,7 @@ use mathlib.Core.List.{List, [], _∷_, _++_, append-assoc}
 use Prim.Native.Nat.{ℕ, _+_, _<_, _≤_}
 use lib.IntN.{ℤ}
 use lib.ListN.{length, drop}
+use Rattle.integers.specs.Laws.{never}
 use Rattle.lines.specs.declared.Line.{Line}
 use Rattle.lines.specs.declared.Refusal.{Refusal}
 use Rattle.lines.specs.declared.Refusal.the-variants.{TooManyVariables, TooManyLines, ShortOutput, AfterNo}
@@ -24,8 +25,9 @@ use Rattle.decide_buffers.specs.Room.{Lent, ModelLent, lengthsOf, modelLengthsO
 use Rattle.decide.specs.declared.Answer.{Answer}
 use Rattle.decide.specs.declared.Answer.the-variants as decide
 use Rattle.decide.specs.Decided.{NotRefused, unlessRefused, answerFor, validityFor, Decided}
-use Rattle.session_state.specs.State.{sessionRoom, stateOf}
-use Rattle.session_promise.specs.Promise.{Stands, statePlace, startAnswer, startState, learnsIn, learntTable, addAnswer, addState, FromTable, LearntLeft, AddLeft, withdrawAnswer, withdrawState, Starts, Adds, Withdraws}
+use Rattle.session_state.specs.State.{sessionRoom, stateOf, variablesIn, numbersWith}
+use Rattle.decide.specs.Parts.{no-answers}
+use Rattle.session_promise.specs.Promise.{Stands, statePlace, startAnswer, startState, addValidity, learnsIn, learntTable, learntAnswer, addAnswer, addState, FromTable, LearntLeft, AddLeft, withdrawAnswer, withdrawState, Starts, Adds, Withdraws}
 use Rattle.session_promise.specs.Standing.{add-answer}
 use Rattle.session_promise.specs.Sequence.{Reached, Grown, AddsTo, WithdrawsFrom, add-validity, went-on, adds-to, withdraws-from, reached-stands, reached-more, grown-reached, add-withdraw}
 use Rattle.implied_line.specs.Answer as line
@@ -234,6 +236,32 @@ adds-alike s l x y b t u a e d f =
           refutation = λ z. ap (λ (c : Lent). c .refutation) same;
           identifiers = λ z. ap (λ (c : Lent). c .identifiers) same;
         }
+
+-- And a no is right, whatever stands in the state: it is a call of deciding, on the lines in the state with the new one behind them. Only a yes may be wrong,
+-- where the table is.
+pub no-is-right : (s : List ℤ) (l : Line) (b : Lent) (t : List ℤ) (a : Lent) → Adds s l decide.No b t a
+    → (c : Call (variablesIn s) (numbersWith s l)) × (c .answer ≡ decide.No) × (c .before ≡ b) × (c .after ≡ a)
+unfolding addAnswer
+no-is-right s l b t a d = go (learnsIn s l) (d .left) (d .is)
+  where
+    n : ℕ
+    n = variablesIn s
+
+    L : List ℤ
+    L = numbersWith s l
+
+    -- a refusal is no no
+    beyond : (v : Validity) (x : Answer) → decide.No ≡ unlessRefused v x → decide.No ≡ x
+    beyond validity.Valid x e = e
+    beyond (validity.Refused r) x e = never (cc)
+
+    go : (c : Bool) → LearntLeft c (variablesIn s) (numbersWith s l) (learntTable s l) decide.No b a
+        → decide.No ≡ unlessRefused (addValidity s) (unlessRefused (validityFor (variablesIn s) (numbersWith s l) b) (learntAnswer c (variablesIn s) (numbersWith s l) b))
+        → (k : Call (variablesIn s) (numbersWith s l)) × (k .answer ≡ decide.No) × (k .before ≡ b) × (k .after ≡ a)
+    go true o e = let clash : decide.No ≡ decide.Yes = beyond (validityFor n L b) _ (beyond (addValidity s) _ e) in never (cc)
+    go false o e =
+        let is : decide.No ≡ answerFor n L b = beyond (validityFor n L b) _ (beyond (addValidity s) _ e) in
+        (record { answer = decide.No; before = b; after = a; decided = record { is = is; leaves = o }; not-refused = no-answers }, refl, refl, refl)
 
 -- ---- questions, without adding
 
