@@ -15,7 +15,7 @@ use crate::timing::{answer, LONG, TRIES};
 
 /// The most sessions of a family, each so often: of each add the least time counts.
 const MOST_SESSIONS: usize = 3;
-const PASSES: usize = 2;
+const PASSES: usize = 4;
 
 /// The seconds of the adds of a session: in all, and those of the slowest.
 #[derive(Clone, Copy, Default)]

@@ -1,6 +1,7 @@
 //! States whose table is not that of their lines, which no call leaves: any numbers, those at
 //! which sums overflow, a table of other lines. Each call ends, is refused as for a state with
-//! the right table, and changes nothing but what it may.
+//! the right table, changes nothing but what it may, and, handed the same numbers, does the
+//! same once more.
 
 use utvpi_tests::buffers::needed;
 use utvpi_tests::chance::Chance;
@@ -35,6 +36,9 @@ const EDGES: [i64; 14] = [
     i64::MAX - 1,
     i64::MAX,
 ];
+
+/// Calls on states of at most so many variables are made twice.
+const TWICE: u64 = 8;
 
 /// Sorts of wrong tables.
 const SORTS: usize = 6;
@@ -100,11 +104,17 @@ fn some_call(chance: &mut Chance, numbers: &[i64], seen: &mut Seen) -> Vec<i64> 
     }
     let (result, left) = if chance.one_in(if session.refuted { 2 } else { 4 }) {
         let (result, left) = withdraw_from(chance, numbers);
+        if n <= TWICE {
+            assert!(withdraw_from(chance, numbers) == (result, left.clone()));
+        }
         seen.withdrawn += usize::from(result == 0);
         (result, left)
     } else {
         let due = session.add_refusal(line, needed(n));
         let (result, left) = add_to(chance, numbers, line, needed(n));
+        if n <= TWICE {
+            assert!(add_to(chance, numbers, line, needed(n)) == (result, left.clone()));
+        }
         assert_eq!(due.map(|due| due.code()), (result < 0).then_some(result));
         seen.added += usize::from(result >= 0);
         seen.no += usize::from(result > 0);
