@@ -26,7 +26,7 @@ use Rattle.theory_bounds.specs.Tight.{Table}
 use Rattle.theory_inserting.specs.Insert.{inserted, through}
 use Rattle.theory_inserting.specs.Two.{insertNamed}
 use Rattle.decide_rows.specs.Stored.{stored}
-use Rattle.decide_rows.specs.Read.{noWalk, distanceOf, Short, maxDistance, of-none, of-some, short-more, stored-of}
+use Rattle.decide_rows.specs.Read.{noWalk, distanceOf, Short, maxDistance, of-none, of-some, short-more, store-none}
 use Rattle.decide_rows.specs.Numbers.{StepOk, numbered-ok}
 use Rattle.decide_stored_table.specs.Sum.{min-short}
 use Rattle.session_step.specs.Read.{smallTable, SizedTable, small-short}
@@ -39,23 +39,24 @@ maxWay = maxDistance + maxWeight + maxDistance
 abbrev pub maxTwice : ℕ
 maxTwice = maxWay + maxWeight + maxWay
 
-abbrev pub NamedOk : ℕ → NamedStep → Type 0
-NamedOk n (Found s) = StepOk n s
-NamedOk n Nothing = Unit {0}
+-- a step that may be there
+abbrev pub NamedStepOk : ℕ → NamedStep → Type 0
+NamedStepOk n (Found s) = StepOk n s
+NamedStepOk n Nothing = Unit {0}
 
 pub record EntryReady (n : ℕ) (t : List ℤ) (x : NamedStep) (u v : ℕ) : Type 0 where
   pub table : SizedTable n t
-  pub step : NamedOk n x
+  pub step : NamedStepOk n x
   pub u-lt : u < 2 * n
   pub v-lt : v < 2 * n
 
 pub record StepsReady (n : ℕ) (t : List ℤ) (x y : NamedStep) : Type 0 where
   pub table : SizedTable n t
-  pub first : NamedOk n x
-  pub second : NamedOk n y
+  pub first : NamedStepOk n x
+  pub second : NamedStepOk n y
 
 -- a step of a list's line
-pub numbered-named : (n : ℕ) (L : List ℤ) → LinesOk n L → (k : ℕ) (x : NamedStep) → x ≡ stepNumbered L k → NamedOk n x
+pub numbered-named : (n : ℕ) (L : List ℤ) → LinesOk n L → (k : ℕ) (x : NamedStep) → x ≡ stepNumbered L k → NamedStepOk n x
 numbered-named n L ok k (Found s) e = numbered-ok n L ok k s (sym e)
 numbered-named n L ok k Nothing e = tt
 
@@ -65,15 +66,15 @@ way-short m none b w ha hb hw z e = never (cc)
 way-short m (some x) none w ha hb hw z e = never (cc)
 way-short m (some x) (some y) w ha hb hw z e = let q : x +ℤ w +ℤ y ≡ z = (cc) in rw q at (within-sum (within-sum (ha x refl) hw) (hb y refl))
 
-named-short : (n m : ℕ) (D : Table) → ((u v : ℕ) → Short m (D u v)) → (x : NamedStep) → NamedOk n x → (u v : ℕ) → Short (m + maxWeight + m) (insertNamed D x u v)
+named-short : (n m : ℕ) (D : Table) → ((u v : ℕ) → Short m (D u v)) → (x : NamedStep) → NamedStepOk n x → (u v : ℕ) → Short (m + maxWeight + m) (insertNamed D x u v)
 named-short n m D h (Found s) ok u v = min-short (D u v) _ _ (short-more (omega arith) (h u v)) (way-short m (D u (s .from)) (D (s .to) v) (s .weight) (h u (s .from)) (h (s .to) v) (ok .small))
 named-short n m D h Nothing ok u v = short-more (omega arith) (h u v)
 
-module _ (n : ℕ) (t : List ℤ) (x : NamedStep) (ok : NamedOk n x) where
+module _ (n : ℕ) (t : List ℤ) (x : NamedStep) (ok : NamedStepOk n x) where
   pub once-short : (u v : ℕ) → Short maxWay (insertNamed (smallTable (2 * n) t) x u v)
   once-short = named-short n maxDistance (smallTable (2 * n) t) (λ u v. small-short (number t (v * (2 * n) + u))) x ok
 
-  pub twice-short : (y : NamedStep) → NamedOk n y → (u v : ℕ) → Short maxTwice (insertNamed (insertNamed (smallTable (2 * n) t) x) y u v)
+  pub twice-short : (y : NamedStep) → NamedStepOk n y → (u v : ℕ) → Short maxTwice (insertNamed (insertNamed (smallTable (2 * n) t) x) y u v)
   twice-short y oy = named-short n maxWay (insertNamed (smallTable (2 * n) t) x) once-short y oy
 
 -- ---- read back
@@ -88,49 +89,35 @@ pub way-back : (d : Distance) → Short maxWay d → distanceOf (stored d) ≡ d
 way-back d s = far-back d (short-more (omega arith) s)
 
 -- ---- the way along the step, by the code
+far-fits : (z : ℤ) → Within maxTwice z → SFits w64 z
+far-fits z h = given₂ (h .low) (h .high) (simp ints (omega zs))
+
 module _ (own before weight after : ℤ) where
   pub way-none-before : before ≡ noWalk → own ≡ stored (minD (distanceOf own) (distanceOf before ⊕ weight ⊞ distanceOf after))
-  way-none-before e = sym (ap (λ (d : Distance). stored (minD (distanceOf own) (d ⊕ weight ⊞ distanceOf after))) (of-none before e) ∙ alone)
-    where
-      right : (d : Distance) → minD d none ≡ d
-      right none = refl
-      right (some d) = refl
-
-      alone : stored (minD (distanceOf own) none) ≡ own
-      alone = ap stored (right (distanceOf own)) ∙ stored-of own
+  way-none-before e = sym (store-none own) ∙ sym (ap (λ (d : Distance). stored (minD (distanceOf own) (d ⊕ weight ⊞ distanceOf after))) (of-none before e))
 
   pub way-none-after : after ≡ noWalk → own ≡ stored (minD (distanceOf own) (distanceOf before ⊕ weight ⊞ distanceOf after))
-  way-none-after e = sym (ap (λ (d : Distance). stored (minD (distanceOf own) (distanceOf before ⊕ weight ⊞ d))) (of-none after e) ∙ ap (λ (d : Distance). stored (minD (distanceOf own) d)) (nothing (distanceOf before ⊕ weight)) ∙ ap stored (right (distanceOf own)) ∙ stored-of own)
+  way-none-after e =
+      sym (store-none own)
+      ∙ ap (λ (d : Distance). stored (minD (distanceOf own) d)) (sym (nothing (distanceOf before ⊕ weight)))
+      ∙ sym (ap (λ (d : Distance). stored (minD (distanceOf own) (distanceOf before ⊕ weight ⊞ d))) (of-none after e))
     where
-      right : (d : Distance) → minD d none ≡ d
-      right none = refl
-      right (some d) = refl
-
       nothing : (d : Distance) → d ⊞ none ≡ none
       nothing none = refl
       nothing (some d) = refl
 
   module _ (hb : before ≡ noWalk → ⊥) (ha : after ≡ noWalk → ⊥) (sb : Short maxWay (distanceOf before)) (sa : Short maxWay (distanceOf after)) (hw : Within maxWeight weight) where
-    before-within : Within maxWay before
-    before-within = sb before (of-some before hb)
-
-    after-within : Within maxWay after
-    after-within = sa after (of-some after ha)
+    first-within : Within (maxWay + maxWeight) (before +ℤ weight)
+    first-within = within-sum (sb before (of-some before hb)) hw
 
     pub first-fits : SFits w64 (before +ℤ weight)
-    first-fits = fit (before +ℤ weight) (within-more (omega arith) (within-sum before-within hw))
-      where
-        fit : (z : ℤ) → Within maxTwice z → SFits w64 z
-        fit z h = given₂ (h .low) (h .high) (simp ints (omega zs))
+    first-fits = far-fits (before +ℤ weight) (within-more (omega arith) first-within)
 
     sum-within : Within maxTwice (before +ℤ weight +ℤ after)
-    sum-within = within-sum (within-sum before-within hw) after-within
+    sum-within = within-sum first-within (sa after (of-some after ha))
 
     pub sum-fits : SFits w64 (before +ℤ weight +ℤ after)
-    sum-fits = fit (before +ℤ weight +ℤ after) sum-within
-      where
-        fit : (z : ℤ) → Within maxTwice z → SFits w64 z
-        fit z h = given₂ (h .low) (h .high) (simp ints (omega zs))
+    sum-fits = far-fits (before +ℤ weight +ℤ after) sum-within
 
     pub way-is : (r : ℤ) → r ≡ stored (minD (distanceOf own) (distanceOf (before +ℤ weight +ℤ after))) → r ≡ stored (minD (distanceOf own) (distanceOf before ⊕ weight ⊞ distanceOf after))
     way-is r e =

@@ -19,7 +19,7 @@ use Rattle.decide_rows.specs.Stored.{stored}
 use Rattle.decide_rows.specs.Read.{Short, short-more, weight-fits}
 use Rattle.decide_rows.specs.Numbers.{StepOk}
 use Rattle.session_step.specs.Read.{smallTable, small-short}
-use Rattle.session_learn.specs.With.{maxWay, NamedOk, way-ready, with-step}
+use Rattle.session_learn.specs.With.{maxWay, NamedStepOk, way-ready, with-step}
 use Rattle.session_learn.proofs.entry_with.Statement.{statement}
 use Rattle.session_learn.proofs.entry_with.Tie as tie
 
@@ -47,7 +47,7 @@ module _ (c : tie.After-x) where
   is = c .x .given .1
 
   ok : StepOk (s .args .n) found
-  ok = subst (NamedOk (s .args .n)) is (s .pre .step)
+  ok = subst (NamedStepOk (s .args .n)) is (s .pre .step)
 
   weight-is : toZ w64 (ofZ w64 (found .weight)) ≡ found .weight
   weight-is = toZ-ofZ (weight-fits (found .weight) (ok .small))

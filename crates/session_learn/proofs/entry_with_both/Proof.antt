@@ -17,7 +17,7 @@ use Rattle.decide_rows.specs.Stored.{stored}
 use Rattle.decide_rows.specs.Read.{Short, weight-fits}
 use Rattle.decide_rows.specs.Numbers.{StepOk}
 use Rattle.session_step.specs.Read.{smallTable}
-use Rattle.session_learn.specs.With.{maxWay, NamedOk, once-short, way-ready, with-step}
+use Rattle.session_learn.specs.With.{maxWay, NamedStepOk, once-short, way-ready, with-step}
 use Rattle.session_learn.proofs.entry_with_both.Statement.{statement}
 use Rattle.session_learn.proofs.entry_with_both.Tie as tie
 
@@ -45,7 +45,7 @@ module _ (c : tie.After-y) where
   is = c .y .given .1
 
   ok : StepOk (s .args .n) found
-  ok = subst (NamedOk (s .args .n)) is (s .pre .1 .step)
+  ok = subst (NamedStepOk (s .args .n)) is (s .pre .1 .step)
 
   weight-is : toZ w64 (ofZ w64 (found .weight)) ≡ found .weight
   weight-is = toZ-ofZ (weight-fits (found .weight) (ok .small))
