@@ -1,7 +1,7 @@
 -- Versions of a session's calls that go wrong in one thing, each a definition, and at a named state what breaks the promise. Beside them the versions that keep
 -- it, so that those break it only by what they do otherwise.
 use mathlib.Core.Path.{_≡_, refl, sym, ap, subst, _∙_}
-use mathlib.Core.Bool.{Bool, true, false, not, cond}
+use mathlib.Core.Bool.{Bool, true, false, not, cond, _&&_}
 use mathlib.Core.List.{List, [], _∷_, _++_}
 use Prim.Native.Nat.{ℕ, _+_, _-_, _*_}
 use native.Mathlib.Omega.{arith}
@@ -297,11 +297,14 @@ without-first-breaks k =
     let same : decide.Yes ≡ decide.No = sym wrong ∙ k s least b .is ∙ add-answer holds least b ∙ both-no in
     never (cc)
 
--- it looks at walks alone and not at halves, so that half-integers count: x + x at most 1, and then at least 1
+-- it looks at false lines and at walks, and not at halves, so that half-integers count: x + x at most 1, and then at least 1
+abbrev byWalks : ℕ → List ℤ → Lent → Answer
+byWalks n L b = unlessRefused (validityFor n L b) (cond (not (hasFalse (linesOf L)) && noNegative (stepsOf (linesOf L)) (2 * n)) decide.Yes decide.No)
+
 pub learnsHalves : List ℤ → Line → Lent → Added
 learnsHalves s l b =
     record {
-      answer = unlessRefused (addValidity s) (cond (noNegative (stepsOf (linesOf (numbersWith s l))) (2 * variablesIn s)) decide.Yes decide.No);
+      answer = unlessRefused (addValidity s) (byWalks (variablesIn s) (numbersWith s l) b);
       state = rightAdd s l b .state;
       after = rightAdd s l b .after;
     }
@@ -320,8 +323,9 @@ one-yes : verdictOf 1 (atMostOne ∷ []) ≡ true
 unfolding verdictOf hasFalse isFalse noNegative consistentHalves entry digit stepOf stepsOf relaxRow startRow rounds rowAt best opposite
 one-yes = refl
 
-no-walk : noNegative (stepsOf (linesOf (numbersOf (atMostOne ∷ atLeastOne ∷ [])))) 2 ≡ true
-unfolding numbersOf lineNumbers lineAt noNegative entry digit stepOf stepsOf relaxRow startRow rounds rowAt best
+no-walk : byWalks 1 (numbersOf (atMostOne ∷ atLeastOne ∷ [])) (roomWith 1 9) ≡ decide.Yes
+unfolding numbersOf lineNumbers decideValidity roomsValidity validityOf linesValidity lineTests lineAt isFalse hasFalse noNegative entry digit stepOf
+    stepsOf relaxRow startRow rounds rowAt best
 no-walk = refl
 
 no-whole-number : answerFor 1 (numbersOf (atMostOne ∷ atLeastOne ∷ [])) (roomWith 1 9) ≡ decide.No
@@ -335,10 +339,10 @@ learns-halves-breaks k =
     let s = state (atMostOne ∷ []) false in
     let b = roomWith 1 9 in
     let holds = stands 1 (atMostOne ∷ []) one-valid false s [] refl one-yes one-yes in
-    let wrong : unlessRefused (addValidity s) (cond (noNegative (stepsOf (linesOf (numbersWith s atLeastOne))) (2 * variablesIn s)) decide.Yes decide.No) ≡ decide.Yes =
-    ap (λ (v : Validity). unlessRefused v (cond (noNegative (stepsOf (linesOf (numbersWith s atLeastOne))) (2 * variablesIn s)) decide.Yes decide.No)) (state-validity holds)
-    ∙ ap (λ (n : ℕ). cond (noNegative (stepsOf (linesOf (numbersWith s atLeastOne))) (2 * n)) decide.Yes decide.No) (variables holds)
-    ∙ ap (λ (L : List ℤ). cond (noNegative (stepsOf (linesOf L)) 2) decide.Yes decide.No) (all-numbers holds atLeastOne)
-    ∙ ap (λ (c : Bool). cond c decide.Yes decide.No) no-walk in
+    let wrong : unlessRefused (addValidity s) (byWalks (variablesIn s) (numbersWith s atLeastOne) b) ≡ decide.Yes =
+    ap (λ (v : Validity). unlessRefused v (byWalks (variablesIn s) (numbersWith s atLeastOne) b)) (state-validity holds)
+    ∙ ap (λ (n : ℕ). byWalks n (numbersWith s atLeastOne) b) (variables holds)
+    ∙ ap (λ (L : List ℤ). byWalks 1 L b) (all-numbers holds atLeastOne)
+    ∙ no-walk in
     let same : decide.Yes ≡ decide.No = sym wrong ∙ k s atLeastOne b .is ∙ add-answer holds atLeastOne b ∙ no-whole-number in
     never (cc)
