@@ -1,15 +1,14 @@
 -- What inserting a step does to a table of numbers, whatever they are, and what its contract asks.
 use mathlib.Core.Path.{_≡_, refl, sym, ap, ap₂, _∙_}
-use mathlib.Core.Bool.{Bool, false, cond}
-use mathlib.Core.List.{List, _++_}
-use Prim.Native.Nat.{ℕ, _+_, _*_, _<_, _≤_}
+use mathlib.Core.Bool.{Bool, true, false, cond, _||_}
+use mathlib.Core.List.{List}
+use Prim.Native.Nat.{ℕ, _+_, _*_}
 use native.Mathlib.Omega.{arith}
 use lib.IntN.{ℤ, pos}
-use lib.ListN.{length, drop, length-append, List·getD-append}
+use lib.ListN.{length}
 use lib.Signed.{leZ}
 use Rattle.integers.specs.Integer.{_⩽_, Within}
 use Rattle.integers.specs.Linear.{ints}
-use Rattle.integers.specs.Sequence.{tabulate, length-tabulate, getD-tabulate}
 use Rattle.lines.specs.Line.{number}
 use Rattle.steps.specs.declared.Step.{Step}
 use Rattle.steps.specs.Step.{maxWeight}
@@ -23,10 +22,10 @@ use Rattle.decide_rows.specs.Numbers.{StepOk}
 use Rattle.decide_stored_table.specs.Sum.{maxTight, read-back}
 use Rattle.decide_stored_table.specs.Table.{tableOf, ShortTable}
 use Rattle.theory_bounds.specs.Agree.{Agree}
-use Rattle.theory_inserting.specs.Insert.{isAtMost, asNear, closing, inserted, insertedWhere, through}
-use Rattle.session_step.specs.Read.{smallTable, SizedTable, small-short, small-agree}
+use Rattle.theory_inserting.specs.Insert.{closing, inserted, through}
+use Rattle.theory_inserting.specs.Where.{isAtMost, startAsNear, endAsNear, insertedWhere, start-same, end-same}
+use Rattle.session_step.specs.Read.{smallOf, smallTable, small-short, small-agree}
 use Rattle.session_step.specs.Written.{written, written-length, written-same}
-use Rattle.session_step.specs.Lower.{RowsReady, lowered}
 
 -- ---- definitions
 -- from u to the step's start and along the step
@@ -40,7 +39,8 @@ atMost (some d) w = leZ d w
 
 -- the table with the step: entries are added as they are read, and compared as they stand
 abbrev pub insertedIn : ℕ → List ℤ → Step → Table
-insertedIn N t s u v = cond (asNear (smallTable N t) s v) (tableOf N t u v) (minD (tableOf N t u v) (through (smallTable N t) s u v))
+insertedIn N t s u v =
+    cond (startAsNear (smallTable N t) s v || endAsNear (smallTable N t) s u) (tableOf N t u v) (minD (tableOf N t u v) (through (smallTable N t) s u v))
 
 unfoldable pub stepAfter : ℕ → Step → List ℤ → List ℤ
 stepAfter N s t = written (insertedIn N t s) N N
@@ -48,10 +48,6 @@ stepAfter N s t = written (insertedIn N t s) N N
 pub after-size : (N : ℕ) (s : Step) (t : List ℤ) → length (stepAfter N s t) ≡ N * N
 unfolding stepAfter
 after-size N s t = written-length (insertedIn N t s) N N
-
--- the sums that are written on the way
-abbrev pub sumsAfter : Table → Step → ℕ → List ℤ → List ℤ
-sumsAfter D s N w = tabulate N (λ u. stored (along D s u)) ++ drop N w
 
 -- ---- a distance and the step's weight
 -- the greatest sum
@@ -89,6 +85,28 @@ at-most-stored none w h = above w (h .high)
     above w = simp ints (omega arith)
 at-most-stored (some d) w h = refl
 
+pub way-short : (z w : ℤ) → Within maxWeight w → Short maxAlong (smallOf z ⊕ w)
+way-short z w h d e = let x = ⊕-some (smallOf z) w d e in rw (x .2) at (within-sum (small-short z (x .0) (x .1)) h)
+
+-- ---- the tests of the code, on stored numbers: the number for no walk is the highest
+pub at-most-both : (a b : Distance) → Short maxTight a → Short maxTight b → leZ (stored a) (stored b) ≡ isAtMost a b
+at-most-both none none ha hb = refl
+at-most-both (some a) none ha hb = below a (ha a refl .high)
+  where
+    below : (a : ℤ) → a ⩽ pos maxTight → leZ a noWalk ≡ true
+    below a = simp ints (omega arith)
+at-most-both none (some b) ha hb = above b (hb b refl .high)
+  where
+    above : (b : ℤ) → b ⩽ pos maxTight → leZ noWalk b ≡ false
+    above b = simp ints (omega arith)
+at-most-both (some a) (some b) ha hb = refl
+
+-- whether an entry is at most the sum of another and the step's weight
+pub as-near-is : (x y w own way : ℤ) → Within maxWeight w → own ≡ stored (smallOf x) → way ≡ stored (smallOf y ⊕ w)
+    → leZ own way ≡ isAtMost (smallOf x) (smallOf y ⊕ w)
+as-near-is x y w own way h e f =
+    ap₂ leZ e f ∙ at-most-both (smallOf x) (smallOf y ⊕ w) (short-more (omega arith) (small-short x)) (short-more (omega arith) (way-short y w h))
+
 module _ (n : ℕ) (s : Step) (t : List ℤ) (ready : StepOk n s) where
   abbrev N : ℕ
   N = 2 * n
@@ -97,9 +115,7 @@ module _ (n : ℕ) (s : Step) (t : List ℤ) (ready : StepOk n s) where
   D = smallTable N t
 
   pub along-small : (u : ℕ) → Short maxAlong (along D s u)
-  along-small u z e =
-      let x = ⊕-some (D u (s .from)) (s .weight) z e in
-      rw (x .2) at (within-sum (small-short (number t (s .from * N + u)) (x .0) (x .1)) (ready .small))
+  along-small u = way-short (number t (s .from * N + u)) (s .weight) (ready .small)
 
   pub along-back : (u : ℕ) → distanceOf (stored (along D s u)) ≡ along D s u
   along-back u = read-back (along D s u) (short-more (omega arith) (along-small u))
@@ -108,30 +124,6 @@ module _ (n : ℕ) (s : Step) (t : List ℤ) (ready : StepOk n s) where
   pub stays-is : (z : ℤ) → z ≡ stored (along D s (s .to)) → leZ (pos 0) z ≡ notBelow0 (closing D s)
   stays-is z e = stored-sign z ∙ ap notBelow0 (ap distanceOf e ∙ along-back (s .to))
 
-  -- ---- after the sums are written
-  module _ (w : List ℤ) (room : N ≤ length w) where
-    sum-at : (u : ℕ) → u < N → number (sumsAfter D s N w) u ≡ stored (along D s u)
-    sum-at u h =
-        List·getD-append (tabulate N (λ u. stored (along D s u))) (drop N w) (pos 0) u (rw (length-tabulate N (λ u. stored (along D s u))) h)
-        ∙ getD-tabulate N u (λ u. stored (along D s u)) (pos 0) h
-
-    pub rows-ready : SizedTable n t → RowsReady n s t (sumsAfter D s N w)
-    rows-ready sized =
-        record {
-          table = sized;
-          step = ready;
-          long = rw (length-append (tabulate N (λ u. stored (along D s u))) (drop N w), length-tabulate N (λ u. stored (along D s u))) (omega arith);
-          sums-short = λ u h. rw (sum-at u h, along-back u) (short-more (omega arith) (along-small u));
-        }
-
-    -- the rows are lowered to those of the table with the step
-    pub lowered-is : written (lowered N t (sumsAfter D s N w) s) N N ≡ stepAfter N s t
-    unfolding stepAfter
-    lowered-is = written-same N (lowered N t (sumsAfter D s N w) s) (insertedIn N t s) same N (omega arith)
-      where
-        same : (u v : ℕ) → u < N → v < N → lowered N t (sumsAfter D s N w) s u v ≡ insertedIn N t s u v
-        same u v h l = ap (λ (d : Distance). cond (asNear (smallTable N t) s v) (tableOf N t u v) (minD (tableOf N t u v) (d ⊞ D (s .to) v))) (ap distanceOf (sum-at u h) ∙ along-back u)
-
 -- ---- a table of distances: it is that of the table as it stands, with no reading between
 module _ (n : ℕ) (s : Step) (t : List ℤ) (short : ShortTable n t) (ready : StepOk n s) where
   abbrev P : Table
@@ -139,8 +131,16 @@ module _ (n : ℕ) (s : Step) (t : List ℤ) (short : ShortTable n t) (ready : S
 
   plain : Agree (2 * n) (insertedIn (2 * n) t s) (insertedWhere P s)
   plain u v hu hv =
-      ap₂ (λ (a b : Distance). cond (asNear (smallTable (2 * n) t) s v) (P u v) (minD (P u v) (a ⊕ s .weight ⊞ b))) (small-agree n t short u (s .from) hu (ready .from-lt)) (small-agree n t short (s .to) v (ready .to-lt) hv)
-      ∙ ap₂ (λ (a b : Distance). cond (isAtMost a (b ⊕ s .weight)) (P u v) (inserted P s u v)) (small-agree n t short (s .from) v (ready .from-lt) hv) (small-agree n t short (s .to) v (ready .to-lt) hv)
+      ap₂ (λ (a b : Distance). cond (startAsNear D s v || endAsNear D s u) (P u v) (minD (P u v) (a ⊕ s .weight ⊞ b))) (same u (s .from) hu (ready .from-lt))
+      (same (s .to) v (ready .to-lt) hv)
+      ∙ ap₂ (λ (a b : Bool). cond (a || b) (P u v) (inserted P s u v)) (start-same (2 * n) D P same s (ready .from-lt) (ready .to-lt) v hv)
+      (end-same (2 * n) D P same s (ready .from-lt) (ready .to-lt) u hu)
+    where
+      D : Table
+      D = smallTable (2 * n) t
+
+      same : Agree (2 * n) D P
+      same = small-agree n t short
 
   pub after-plain : stepAfter (2 * n) s t ≡ written (insertedWhere (tableOf (2 * n) t) s) (2 * n) (2 * n)
   unfolding stepAfter

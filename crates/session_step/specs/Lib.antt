@@ -1,6 +1,8 @@
 pub mod Read
 pub mod Written
-pub mod Lower
 pub mod Done
+pub mod Columns
+pub mod Lower
+pub mod Rows
 pub mod Meaning
 pub mod Start

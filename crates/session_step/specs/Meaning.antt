@@ -25,8 +25,9 @@ use Rattle.decide_stored_table.specs.Sum.{read-back}
 use Rattle.decide_stored_table.specs.Table.{tableOf, ShortTable}
 use Rattle.theory_bounds.specs.Agree.{Agree}
 use Rattle.theory_inserting.specs.Members.{in-either}
-use Rattle.theory_inserting.specs.Insert.{insertedWhere, closing, within-more, where-inserted, insert-best, insert-test}
-use Rattle.theory_inserting.specs.Two.{closing-same, where-same}
+use Rattle.theory_inserting.specs.Insert.{closing, within-more, insert-best, insert-test}
+use Rattle.theory_inserting.specs.Two.{closing-same}
+use Rattle.theory_inserting.specs.Where.{insertedWhere, where-inserted, where-same}
 use Rattle.session_step.specs.Read.{smallTable, small-agree}
 use Rattle.session_step.specs.Written.{written-same, stored-written}
 use Rattle.session_step.specs.Done.{stepAfter, after-plain}
@@ -101,5 +102,5 @@ module _ (n : ℕ) (E : List Step) (t : List ℤ) (a : TableFor n E t) (s : Step
       put-in : Agree N (insertedWhere D s) (best F N)
       put-in u v hu hv =
           where-same N D (best E N) (agree n E t a) s (ready .from-lt) (ready .to-lt) u v hu hv
-          ∙ where-inserted E N (a .within) (a .nonneg) s (ready .from-lt) (ready .to-lt) u v
+          ∙ where-inserted E N (a .within) (a .nonneg) s u v
           ∙ sym (insert-best E N (a .within) (a .nonneg) s (ready .from-lt) (ready .to-lt) (sym closing-is ∙ step-answer ∙ e) u v)

@@ -10,15 +10,17 @@ use steps::Step;
 ghost use mathlib.Core.Path.{_≡_};
 ghost use Prim.Native.Nat.{_*_, _<_, _≤_};
 ghost use lib.ListN.{length};
-ghost use Rattle.integers.specs.Sequence.{tabulate};
 ghost use Rattle.theory_walks.specs.Negative.{notBelow0};
 ghost use Rattle.decide_rows.specs.Stored.{stored};
 ghost use Rattle.decide_rows.specs.Numbers.{StepOk};
+ghost use Rattle.decide_rows.specs.Read.{distanceOf, Short};
+ghost use Rattle.decide_stored_table.specs.Sum.{maxTight};
 ghost use Rattle.theory_inserting.specs.Insert.{closing};
 ghost use Rattle.session_step.specs.Read.{smallOf, smallTable, SizedTable};
-ghost use Rattle.session_step.specs.Written.{written};
-ghost use Rattle.session_step.specs.Lower.{RowReady, lowerAt, StepRowReady, rowAfter, RowsReady, lowered};
-ghost use Rattle.session_step.specs.Done.{along, sumsAfter, stepAfter};
+ghost use Rattle.session_step.specs.Done.{along, stepAfter};
+ghost use Rattle.session_step.specs.Columns.{Collected};
+ghost use Rattle.session_step.specs.Lower.{ColumnsIn, lowerAll, StepRowReady, rowAfter};
+ghost use Rattle.session_step.specs.Rows.{RowsReady};
 
 // Every distance is within plus and minus this: as many steps as there are points, each of at most twice a line's d.
 const MAX_DISTANCE: i64 = 2 * MAX_VARIABLES as i64 * (2 * WORK_CONSTANT);
@@ -62,37 +64,56 @@ pub fn stays(table: &[i64], n: usize, step: Step) -> bool
     0 <= sum_along(table, n, step.to, step)
 }
 
-// The distances from all points to the step's start, and along the step.
-fn write_sums(table: &[i64], n: usize, step: Step, sums: &mut [i64])
-    requires { ⌜ SizedTable n (now table) × StepOk n step × (2 * n ≤ length (now sums)) ⌝ }
-    ensures { λ _. ⌜ now (sums .exit) ≡ sumsAfter (smallTable (2 * n) (now (table .entry))) step (2 * n) (now (sums .entry)) ⌝ }
+// The points that are farther from the step's end than along the step, in order, with the distances to its start and along
+// it; how many there are. From the others the step leads to no point on a shorter way.
+fn find_columns(
+    table: &[i64],
+    n: usize,
+    step: Step,
+    columns: &mut [usize],
+    sums: &mut [i64],
+) -> usize
+    requires { ⌜ SizedTable n (now table) × StepOk n step × (2 * n ≤ length (now columns)) × (2 * n ≤ length (now sums)) ⌝ }
+    ensures { λ r. ⌜
+        Collected (smallTable (2 * n) (now (table .entry))) step (now (columns .entry)) (now (sums .entry)) (2 * n)
+        (now (columns .exit)) (now (sums .exit)) r
+        ⌝ }
 {
     let count = 2 * n;
+    let mut found = 0;
     let mut u = 0;
     while u < count {
-        sums[u] = sum_along(table, n, u, step);
+        let way = sum_along(table, n, u, step);
+        let near = read_at(table, n, u, step.to) <= way;
+        if !near {
+            columns[found] = u;
+            sums[found] = way;
+            found += 1;
+        }
         u += 1;
     }
+    found
 }
 
-// Each entry of a row, or its sum and the rest where that is less.
-fn lower_row(row: &mut [i64], sums: &[i64], rest: i64)
-    requires { ⌜ RowReady (now row) (now sums) rest ⌝ }
-    ensures { λ _. ⌜ now (row .exit) ≡ tabulate (length (now (row .entry))) (lowerAt (now (row .entry)) (now (sums .entry)) rest) ⌝ }
+// A row's entry in each of the columns, or the column's sum and the rest where that is less.
+fn lower_row(row: &mut [i64], columns: &[usize], sums: &[i64], rest: i64)
+    requires { ⌜ ColumnsIn (now row) (now columns) (now sums) × Short maxTight (distanceOf rest) ⌝ }
+    ensures { λ _. ⌜ now (row .exit) ≡ lowerAll rest (now (columns .entry)) (now (sums .entry)) (now (row .entry)) ⌝ }
 {
-    let count = row.len();
-    let mut i = 0;
-    while i < count {
-        row[i] = smaller(row[i], sum(sums[i], rest));
-        i += 1;
+    let count = columns.len();
+    let mut k = 0;
+    while k < count {
+        let u = columns[k];
+        row[u] = smaller(row[u], sum(sums[k], rest));
+        k += 1;
     }
 }
 
-// A row, where the way along the step is shorter than the row's own from the step's start; then no entry of another row
-// gets less.
-fn put_in_row(row: &mut [i64], sums: &[i64], step: Step)
-    requires { ⌜ StepRowReady (now row) (now sums) step ⌝ }
-    ensures { λ _. ⌜ now (row .exit) ≡ rowAfter (now (row .entry)) (now (sums .entry)) step ⌝ }
+// A row, where the way along the step is shorter than the row's own from the step's start; of other rows no entry gets
+// less.
+fn put_in_row(row: &mut [i64], columns: &[usize], sums: &[i64], step: Step)
+    requires { ⌜ StepRowReady (now row) (now columns) (now sums) step ⌝ }
+    ensures { λ _. ⌜ now (row .exit) ≡ rowAfter (now (row .entry)) (now (columns .entry)) (now (sums .entry)) step ⌝ }
 {
     let from = step.from;
     let to = step.to;
@@ -100,31 +121,32 @@ fn put_in_row(row: &mut [i64], sums: &[i64], step: Step)
     if read(row[from]) <= sum(rest, step.weight) {
         return;
     }
-    lower_row(row, sums, rest);
+    lower_row(row, columns, sums, rest);
 }
 
 // Each row.
-fn put_in_rows(table: &mut [i64], n: usize, step: Step, sums: &[i64])
-    requires { ⌜ RowsReady n step (now table) (now sums) ⌝ }
-    ensures { λ _. ⌜ now (table .exit) ≡ written (lowered (2 * n) (now (table .entry)) (now (sums .entry)) step) (2 * n) (2 * n) ⌝ }
+fn put_in_rows(table: &mut [i64], n: usize, step: Step, columns: &[usize], sums: &[i64])
+    requires { ⌜ RowsReady n step (now table) (now columns) (now sums) ⌝ }
+    ensures { λ _. ⌜ now (table .exit) ≡ stepAfter (2 * n) step (now (table .entry)) ⌝ }
 {
     let size = 2 * n;
     let mut v = 0;
     let mut at = 0;
     while v < size {
-        put_in_row(&mut table[at..at + size], sums, step);
+        put_in_row(&mut table[at..at + size], columns, sums, step);
         v += 1;
         at += size;
     }
 }
 
 // One more step in the table of 2n points: the distances with it, where no closed walk through it has a negative sum. Rows
-// that it changes nothing in are left alone.
+// and columns that it changes nothing in are left alone.
 pub fn put_step(table: &mut [i64], n: usize, step: Step)
     requires { ⌜ SizedTable n (now table) × StepOk n step ⌝ }
     ensures { λ _. ⌜ now (table .exit) ≡ stepAfter (2 * n) step (now (table .entry)) ⌝ }
 {
+    let mut columns = [0usize; MOST_POINTS];
     let mut sums = [0i64; MOST_POINTS];
-    write_sums(table, n, step, &mut sums);
-    put_in_rows(table, n, step, &sums);
+    let found = find_columns(table, n, step, &mut columns, &mut sums);
+    put_in_rows(table, n, step, &columns[0..found], &sums[0..found]);
 }

@@ -2,18 +2,16 @@
 -- sum below 0; and where it has none, its distances are the old ones or lead once through the step, whichever is less.
 use mathlib.Core.Path.{_≡_, refl, sym}
 use mathlib.Core.Logic.{inl, inr, ⊎-elim}
-use mathlib.Core.Bool.{Bool, true, false, cond}
+use mathlib.Core.Bool.{Bool, true, false}
 use mathlib.Core.List.{List, [], _∷_, _++_}
 use Prim.Native.Nat.{ℕ, _<_}
 use native.Mathlib.Omega.{arith}
 use lib.IntN.{ℤ, pos, _+ℤ_}
-use lib.Signed.{leZ}
 use Rattle.integers.specs.Integer.{_⩽_, _⋖_}
 use Rattle.integers.specs.Linear.{ints}
-use Rattle.integers.specs.Laws.{never}
 use Rattle.steps.specs.declared.Step.{Step}
 use Rattle.steps.specs.Walk.{total, total-append}
-use Rattle.theory_walks.specs.Distance.{Distance, none, some, _⊑_, minD, _⊕_, _⊞_, Up, up, some-le, le-none, min-left, ⊑-anti, up-mono, up-at, up-some, up-le, up-inv, up-plus, up-plus-e, up-of-le, up-min-l, up-min-r, up-min-e, le-of-up, eq-of-up, not-none}
+use Rattle.theory_walks.specs.Distance.{Distance, none, some, minD, _⊕_, _⊞_, Up, up, up-mono, up-at, up-some, up-le, up-inv, up-plus, up-plus-e, up-of-le, up-min-l, up-min-r, up-min-e, le-of-up, eq-of-up, not-none}
 use Rattle.theory_walks.specs.Row.{In, WithinPoints, best}
 use Rattle.theory_walks.specs.Reach.{Walk, walk-one, walk-rest, walk-append}
 use Rattle.theory_walks.specs.Least.{NoneNegative, best-attained, best-range, best-least, best-self, best-triangle}
@@ -29,31 +27,9 @@ through D s i j = D i (s .from) ⊕ s .weight ⊞ D (s .to) j
 abbrev pub inserted : Table → Step → Table
 inserted D s i j = minD (D i j) (through D s i j)
 
--- whether a distance is at most another
-abbrev pub isAtMost : Distance → Distance → Bool
-isAtMost a none = true
-isAtMost none (some b) = false
-isAtMost (some a) (some b) = leZ a b
-
--- whether the way to j along the step is no shorter than the table's own
-abbrev pub asNear : Table → Step → ℕ → Bool
-asNear D s j = isAtMost (D (s .from) j) (D (s .to) j ⊕ s .weight)
-
--- the step put in where it leads to j on a shorter way, for all i at once
-abbrev pub insertedWhere : Table → Step → Table
-insertedWhere D s i j = cond (asNear D s j) (D i j) (inserted D s i j)
-
 -- along the step and back to its start: the least closed walk through it
 abbrev pub closing : Table → Step → Distance
 closing D s = D (s .to) (s .from) ⊕ s .weight
-
-at-most-le : (a b : Distance) → isAtMost a b ≡ true → a ⊑ b
-at-most-le a none e = le-none a
-at-most-le none (some b) e = never (cc)
-at-most-le (some a) (some b) e = some-le (yes-le a b e)
-  where
-    yes-le : (a b : ℤ) → leZ a b ≡ true → a ⩽ b
-    yes-le a b = simp ints (omega arith)
 
 -- ---- one more weight
 pub up-add : {a : Distance} {z : ℤ} (w : ℤ) → Up a z → Up (a ⊕ w) (z +ℤ w)
@@ -251,26 +227,3 @@ module _ (E : List Step) (N : ℕ) (within : WithinPoints N E) (nonneg : NoneNeg
       go : (b : Bool) → notBelow0 (closing D s) ≡ b → noNegative F N ≡ b
       go true t = no-negative-true F N (insert-nonneg t)
       go false t = insert-negative t
-
-  -- ---- the step changes no distance to j, where the way to j along it is no shorter than the old one from its start
-  module _ (j : ℕ) (near : asNear D s j ≡ true) where
-    way : (y : ℤ) → Up (D (s .to) j) y → Up (D (s .from) j) (y +ℤ s .weight)
-    way y u = up-of-le (at-most-le (D (s .from) j) (D (s .to) j ⊕ s .weight) near) _ (up-add (s .weight) u)
-
-    near-inserted : (i : ℕ) → inserted D s i j ≡ D i j
-    near-inserted i = ⊑-anti (min-left (D i j) (through D s i j)) (le-of-up _ _ (λ z u. ⊎-elim (λ v. v) (λ v. by-step z v) (up-min-e (D i j) (through D s i j) z u)))
-      where
-        sum : (x w y z : ℤ) → x +ℤ w +ℤ y ⩽ z → x +ℤ (y +ℤ w) ⩽ z
-        sum x w y z = simp ints (omega arith)
-
-        by-step : (z : ℤ) → Up (through D s i j) z → Up (D i j) z
-        by-step z v =
-            let e = up-through-e D s i j z v in
-            up-mono (chain i (s .from) j (e .2) (way (e .1) (e .3))) (sum (e .0) (s .weight) (e .1) z (e .4))
-
-  pub where-inserted : (i j : ℕ) → insertedWhere D s i j ≡ inserted D s i j
-  where-inserted i j = go (asNear D s j) refl
-    where
-      go : (b : Bool) → asNear D s j ≡ b → cond b (D i j) (inserted D s i j) ≡ inserted D s i j
-      go true e = sym (near-inserted j e i)
-      go false e = refl

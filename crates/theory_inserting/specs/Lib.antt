@@ -1,3 +1,4 @@
 pub mod Members
 pub mod Insert
 pub mod Two
+pub mod Where

@@ -2,7 +2,7 @@
 -- neither does the second, the table holds the distances of the steps with both; and else these have a closed walk of negative sum.
 use mathlib.Core.Path.{_≡_, refl, ap, ap₂, _∙_}
 use mathlib.Core.Logic.{inl, inr, ⊎-elim}
-use mathlib.Core.Bool.{Bool, true, false, cond, _&&_}
+use mathlib.Core.Bool.{Bool, true, false, _&&_}
 use mathlib.Core.List.{List, _++_, append-nil}
 use Prim.Native.Nat.{ℕ, _<_}
 use Rattle.integers.specs.Laws.{and-true}
@@ -18,7 +18,7 @@ use Rattle.theory_bounds.specs.Tight.{Table}
 use Rattle.theory_walks.specs.Graph.{in-left}
 use Rattle.theory_bounds.specs.Agree.{Agree}
 use Rattle.theory_inserting.specs.Members.{Among, in-either, walk-among}
-use Rattle.theory_inserting.specs.Insert.{isAtMost, asNear, inserted, insertedWhere, closing, insert-best, insert-test}
+use Rattle.theory_inserting.specs.Insert.{inserted, closing, insert-best, insert-test}
 
 -- ---- definitions: a step that may be there
 abbrev pub insertNamed : Table → NamedStep → Table
@@ -43,11 +43,6 @@ module _ (N : ℕ) (D D′ : Table) (same : Agree N D D′) where
   pub inserted-same : (s : Step) → s .from < N → s .to < N → Agree N (inserted D s) (inserted D′ s)
   inserted-same s h k i j hi hj =
       ap₂ minD (same i j hi hj) (ap₂ (λ (a b : Distance). a ⊕ s .weight ⊞ b) (same i (s .from) hi h) (same (s .to) j k hj))
-
-  pub where-same : (s : Step) → s .from < N → s .to < N → Agree N (insertedWhere D s) (insertedWhere D′ s)
-  where-same s h k i j hi hj =
-      ap₂ (λ (a b : Distance). cond (isAtMost a (b ⊕ s .weight)) (D i j) (inserted D s i j)) (same (s .from) j h hj) (same (s .to) j k hj)
-      ∙ ap₂ (λ (a b : Distance). cond (asNear D′ s j) a b) (same i j hi hj) (inserted-same s h k i j hi hj)
 
   pub stays-same : (x : NamedStep) → EndsBelow N x → stays D x ≡ stays D′ x
   stays-same (Found s) e = ap notBelow0 (closing-same s (e .0) (e .1))

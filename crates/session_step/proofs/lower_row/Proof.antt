@@ -1,12 +1,11 @@
--- `session_step::lower_row` meets its contract. The invariant: the first i entries are lowered.
-use mathlib.Core.Path.{_≡_, refl, ap, ap₂, _∙_}
-use mathlib.Core.List.{List}
-use Prim.Native.Nat.{ℕ, _-_, _≤_, _<_}
+-- `session_step::lower_row` meets its contract. The invariant: the row, lowered in the columns from k on, is the entry's row lowered in all.
+use mathlib.Core.Path.{_≡_, refl, sym, ap, _∙_}
+use Prim.Native.Nat.{ℕ, _+_, _-_, _≤_, _<_}
 use native.Mathlib.Omega.{arith}
 use borrow.Author.Needs.{needs}
 use denote.Ref.{now}
 use lib.IntN.{ℤ}
-use lib.ListN.{length, set}
+use lib.ListN.{length, set, getD, drop}
 use mir.Syntax.{w64}
 use mir.Val.{toZ, ofZ}
 use mir.Facts.{toZ-ofZ}
@@ -14,81 +13,95 @@ use Rattle.integers.specs.Bits.{kept}
 use Rattle.lines.specs.Line.{number}
 use Rattle.decide_rows.specs.Read.{distanceOf, Short}
 use Rattle.decide_stored_table.specs.Sum.{maxTight}
-use Rattle.integers.specs.Fill.{filled, filled-more}
-use Rattle.session_step.specs.Lower.{lowerAt, filled-next, filled-all, lower-is}
+use Rattle.session_step.specs.Lower.{lowerTo, lowerAll, lower-is, lower-next, lower-end}
 use Rattle.session_step.proofs.lower_row.Statement.{statement}
 use Rattle.session_step.proofs.lower_row.Tie as tie
 
 abbrev Inv-loop : tie.InvT-loop
-Inv-loop row₀ sums rest count i₀ row i = (i ≤ count) × (length row ≡ length row₀) × (row ≡ filled (lowerAt row₀ sums (toZ w64 rest)) row₀ i)
+Inv-loop row₀ columns sums rest count k₀ row k =
+    (k ≤ count)
+    × (length row ≡ length row₀)
+    × (lowerAll (toZ w64 rest) (drop k columns) (drop k sums) row ≡ lowerAll (toZ w64 rest) columns sums row₀)
 
 abbrev μ-loop : tie.MeasureT-loop
-μ-loop row₀ sums rest count i₀ row i = count - i
+μ-loop row₀ columns sums rest count k₀ row k = count - k
+
+loop-holds : tie.Need-loop-holds Inv-loop μ-loop
+loop-holds c = (omega arith, refl, refl)
 
 -- the numbers of a turn
-module _ (c : tie.After-sum-arg Inv-loop μ-loop) where
+module _ (c : tie.After-shared-slice-known2 Inv-loop μ-loop) where
   abbrev l : tie.At-loop Inv-loop μ-loop
-  l = c .before .before .before
+  l = c .before .before
 
   abbrev s : tie.Start Inv-loop μ-loop
-  s = l .before
+  s = l .before .before
 
-  abbrev i : ℕ
-  i = l .loop .i
+  abbrev k : ℕ
+  k = l .loop .k
 
-  inside : i < length (now (s .args .row))
-  inside = omega (arith, c .before .before .loop-test .taken)
+  listed : k < length (now (s .args .columns))
+  listed = omega (arith, c .before .loop-test .taken)
+
+  abbrev u : ℕ
+  u = getD (now (s .args .columns)) k 0
+
+  inside : u < length (l .loop .row)
+  inside = omega (arith, l .loop .inv .1, s .pre .0 .inside k listed)
+
+  small : u < length (now (s .args .row))
+  small = s .pre .0 .inside k listed
 
   abbrev own : ℤ
-  own = number (now (s .args .sums)) i
-
-  own-is : toZ w64 (ofZ w64 own) ≡ own
-  own-is = kept w64 own (c .sum-arg .given)
-
-  own-short : Short maxTight (distanceOf (toZ w64 (ofZ w64 own)))
-  own-short = rw own-is (s .pre .sums-short i inside)
+  own = number (now (s .args .sums)) k
 
   abbrev rest : ℤ
   rest = toZ w64 (ofZ w64 (s .args .rest))
 
   rest-short : Short maxTight (distanceOf rest)
-  rest-short = rw (toZ-ofZ (s .fits .rest)) (s .pre .rest-short)
+  rest-short = rw (toZ-ofZ (s .fits .rest)) (s .pre .1)
 
-  -- the entry is as it was
-  entry-is : toZ w64 (ofZ w64 (number (l .loop .row) i)) ≡ number (now (s .args .row)) i
-  entry-is =
-      kept w64 (number (l .loop .row) i) (c .before .smaller-arg .given)
-      ∙ ap (λ (x : List ℤ). number x i) (l .loop .inv .2)
-      ∙ filled-next (lowerAt (now (s .args .row)) (now (s .args .sums)) rest) (now (s .args .row)) i
+mul-smaller : tie.Need-mul-smaller Inv-loop μ-loop
+mul-smaller c = record { fits = omega (arith, small c, s c .good .0 .0) }
 
 sum-requires : tie.Need-sum-requires Inv-loop μ-loop
-sum-requires c κs = (own-short c, rest-short c)
+sum-requires c κs =
+    let t = c .before .before in
+    (rw (kept w64 (own t) (c .sum-arg .given)) (s t .pre .0 .short (k t) (listed t)), rest-short t)
+
+mul-row : tie.Need-mul-t18 Inv-loop μ-loop
+mul-row c = let t = c .before .before .before .before in record { fits = omega (arith, small t, s t .good .0 .0) }
 
 loop-again : tie.Need-loop-again Inv-loop μ-loop
 loop-again c =
     let a = c .before in
     let e = a .before in
-    let row = now (s e .args .row) in
-    let sums = now (s e .args .sums) in
+    let t = e .before .before in
+    let row = l t .loop .row in
+    let columns = now (s t .args .columns) in
+    let sums = now (s t .args .sums) in
     let m = toZ w64 (ofZ w64 (a .sum .result)) in
     let v = toZ w64 (ofZ w64 (c .smaller .result)) in
-    let is : v ≡ lowerAt row sums (rest e) (i e) =
-    lower-is (number row (i e)) (own e) (rest e) m v (rw (own-is e) at (own-short e)) (rest-short e) (kept w64 (a .sum .result) (a .sum .ok) ∙ rw (own-is e) at (a .sum .ensures))
-    (kept w64 (c .smaller .result) (c .smaller .ok) ∙ rw (entry-is e) at (c .smaller .ensures)) in
-    (omega (arith, inside e), search needs, ap (λ (x : List ℤ). set x (i e) v) (l e .loop .inv .2) ∙ filled-more (lowerAt row sums (rest e)) row (i e) v (inside e) is)
-
-same-length : tie.Need-same-length Inv-loop μ-loop
-same-length c = search needs
+    let sum-is = kept w64 (a .sum .result) (a .sum .ok) ∙ rw (kept w64 (own t) (e .sum-arg .given)) at (a .sum .ensures) in
+    let less-is = kept w64 (c .smaller .result) (c .smaller .ok) ∙ rw (kept w64 (number row (u t)) (e .before .smaller-arg .given)) at (c .smaller .ensures) in
+    let is : v ≡ lowerTo (number row (u t)) (own t) (rest t) =
+    lower-is (number row (u t)) (own t) (rest t) m v (s t .pre .0 .short (k t) (listed t)) (rest-short t) sum-is less-is in (
+      omega (arith, listed t),
+      search needs,
+      ap (λ (z : ℤ). lowerAll (rest t) (drop (k t + 1) columns) (drop (k t + 1) sums) (set row (u t) z)) is
+          ∙ sym (lower-next (rest t) columns sums row (k t) (listed t) (omega (arith, listed t, s t .pre .0 .long)))
+          ∙ l t .loop .inv .2,
+    )
 
 returns : tie.Need-returns Inv-loop μ-loop
 returns c =
     let l = c .before in
-    let s = l .before in
-    let row = now (s .args .row) in
-    let e : l .loop .i ≡ length row = omega (arith, l .loop .inv .0, c .loop-test .left) in
-    l .loop .inv .2
-    ∙ ap₂ (λ (z : ℤ) (k : ℕ). filled (lowerAt row (now (s .args .sums)) z) row k) (toZ-ofZ (s .fits .rest)) e
-    ∙ filled-all (lowerAt row (now (s .args .sums)) (s .args .rest)) row
+    let s = l .before .before in
+    let columns = now (s .args .columns) in
+    let sums = now (s .args .sums) in
+    sym (lower-end (toZ w64 (ofZ w64 (s .args .rest))) columns sums (l .loop .row) (l .loop .k) (omega (arith, c .loop-test .left)))
+    ∙ l .loop .inv .2
+    ∙ ap (λ (z : ℤ). lowerAll z columns sums (now (s .args .row))) (toZ-ofZ (s .fits .rest))
 
 pub lower-row-spec : {M : Type 1} → statement M
 lower-row-spec =
@@ -96,17 +109,19 @@ lower-row-spec =
     (tie.spec
     Inv-loop
     μ-loop
-    (λ c. (omega arith, refl, refl))
+    loop-holds
     (search needs)
     (search needs)
+    mul-smaller
+    (λ c. inside c)
     (search needs)
     (search needs)
     sum-requires
     (search needs)
-    (search needs)
-    (search needs)
+    mul-row
+    (λ c. inside (c .before .before .before .before))
     (search needs)
     (search needs)
     loop-again
-    same-length
+    (search needs)
     returns)

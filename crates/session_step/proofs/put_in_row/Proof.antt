@@ -14,15 +14,15 @@ use Rattle.decide_rows.specs.Stored.{stored}
 use Rattle.decide_rows.specs.Read.{distanceOf, Short, short-more, weight-fits}
 use Rattle.decide_stored_table.specs.Sum.{maxTight}
 use Rattle.session_step.specs.Read.{smallOf, small-short, small-back}
-use Rattle.session_step.specs.Lower.{staysRow, stays-row-is, row-stays, row-lowered}
-use Rattle.session_step.specs.Done.{weight-short, along-of-sum}
+use Rattle.session_step.specs.Done.{weight-short, along-of-sum, as-near-is}
+use Rattle.session_step.specs.Lower.{staysRow, row-stays, row-lowered}
 use Rattle.session_step.proofs.put_in_row.Statement.{statement}
 use Rattle.session_step.proofs.put_in_row.Tie as tie
 
 -- the row's entry of the step's end
 module _ (c : tie.After-read) where
   abbrev s : tie.Start
-  s = c .before .before
+  s = c .before .before .before
 
   abbrev entry : ℤ
   entry = number (now (s .args .row)) (s .args .step .to)
@@ -62,26 +62,31 @@ module _ (c : tie.After-sum) where
   test-is =
       let a = c .before .before in
       let start = number (now (s r .args .row)) (s r .args .step .from) in
-      stays-row-is (now (s r .args .row)) (now (s r .args .sums)) (s r .args .step) (s r .pre .small) own way
+      let weight = s r .args .step .weight in
+      as-near-is start (entry r) weight own way (s r .pre .small)
       (kept w64 (a .read2 .result) (a .read2 .ok) ∙ a .read2 .ensures ∙ ap (λ (z : ℤ). stored (smallOf z)) (kept w64 start (a .before .read-arg2 .given)))
-      (kept w64 (c .sum .result) (c .sum .ok) ∙ along-of-sum (smallOf (entry r)) (rest r) (s r .args .step .weight) (c .sum .result) (rest-of r) (s r .pre .small) (rw (weight-is r) at (c .sum .ensures)))
+      (kept w64 (c .sum .result) (c .sum .ok)
+      ∙ along-of-sum (smallOf (entry r)) (rest r) weight (c .sum .result) (rest-of r) (s r .pre .small) (rw (weight-is r) at (c .sum .ensures)))
 
 returns : tie.Need-returns
 returns c =
     let a = c .before in
-    row-stays (now (s (r a) .args .row)) (now (s (r a) .args .sums)) (s (r a) .args .step) (sym (test-is a) ∙ c .if1 .taken)
+    let x = s (r a) .args in
+    row-stays (now (x .row)) (now (x .columns)) (now (x .sums)) (x .step) (sym (test-is a) ∙ c .if1 .taken)
 
 lower-row-requires : tie.Need-lower-row-requires
 lower-row-requires c κs =
     let a = r (c .before .before) in
-    record { long = s a .pre .long; sums-short = s a .pre .sums-short; rest-short = rest-short a }
+    (s a .pre .columns-ok, rest-short a)
 
 returns-2 : tie.Need-returns-2
 returns-2 c =
     let l = c .before in
     let e = l .before .before in
     let a = e .before in
-    row-lowered (now (s (r a) .args .row)) (now (s (r a) .args .sums)) (s (r a) .args .step) (sym (test-is a) ∙ e .if1 .left) (rest (r a)) (rest-is (r a)) (l .lower-row .last .0) (l .lower-row .ensures)
+    let x = s (r a) .args in
+    row-lowered (now (x .row)) (now (x .columns)) (now (x .sums)) (x .step) (sym (test-is a) ∙ e .if1 .left) (rest (r a)) (rest-is (r a))
+    (l .lower-row .last .0) (l .lower-row .ensures)
 
 pub put-in-row-spec : {M : Type 1} → statement M
 put-in-row-spec =
