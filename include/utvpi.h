@@ -78,7 +78,7 @@ extern "C" {
 /* The version of this header and of the library that belongs to it. The first number is
  * raised where a program that was compiled with the header before has to be compiled
  * again or changed; it is the number behind libutvpi.so, too. */
-#define UTVPI_VERSION "2.0.0"
+#define UTVPI_VERSION "3.0.0"
 
 /* Trees, seconds and files return structs of their own. Deciding, checking, sessions and
  * what lines imply return one number; of two variables it is the result of a struct:
@@ -364,12 +364,12 @@ utvpi_part utvpi_shorter(uint64_t n, const int32_t *list, size_t list_len,
 /* A SESSION takes the lines of a list one at a time, and decides all that it has each
  * time. It starts with n variables and no lines. What is kept between two calls is its
  * state, and nothing else: a lent buffer of signed 64-bit numbers, in which every line
- * stands, and what the lines say of each two variables. So a line that is added takes time
- * that grows with the square of n, not with its cube, as long as the answer is a yes; the
- * one that makes a no takes as long as deciding all lines. The room of a state is
- * UTVPI_SESSION_ROOM(n) numbers, for n up to UTVPI_MOST_VARIABLES: at least 24,579 numbers,
- * or 196,632 bytes, and at most 286,723 numbers, or 2,293,784 bytes, which are best taken
- * from the heap. The buffer may be longer; what lies beyond the room is left as it was.
+ * stands, what the lines say of each two variables, and their model and groups. So a line
+ * that is added takes time that grows with the square of n, not with its cube, as long as
+ * the answer is a yes; the one that makes a no takes as long as deciding all lines. The room
+ * of a state is UTVPI_SESSION_ROOM(n) numbers, for n up to UTVPI_MOST_VARIABLES: at least
+ * 24,579 numbers, or 196,632 bytes, and at most 287,491 numbers, or 2,299,928 bytes, which
+ * are best taken from the heap. The buffer may be longer; what lies beyond the room is left as it was.
  * Lengths are in numbers. A state may be stored and used again later, and a copy of it is
  * a session of its own.
  *
@@ -378,8 +378,9 @@ utvpi_part utvpi_shorter(uint64_t n, const int32_t *list, size_t list_len,
  * the last of UTVPI_MOST_LINES lines would end, and the table of distances: with 2*x for
  * the point x+ and 2*x + 1 for x-, of each point v a row of 2*n numbers, in which the one
  * of each point u is the least sum of a walk from u to v, 0 where both are one point, and
- * UTVPI_NO_GREATEST where there is no walk. After a no it is the table of the lines before
- * the last. Numbers that are no state are refused, as UTVPI_SHORT_OUTPUT at the place
+ * UTVPI_NO_GREATEST where there is no walk. Behind it stand the model, n numbers, and the
+ * groups, 2*n numbers, as utvpi_decide writes them. After a no these three are of the lines
+ * before the last. Numbers that are no state are refused, as UTVPI_SHORT_OUTPUT at the place
  * UTVPI_OUTPUT_STATE: where there are fewer than the room for their n, or where one of the
  * first three, or a number of a line, is out of its range. Of all others that no call left,
  * no more is said than that each call returns, that a refusal is given as it is for states
@@ -389,7 +390,7 @@ utvpi_part utvpi_shorter(uint64_t n, const int32_t *list, size_t list_len,
  * state and every buffer are left as they were. */
 #define UTVPI_SESSION_ROOM(n) \
     ((size_t)3 + (size_t)UTVPI_LINE_NUMBERS * UTVPI_MOST_LINES + \
-     (size_t)4 * (size_t)(n) * (size_t)(n))
+     (size_t)4 * (size_t)(n) * (size_t)(n) + (size_t)3 * (size_t)(n))
 
 /* The same in bytes, for malloc. */
 #define UTVPI_SESSION_BYTES(n) (sizeof(int64_t) * UTVPI_SESSION_ROOM(n))

@@ -77,7 +77,7 @@ pub fn write_yes(
 }
 
 /// The greatest value of each point.
-fn halves(points: usize, table: &[i64]) -> Vec<i64> {
+pub fn halves(points: usize, table: &[i64]) -> Vec<i64> {
     let half = |point| match table[point * points + opposite(point)] {
         ABSENT.. => NONE,
         sum => sum >> 1,
@@ -86,13 +86,13 @@ fn halves(points: usize, table: &[i64]) -> Vec<i64> {
 }
 
 /// The first point whose least value passes its greatest.
-fn contradiction(halves: &[i64]) -> Option<usize> {
+pub fn contradiction(halves: &[i64]) -> Option<usize> {
     let both = halves.chunks_exact(2);
     let passes = |pair: &[i64]| pair[0] != NONE && pair[1] != NONE && pair[0] + pair[1] < 0;
     both.map(passes).position(|found| found).map(|x| 2 * x)
 }
 
-fn write_bounds(halves: &[i64], bounds: &mut [i64]) {
+pub fn write_bounds(halves: &[i64], bounds: &mut [i64]) {
     for (own, both) in halves.chunks_exact(2).zip(bounds.chunks_exact_mut(2)) {
         both[0] = if own[1] == NONE { i64::MIN } else { -own[1] };
         both[1] = own[0];

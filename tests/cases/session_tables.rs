@@ -1,5 +1,5 @@
-//! States whose table is not that of their lines, which no call leaves: any numbers, those at
-//! which sums overflow, a table of other lines. Each call ends, is refused as for a state with
+//! States whose table, model or groups are not those of their lines, which no call leaves:
+//! any numbers, those at which sums overflow, a table of other lines. Each call ends, is refused as for a state with
 //! the right table, changes nothing but what it may, and, handed the same numbers, does the
 //! same once more.
 
@@ -40,27 +40,40 @@ const EDGES: [i64; 14] = [
 /// Calls on states of at most so many variables are made twice.
 const TWICE: u64 = 8;
 
-/// Sorts of wrong tables.
-const SORTS: usize = 6;
+/// Sorts of wrong numbers, each in all that is known of the lines, and in the model and the
+/// groups alone.
+const SORTS: usize = 2 * OF_NUMBERS;
+const OF_NUMBERS: usize = 6;
 
-/// Writes numbers to a table that may or may not be those of its lines.
-fn spoil(chance: &mut Chance, sort: usize, table: &mut [i64]) {
+/// Writes numbers to the table, the model and the groups of a state of n variables that may
+/// or may not be those of its lines.
+fn spoil(chance: &mut Chance, sort: usize, n: usize, known: &mut [i64]) {
+    let points = 2 * n;
+    let from = if sort < OF_NUMBERS {
+        0
+    } else {
+        points * points
+    };
+    spoil_part(chance, sort % OF_NUMBERS, &mut known[from..]);
+}
+
+fn spoil_part(chance: &mut Chance, sort: usize, part: &mut [i64]) {
     let one = chance.pick(&EDGES);
     match sort {
-        0 => table.fill(one),
-        1 => table.fill_with(|| chance.next() as i64),
-        2 => table.fill_with(|| chance.pick(&EDGES)),
-        3 => table.fill_with(|| chance.between(-3, 3)),
+        0 => part.fill(one),
+        1 => part.fill_with(|| chance.next() as i64),
+        2 => part.fill_with(|| chance.pick(&EDGES)),
+        3 => part.fill_with(|| chance.between(-3, 3)),
         // A few numbers.
         4 => {
-            for _ in 0..chance.below(3).min(table.len()) {
-                table[chance.below(table.len())] = chance.pick(&EDGES);
+            for _ in 0..chance.below(3).min(part.len()) {
+                part[chance.below(part.len())] = chance.pick(&EDGES);
             }
         }
         // One that is a little too low, or too high.
-        _ if table.is_empty() => {}
+        _ if part.is_empty() => {}
         _ => {
-            let entry = &mut table[chance.below(table.len())];
+            let entry = &mut part[chance.below(part.len())];
             *entry = entry.saturating_add(chance.pick(&[-2, -1, 1, 2]));
         }
     }
@@ -124,7 +137,7 @@ fn some_call(chance: &mut Chance, numbers: &[i64], seen: &mut Seen) -> Vec<i64> 
     left
 }
 
-/// Sequences of calls on small states with a wrong table.
+/// Sequences of calls on small states with wrong numbers.
 #[test]
 fn small_states() {
     within_a_minute(|| {
@@ -134,7 +147,7 @@ fn small_states() {
             let (n, lines) = small(&mut chance);
             let refuted = chance.one_in(6) && !lines.is_empty();
             let mut numbers = Session { n, lines, refuted }.state();
-            spoil(&mut chance, at % SORTS, &mut numbers[FRONT..]);
+            spoil(&mut chance, at % SORTS, n as usize, &mut numbers[FRONT..]);
             for _ in 0..chance.between(2, 6) {
                 numbers = some_call(&mut chance, &numbers, &mut seen);
             }
@@ -156,7 +169,7 @@ fn larger_states() {
             for at in 0..times {
                 let values: Vec<i64> = (0..n).map(|_| chance.between(-9, 9)).collect();
                 let mut numbers = met(&mut chance, &values, 30).state();
-                spoil(&mut chance, at % SORTS, &mut numbers[FRONT..]);
+                spoil(&mut chance, at % SORTS, n, &mut numbers[FRONT..]);
                 for _ in 0..3 {
                     numbers = some_call(&mut chance, &numbers, &mut seen);
                 }
@@ -174,7 +187,7 @@ fn started_where_a_wrong_one_was() {
         let mut pair = Pair::start(&mut chance, n);
         let right = pair.numbers().to_vec();
         for sort in 0..SORTS {
-            pair.spoil(|table| spoil(&mut chance, sort, table));
+            pair.spoil(|known| spoil(&mut chance, sort, n as usize, known));
             pair.start_again(n);
             assert!(pair.numbers() == right);
             assert!(matches!(pair.add(&mut chance, zero(0)), Verdict::Yes(_)));
@@ -191,7 +204,7 @@ fn the_most_lines() {
         let mut chance = Chance::new(173);
         for sort in 0..SORTS {
             let mut numbers = met(&mut chance, &[3, -2], MOST_LINES).state();
-            spoil(&mut chance, sort, &mut numbers[FRONT..]);
+            spoil(&mut chance, sort, 2, &mut numbers[FRONT..]);
             let (full, _) = add_to(&mut chance, &numbers, zero(0), needed(2));
             assert_eq!(full, Refused(3, 0).code());
             let (withdrawn, left) = withdraw_from(&mut chance, &numbers);

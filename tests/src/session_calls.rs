@@ -25,8 +25,8 @@ pub struct Pair {
     state: Guarded<i64>,
     due: Guarded<i64>,
     pub second: Session,
-    /// Whether calls can lead to the state. Of one to which they can't, any numbers may be
-    /// the table.
+    /// Whether calls can lead to the state. Of one to which they can't, any numbers may stand
+    /// behind its lines.
     stands: bool,
 }
 
@@ -68,10 +68,11 @@ impl Pair {
         self.must_be_due();
     }
 
-    /// Has other numbers written to the table of the state, which is none then.
+    /// Has other numbers written to the table, the model and the groups of the state, which
+    /// are none then.
     pub fn spoil(&mut self, write: impl FnOnce(&mut [i64])) {
-        let table = FRONT..self.second.room();
-        write(&mut self.state.lent_mut()[table]);
+        let known = FRONT..self.second.room();
+        write(&mut self.state.lent_mut()[known]);
         self.stands = false;
     }
 
@@ -83,8 +84,8 @@ impl Pair {
     /// Makes sure that the state, all that is behind it and the guards are as is due.
     fn must_be_due(&mut self) {
         if !self.stands {
-            let table = FRONT..self.second.room();
-            self.due.lent_mut()[table.clone()].copy_from_slice(&self.state.lent()[table]);
+            let known = FRONT..self.second.room();
+            self.due.lent_mut()[known.clone()].copy_from_slice(&self.state.lent()[known]);
         }
         if self.state != self.due {
             let pairs = self.state.lent().iter().zip(self.due.lent());
@@ -163,16 +164,17 @@ pub fn lent(chance: &mut Chance, numbers: &[i64]) -> Guarded<i64> {
 /// The session whose state these numbers begin with, if calls can lead to it.
 pub fn standing(numbers: &[i64]) -> Option<Session> {
     let session = Session::read(numbers)?;
-    let table = session.table()?;
+    let known = session.known()?;
     let behind = &numbers[HEAD + LINE_NUMBERS * session.lines.len()..FRONT];
     let zeros = behind.iter().all(|&number| number == 0);
-    let is_due = zeros && numbers[FRONT..].starts_with(&table) && session.stands();
+    let is_due = zeros && numbers[FRONT..].starts_with(&known) && session.stands();
     is_due.then_some(session)
 }
 
 /// Makes sure that a call left a state as it was but for the head, the numbers of the line
-/// that came or went, whose number this is, and the table: they must be those of a session.
-/// Where no calls lead to what the state was before, any numbers may be the table.
+/// that came or went, whose number this is, and what stands behind the lines: they must be
+/// those of a session. Where no calls lead to what the state was before, any numbers may
+/// stand there.
 fn left_as(session: &Session, line: usize, before: &Guarded<i64>, state: &Guarded<i64>) {
     let mut due = before.clone();
     let numbers = due.lent_mut();
@@ -183,11 +185,11 @@ fn left_as(session: &Session, line: usize, before: &Guarded<i64>, state: &Guarde
         numbers[part.clone()].copy_from_slice(&front[part]);
     }
     let room = FRONT..session.room();
-    let table = match standing(before.lent()) {
-        Some(_) => session.table().unwrap(),
+    let known = match standing(before.lent()) {
+        Some(_) => session.known().unwrap(),
         None => state.lent()[room.clone()].to_vec(),
     };
-    numbers[room].copy_from_slice(&table);
+    numbers[room].copy_from_slice(&known);
     assert!(*state == due, "{session:?}");
 }
 

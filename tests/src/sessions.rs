@@ -1,7 +1,7 @@
 //! A second implementation of sessions: the lines in a vector, from which the numbers of
 //! the state are written, and into which any numbers are read. It was written from the
-//! description alone and shares nothing with the library: the table of the state is made of
-//! all lines each time.
+//! description alone and shares nothing with the library: the table, the model and the
+//! groups of the state are made of all lines each time.
 
 use crate::buffers::Lengths;
 use crate::closure;
@@ -17,7 +17,7 @@ pub const VARIABLES: usize = 0;
 pub const COUNT: usize = 1;
 pub const FLAG: usize = 2;
 
-/// The numbers before the table.
+/// The numbers before the table, the model and the groups.
 pub const FRONT: usize = HEAD + MOST_NUMBERS;
 
 /// What numbers that are no state, or too few for one, are refused with.
@@ -86,7 +86,7 @@ impl Session {
         session_room(self.n as usize)
     }
 
-    /// The lines whose table is kept: after a no those before the last.
+    /// The lines that are known: after a no those before the last.
     fn kept(&self) -> &[Line] {
         let last = usize::from(self.refuted && !self.lines.is_empty());
         &self.lines[..self.lines.len() - last]
@@ -104,11 +104,19 @@ impl Session {
             && (!self.refuted || solvable(self.kept()))
     }
 
-    /// The table of its state, where its lines have one.
-    pub fn table(&self) -> Option<Vec<i64>> {
-        let valid = list_refusal(self.n, self.kept().as_flattened()).is_none();
-        let table = || closure::table(self.n as usize, self.kept());
-        valid.then(table).flatten()
+    /// What its state knows of its lines, where these have a solution: their table, their
+    /// model and their groups.
+    pub fn known(&self) -> Option<Vec<i64>> {
+        let (n, lines) = (self.n as usize, self.kept());
+        if list_refusal(self.n, lines.as_flattened()).is_some() {
+            return None;
+        }
+        let Verdict::Yes(solved) = closure::verdict(n, lines) else {
+            return None;
+        };
+        let groups = solved.groups.as_flattened().iter();
+        let groups = groups.map(|&number| i64::from(number)).collect();
+        Some([closure::table(n, lines)?, solved.model, groups].concat())
     }
 
     /// The numbers of its state.
@@ -118,16 +126,16 @@ impl Session {
         numbers
     }
 
-    /// Writes its state to the front of these numbers; where its lines have no table, that
-    /// is left as it is.
+    /// Writes its state to the front of these numbers; where its lines have no solution, what
+    /// is known of them is left as it is.
     pub fn write(&self, numbers: &mut [i64]) {
         self.write_front(numbers);
-        if let Some(table) = self.table() {
-            numbers[FRONT..self.room()].copy_from_slice(&table);
+        if let Some(known) = self.known() {
+            numbers[FRONT..self.room()].copy_from_slice(&known);
         }
     }
 
-    /// Writes what stands before the table.
+    /// Writes what stands before what is known.
     pub fn write_front(&self, numbers: &mut [i64]) {
         let (head, rest) = numbers[..FRONT].split_at_mut(HEAD);
         let (lines, behind) = rest.split_at_mut(LINE_NUMBERS * self.lines.len());

@@ -8,7 +8,7 @@ use Rattle.lines.specs.declared.Line.{Line}
 use Rattle.lines.specs.declared.Validity.{Validity}
 use Rattle.lines.specs.declared.Validity.the-variants.{Valid, Refused}
 use Rattle.decide_buffers.specs.Room.{Lent}
-use Rattle.session_promise.specs.Promise.{startAnswer, startState, learntTable, addAnswer, addState, AddLeft, withdrawAnswer, withdrawState}
+use Rattle.session_promise.specs.Promise.{startAnswer, startState, learntKnown, addAnswer, addState, AddLeft, withdrawAnswer, withdrawState}
 use Rattle.c_codes.specs.Codes.{refusalCode}
 use Rattle.c_deciding.specs.Calls.{decideCode}
 
@@ -25,7 +25,7 @@ pub record StartReturns (n : ℕ) (s : List ℤ) (returned : ℤ) (t : List ℤ)
 -- and b what the buffers held before, a what they hold after
 pub record AddReturns (s : List ℤ) (l : Line) (returned : ℤ) (b : Lent) (t : List ℤ) (a : Lent) : Type 0 where
   pub is : returned ≡ decideCode (addAnswer s l b)
-  pub state : t ≡ addState s l (learntTable s l) (addAnswer s l b)
+  pub state : t ≡ addState s l (learntKnown s l) (addAnswer s l b)
   pub left : AddLeft (addAnswer s l b) s l b a
 
 pub record WithdrawReturns (s : List ℤ) (returned : ℤ) (t : List ℤ) : Type 0 where

@@ -17,7 +17,7 @@ use Rattle.decide.specs.declared.Answer.{Answer}
 use Rattle.decide.specs.Decided.{unlessRefused, validityFor, refused}
 use Rattle.decide.specs.Places.{Below}
 use Rattle.session_state.specs.State.{sessionRoom, variablesIn, countIn, refusedIn, numbersWith, isState}
-use Rattle.session_promise.specs.Promise.{noState, startAnswer, startState, addValidity, learnsIn, learntTable, learntAnswer, addAnswer, addState, AddLeft, withdrawAnswer, withdrawState, Starts, Adds, Withdraws}
+use Rattle.session_promise.specs.Promise.{noState, startAnswer, startState, addValidity, learnsIn, learntKnown, learntAnswer, addAnswer, addState, AddLeft, withdrawAnswer, withdrawState, Starts, Adds, Withdraws}
 use Rattle.c_codes.specs.Codes.{refusalUnit}
 use Rattle.c_codes.specs.Apart.{refusals-apart, no-refusal}
 use Rattle.c_deciding.specs.Calls.{decideCode}
@@ -60,7 +60,7 @@ pub add-returns : {s t : List ℤ} {l : Line} {x : Answer} {b a : Lent} → Adds
 add-returns {s} {t} {l} {x} {b} {a} d returned e =
     record {
       is = e ∙ ap decideCode (d .is);
-      state = d .state ∙ ap (addState s l (learntTable s l)) (d .is);
+      state = d .state ∙ ap (addState s l (learntKnown s l)) (d .is);
       left = subst (λ (y : Answer). AddLeft y s l b a) (d .is) (d .left);
     }
 

@@ -38,7 +38,7 @@ fn left_side(line: Line, model: &[i64]) -> i64
 }
 
 // Whether the values meet a line.
-fn is_met(line: Line, model: &[i64]) -> bool
+pub fn is_met(line: Line, model: &[i64]) -> bool
     requires { ⌜ LineWorks (length (now model)) line × ValuesOk (now model) ⌝ }
     ensures { λ r. ⌜ r ≡ meets (assignmentOf (now (model .entry))) line ⌝ }
 {

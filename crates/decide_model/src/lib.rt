@@ -85,7 +85,7 @@ fn next_value(table: &[i64], n: usize, values: &[i32]) -> i64
 }
 
 // A value as it is kept: one that is beyond all models is 0.
-fn small_value(value: i64) -> i64
+pub fn small_value(value: i64) -> i64
     ensures { λ r. ⌜ r ≡ smallValue value ⌝ }
 {
     if between(-MAX_MODEL, MAX_MODEL, value) {

@@ -27,7 +27,7 @@ use Rattle.decide.specs.declared.Answer.the-variants as decide
 use Rattle.decide.specs.Decided.{NotRefused, unlessRefused, answerFor, validityFor, Decided}
 use Rattle.session_state.specs.State.{sessionRoom, stateOf, variablesIn, numbersWith}
 use Rattle.decide.specs.Parts.{no-answers}
-use Rattle.session_promise.specs.Promise.{Stands, statePlace, startAnswer, startState, addValidity, learnsIn, learntTable, learntAnswer, addAnswer, addState, FromTable, LearntLeft, AddLeft, withdrawAnswer, withdrawState, Starts, Adds, Withdraws}
+use Rattle.session_promise.specs.Promise.{Stands, statePlace, startAnswer, startState, addValidity, learnsIn, learntKnown, learntAnswer, addAnswer, addState, FromKnown, LearntLeft, AddLeft, withdrawAnswer, withdrawState, Starts, Adds, Withdraws}
 use Rattle.session_promise.specs.Standing.{add-answer}
 use Rattle.session_promise.specs.Sequence.{Reached, Grown, AddsTo, WithdrawsFrom, add-validity, went-on, adds-to, withdraws-from, reached-stands, reached-more, grown-reached, add-withdraw}
 use Rattle.implied_line.specs.Answer as line
@@ -51,7 +51,7 @@ use Rattle.demands.specs.SessionVersions.{rightAdd, right-add-keeps}
 -- ---- what a session holds
 
 -- After any sequence of calls from a start, each handed the state that the call before left, the state is `stateOf` n, the lines and the last answer, every
--- number of its room, its table included, with what lay beyond it; its lines are a valid list, and the last answer is right.
+-- number of its room, table, model and groups included, with what lay beyond it; its lines are a valid list, and the last answer is right.
 pub session-holds : (n : ℕ) (ls : List Line) (refused : Bool) (s : List ℤ) → Reached n ls refused s → Stands n ls refused s
 session-holds n ls refused s p = reached-stands p
 
@@ -164,7 +164,7 @@ refused-add-changes-nothing s l r b t a d = (d .state, d .left)
 pub refused-withdrawal-changes-nothing : (s : List ℤ) (r : Refusal) (t : List ℤ) → Withdraws s (validity.Refused r) t → t ≡ s
 refused-withdrawal-changes-nothing s r t d = d .state
 
--- No call guesses, whatever stands in the state, a wrong table too: two calls that are handed the same numbers have the same answer and leave the same state,
+-- No call guesses, whatever stands in the state, a wrong table or model too: two calls that are handed the same numbers have the same answer and leave the same state,
 -- and two adds leave the same in the buffers, but for the walks of a no.
 pub starts-alike : (n : ℕ) (s : List ℤ) (x y : Validity) (t u : List ℤ) → Starts n s x t → Starts n s y u → (x ≡ y) × (t ≡ u)
 starts-alike n s x y t u d f = let e : x ≡ y = d .is ∙ sym (f .is) in (e, d .state ∙ ap (startState n s) e ∙ sym (f .state))
@@ -183,11 +183,11 @@ pub record Alike (x : Answer) (a e : Lent) : Type 0 where
 pub adds-alike : (s : List ℤ) (l : Line) (x y : Answer) (b : Lent) (t u : List ℤ) (a e : Lent) → Adds s l x b t a → Adds s l y b u e → (x ≡ y) × (t ≡ u) × Alike x a e
 adds-alike s l x y b t u a e d f =
     let same : x ≡ y = d .is ∙ sym (f .is) in
-    (same, d .state ∙ ap (addState s l (learntTable s l)) same ∙ sym (f .state), go x (d .left) (subst (λ (z : Answer). AddLeft z s l b e) (sym same) (f .left)))
+    (same, d .state ∙ ap (addState s l (learntKnown s l)) same ∙ sym (f .state), go x (d .left) (subst (λ (z : Answer). AddLeft z s l b e) (sym same) (f .left)))
   where
     -- both are what the same definitions say of b
-    from-table : (n : ℕ) (v : List ℤ) → FromTable n v b a → FromTable n v b e → Alike decide.Yes a e
-    from-table n v p q =
+    from-known : (n : ℕ) (v : List ℤ) → FromKnown n v b a → FromKnown n v b e → Alike decide.Yes a e
+    from-known n v p q =
         record {
           model = p .outputs .model-is ∙ sym (q .outputs .model-is);
           bounds = p .outputs .bounds-is ∙ sym (q .outputs .bounds-is);
@@ -198,7 +198,7 @@ adds-alike s l x y b t u a e d f =
         }
 
     yes : (c : Bool) (n : ℕ) (L v : List ℤ) → LearntLeft c n L v decide.Yes b a → LearntLeft c n L v decide.Yes b e → Alike decide.Yes a e
-    yes true n L v p q = from-table n v p q
+    yes true n L v p q = from-known n v p q
     yes false n L v p q =
         record {
           model = p .model ∙ sym (q .model);
@@ -211,7 +211,7 @@ adds-alike s l x y b t u a e d f =
 
     no : (c : Bool) (n : ℕ) (L v : List ℤ) → LearntLeft c n L v decide.No b a → LearntLeft c n L v decide.No b e → Alike decide.No a e
     no true n L v p q =
-        let o = from-table n v p q in
+        let o = from-known n v p q in
         record { model = o .model; bounds = o .bounds; groups = o .groups; work = o .work; refutation = λ z. absurd (z refl); identifiers = λ z. absurd (z refl) }
     no false n L v p q =
         record {
@@ -224,8 +224,8 @@ adds-alike s l x y b t u a e d f =
         }
 
     go : (z : Answer) → AddLeft z s l b a → AddLeft z s l b e → Alike z a e
-    go decide.Yes p q = yes (learnsIn s l) _ _ (learntTable s l) p q
-    go decide.No p q = no (learnsIn s l) _ _ (learntTable s l) p q
+    go decide.Yes p q = yes (learnsIn s l) _ _ (learntKnown s l) p q
+    go decide.No p q = no (learnsIn s l) _ _ (learntKnown s l) p q
     go (decide.Refused r) p q =
         let same : a ≡ e = p ∙ sym q in
         record {
@@ -238,7 +238,7 @@ adds-alike s l x y b t u a e d f =
         }
 
 -- And a no is right, whatever stands in the state: it is a call of deciding, on the lines in the state with the new one behind them. Only a yes may be wrong,
--- where the table is.
+-- where the table, the model or the groups are.
 pub no-is-right : (s : List ℤ) (l : Line) (b : Lent) (t : List ℤ) (a : Lent) → Adds s l decide.No b t a
     → (c : Call (variablesIn s) (numbersWith s l)) × (c .answer ≡ decide.No) × (c .before ≡ b) × (c .after ≡ a)
 unfolding addAnswer
@@ -255,7 +255,7 @@ no-is-right s l b t a d = go (learnsIn s l) (d .left) (d .is)
     beyond validity.Valid x e = e
     beyond (validity.Refused r) x e = never (cc)
 
-    go : (c : Bool) → LearntLeft c (variablesIn s) (numbersWith s l) (learntTable s l) decide.No b a
+    go : (c : Bool) → LearntLeft c (variablesIn s) (numbersWith s l) (learntKnown s l) decide.No b a
         → decide.No ≡ unlessRefused (addValidity s) (unlessRefused (validityFor (variablesIn s) (numbersWith s l) b) (learntAnswer c (variablesIn s) (numbersWith s l) b))
         → (k : Call (variablesIn s) (numbersWith s l)) × (k .answer ≡ decide.No) × (k .before ≡ b) × (k .after ≡ a)
     go true o e = let clash : decide.No ≡ decide.Yes = beyond (validityFor n L b) _ (beyond (addValidity s) _ e) in never (cc)

@@ -1,14 +1,13 @@
 // A session that takes lines one at a time: it is started, lines are added to it, and the last one is withdrawn. A lent state
 // holds it between the calls. Each call reads the state as any numbers.
 use decide::Answer;
-use decide_table_by_rounds::start_table;
 use lines::Line;
 use lines::Refusal;
 use lines::Validity;
 use lines::limits::MAX_VARIABLES;
 use session_add::add_to;
-use session_remake::remake_table;
-use session_state::FRONT_ROOM;
+use session_remake::put_known;
+use session_remake::remake_known;
 use session_state::STATE_PLACE;
 use session_state::begin_state;
 use session_state::is_state;
@@ -30,7 +29,8 @@ fn write_start(n: usize, state: &mut [i64])
     ensures { λ _. ⌜ now (state .exit) ≡ startState n (now (state .entry)) Valid ⌝ }
 {
     begin_state(state, n);
-    start_table(state, FRONT_ROOM, 2 * n);
+    let none = [0i32; 0];
+    put_known(&none, n, state);
 }
 
 // Starts a session of n variables.
@@ -82,7 +82,7 @@ pub fn add(
     )
 }
 
-// Takes the last line away. After a no the table is that of the lines before it; else it is made anew.
+// Takes the last line away. After a no what is known is known of the lines before it; else it is made anew.
 fn take_last(state: &mut [i64])
     requires { ⌜ (isState (now state) ≡ true) × (0 < countIn (now state)) ⌝ }
     ensures { λ _. ⌜ now (state .exit) ≡ withdrawState (now (state .entry)) Valid ⌝ }
@@ -92,7 +92,7 @@ fn take_last(state: &mut [i64])
         pop_line(state);
         return;
     }
-    remake_table(state);
+    remake_known(state);
     pop_line(state);
 }
 

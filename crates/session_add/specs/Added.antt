@@ -19,10 +19,10 @@ use Rattle.decide_buffers.specs.Room.{Lent}
 use Rattle.decide.specs.declared.Answer.{Answer}
 use Rattle.decide.specs.declared.Answer.the-variants as decide
 use Rattle.decide.specs.Decided.{unlessRefused, decideAnswer, validityFor, decide-ok}
-use Rattle.session_learn.specs.Learnt.{learnt-size}
-use Rattle.session_state.specs.State.{tableRoom, variablesIn, countIn, refusedIn, numbersWith, tableIn, headOk, isState, pushed}
-use Rattle.session_state.specs.Laws.{state-head, state-head-ok, with-head, with-count, length-tableIn}
-use Rattle.session_promise.specs.Promise.{learnsIn, learntTable, learntAnswer, addState, LearntLeft, AddLeft, Adds}
+use Rattle.session_known.specs.Known.{after-size}
+use Rattle.session_state.specs.State.{knownRoom, variablesIn, countIn, refusedIn, numbersWith, knownIn, headOk, isState, pushed}
+use Rattle.session_state.specs.Laws.{state-head, state-head-ok, with-head, with-count, length-knownIn}
+use Rattle.session_promise.specs.Promise.{learnsIn, learntKnown, learntAnswer, addState, LearntLeft, AddLeft, Adds}
 use Rattle.session_promise.specs.Standing.{length-with, line-room, went-on}
 use Rattle.session_answer.specs.Answers.{AnswerReady, Answers}
 
@@ -59,16 +59,18 @@ module _ (s : List ℤ) (l : Line) (b : Lent) (e : isState s ≡ true) (q : refu
     pub room-left : countIn s < maxLines
     room-left = line-room s l e (decide-ok n L b v .list)
 
-    -- the table keeps its size
-    sized : length (learntTable s l) ≡ tableRoom (variablesIn s)
-    sized = learnt-size n L (countIn s) (tableIn n s) (record { variables = workable n L (decide-ok n L b v .list) .variables; size = length-tableIn n s (state-head s e .room) })
+    -- what is known keeps its size
+    sized : length (learntKnown s l) ≡ knownRoom (variablesIn s)
+    sized =
+        after-size n L (countIn s) (knownIn n s)
+        (record { few = workable n L (decide-ok n L b v .list) .variables; size = length-knownIn n s (state-head s e .room) })
 
     module _ (x : Answer) (m : List ℤ) (a : Lent) (d : Answers (variablesIn s) (numbersWith s l) (countIn s) s x b m a) where
       pub head-kept : headOk m ≡ true
-      head-kept = ap headOk (d .state) ∙ with-head n s (learntTable s l) (state-head s e .room) sized ∙ state-head-ok s e
+      head-kept = ap headOk (d .state) ∙ with-head n s (learntKnown s l) (state-head s e .room) sized ∙ state-head-ok s e
 
       pub room-kept : countIn m < maxLines
-      room-kept = omega (arith, room-left, ap countIn (d .state) ∙ with-count n s (learntTable s l) (state-head s e .room) sized)
+      room-kept = omega (arith, room-left, ap countIn (d .state) ∙ with-count n s (learntKnown s l) (state-head s e .room) sized)
 
       -- it is answered
       not-refused : (r : Refusal) → x ≡ decide.Refused r → ⊥
@@ -83,12 +85,12 @@ module _ (s : List ℤ) (l : Line) (b : Lent) (e : isState s ≡ true) (q : refu
           go true f = never (cc)
           go false f = decided (verdictOf n (linesOf L)) (sym (rw v) ∙ f)
 
-      state-is : (y : Answer) → x ≡ y → takenIn m l y ≡ addState s l (learntTable s l) y
+      state-is : (y : Answer) → x ≡ y → takenIn m l y ≡ addState s l (learntKnown s l) y
       state-is decide.Yes z = ap (λ (t : List ℤ). pushed t l false) (d .state)
       state-is decide.No z = ap (λ (t : List ℤ). pushed t l true) (d .state)
       state-is (decide.Refused r) z = absurd (not-refused r z)
 
-      left-is : (y : Answer) → x ≡ y → LearntLeft (learnsIn s l) (variablesIn s) (numbersWith s l) (learntTable s l) y b a → AddLeft y s l b a
+      left-is : (y : Answer) → x ≡ y → LearntLeft (learnsIn s l) (variablesIn s) (numbersWith s l) (learntKnown s l) y b a → AddLeft y s l b a
       left-is decide.Yes z o = o
       left-is decide.No z o = o
       left-is (decide.Refused r) z o = absurd (not-refused r z)

@@ -1,4 +1,4 @@
--- What is answered and left where a session learns the last line of a list, whatever its table holds: by the table where the line is learnt, else by deciding.
+-- What is answered and left where a session learns the last line of a list, whatever its state holds: by what is known where the line is learnt, else by deciding.
 use mathlib.Core.Path.{_≡_, refl, sym, ap, subst, _∙_}
 use mathlib.Core.Bool.{Bool, true, false}
 use mathlib.Core.List.{List}
@@ -15,22 +15,22 @@ use Rattle.decide_buffers.specs.Room.{Lent, modelRoom, boundsRoom, groupsRoom, 
 use Rattle.decide.specs.declared.Answer.{Answer}
 use Rattle.decide.specs.declared.Answer.the-variants.{Yes}
 use Rattle.decide.specs.Decided.{validityFor, cleared, Decided, DecideOk, decide-ok}
-use Rattle.session_step.specs.Read.{SizedTable}
-use Rattle.session_learn.specs.Learnt.{learns, learnt, learnt-size}
-use Rattle.session_outputs.specs.Outputs.{OutputsDone}
-use Rattle.session_promise.specs.Promise.{learntAnswer, FromTable, LearntLeft}
-use Rattle.session_state.specs.State.{frontRoom, sessionRoom, tableIn, withTable}
-use Rattle.session_state.specs.Laws.{room-is, length-tableIn}
-use Rattle.session_state.specs.Session.{table-is}
+use Rattle.session_learn.specs.Learnt.{learns}
+use Rattle.session_kept.specs.Kept.{Given}
+use Rattle.session_known.specs.Known.{knownAfter, Sized, after-size}
+use Rattle.session_promise.specs.Promise.{learntAnswer, FromKnown, LearntLeft}
+use Rattle.session_state.specs.State.{frontRoom, sessionRoom, tableIn, knownIn, tableOfKnown, keptOfKnown, withKnown}
+use Rattle.session_state.specs.Laws.{room-is, length-knownIn}
+use Rattle.session_state.specs.Session.{known-is}
 
--- ---- a line learnt in the table of a state
+-- ---- a line learnt in a state
 pub record LearnInReady (n : ℕ) (L : List ℤ) (k : ℕ) (s : List ℤ) : Type 0 where
   pub few : n ≤ maxVariables
   pub valid : LinesOk n L
   pub line : k < lineCount L
   pub room : sessionRoom n ≤ length s
 
--- ---- the outputs from it
+-- ---- the outputs from what it knows
 pub record YesReady (n : ℕ) (s model bounds : List ℤ) (groups : List ℕ) (work : List ℤ) : Type 0 where
   pub few : n ≤ maxVariables
   pub room : sessionRoom n ≤ length s
@@ -40,7 +40,7 @@ pub record YesReady (n : ℕ) (s model bounds : List ℤ) (groups : List ℕ) (w
   pub work-room : workRoom n ≤ length work
 
 pub record YesWritten (n : ℕ) (s model bounds : List ℤ) (groups : List ℕ) (work model′ bounds′ : List ℤ) (groups′ : List ℕ) (work′ : List ℤ) : Type 0 where
-  pub outputs : OutputsDone n (tableIn n s) model bounds groups model′ bounds′ groups′
+  pub outputs : Given n (tableOfKnown n (knownIn n s)) (keptOfKnown n (knownIn n s)) model bounds groups model′ bounds′ groups′
   pub emptied : work′ ≡ cleared n work
 
 -- ---- the answer
@@ -51,8 +51,8 @@ pub record AnswerReady (n : ℕ) (L : List ℤ) (k : ℕ) (s : List ℤ) (b : Le
 
 pub record Answers (n : ℕ) (L : List ℤ) (k : ℕ) (s : List ℤ) (x : Answer) (b : Lent) (t : List ℤ) (a : Lent) : Type 0 where
   pub is : x ≡ learntAnswer (learns n L k (tableIn n s)) n L b
-  pub state : t ≡ withTable n s (learnt n L k (tableIn n s))
-  pub left : LearntLeft (learns n L k (tableIn n s)) n L (learnt n L k (tableIn n s)) x b a
+  pub state : t ≡ withKnown n s (knownAfter n L k (knownIn n s))
+  pub left : LearntLeft (learns n L k (tableIn n s)) n L (knownAfter n L k (knownIn n s)) x b a
 
 -- ---- for the code
 module _ (n : ℕ) (L : List ℤ) (k : ℕ) (s : List ℤ) (b : Lent) (ready : AnswerReady n L k s b) where
@@ -65,17 +65,17 @@ module _ (n : ℕ) (L : List ℤ) (k : ℕ) (s : List ℤ) (b : Lent) (ready : A
   pub learn-ready : LearnInReady n L k s
   learn-ready = record { few = works .variables; valid = works .lines; line = omega (arith, ready .last); room = ready .room }
 
-  -- the table of the state after it
-  abbrev t : List ℤ
-  t = tableIn n s
+  -- what the state knows after it
+  abbrev q : List ℤ
+  q = knownIn n s
 
-  sized : SizedTable n (tableIn n s)
-  sized = record { variables = works .variables; size = length-tableIn n s (ready .room) }
+  sized : Sized n (knownIn n s)
+  sized = record { few = works .variables; size = length-knownIn n s (ready .room) }
 
-  table-left : (s′ : List ℤ) → s′ ≡ withTable n s (learnt n L k (tableIn n s)) → tableIn n s′ ≡ learnt n L k (tableIn n s)
-  table-left s′ e =
-      ap (tableIn n) e
-      ∙ table-is n (take frontRoom s) (learnt n L k t) (drop (sessionRoom n - frontRoom) (drop frontRoom s)) (length-take-le frontRoom s (omega (arith, ready .room, room-is n))) (learnt-size n L k t sized)
+  known-left : (s′ : List ℤ) → s′ ≡ withKnown n s (knownAfter n L k (knownIn n s)) → knownIn n s′ ≡ knownAfter n L k (knownIn n s)
+  known-left s′ e =
+      ap (knownIn n) e
+      ∙ known-is n (take frontRoom s) (knownAfter n L k q) (drop (sessionRoom n - frontRoom) (drop frontRoom s)) (length-take-le frontRoom s (omega (arith, ready .room, room-is n))) (after-size n L k q sized)
 
   -- ---- a yes
   pub yes-ready : (s′ : List ℤ) → length s′ ≡ length s → YesReady n s′ (b .model) (b .bounds) (b .groups) (b .work)
@@ -89,14 +89,14 @@ module _ (n : ℕ) (L : List ℤ) (k : ℕ) (s : List ℤ) (b : Lent) (ready : A
         work-room = work-room workRoom (ok .rooms);
       }
 
-  pub answers-yes : learns n L k (tableIn n s) ≡ true → (s′ : List ℤ) → s′ ≡ withTable n s (learnt n L k (tableIn n s)) → (m bs : List ℤ) (g : List ℕ) (w : List ℤ)
+  pub answers-yes : learns n L k (tableIn n s) ≡ true → (s′ : List ℤ) → s′ ≡ withKnown n s (knownAfter n L k (knownIn n s)) → (m bs : List ℤ) (g : List ℕ) (w : List ℤ)
       → YesWritten n s′ (b .model) (b .bounds) (b .groups) (b .work) m bs g w
       → Answers n L k s Yes b s′ (record { model = m; bounds = bs; groups = g; refutation = b .refutation; identifiers = b .identifiers; work = w })
   answers-yes e s′ is m bs g w o =
       let a : Lent = record { model = m; bounds = bs; groups = g; refutation = b .refutation; identifiers = b .identifiers; work = w } in
-      let from : FromTable n (learnt n L k t) b a =
+      let from : FromKnown n (knownAfter n L k q) b a =
       record {
-        outputs = subst (λ (x : List ℤ). OutputsDone n x (b .model) (b .bounds) (b .groups) m bs g) (table-left s′ is) (o .outputs);
+        outputs = subst (λ (x : List ℤ). Given n (tableOfKnown n x) (keptOfKnown n x) (b .model) (b .bounds) (b .groups) m bs g) (known-left s′ is) (o .outputs);
         refutation = refl;
         identifiers = refl;
         work = o .emptied;
@@ -104,14 +104,14 @@ module _ (n : ℕ) (L : List ℤ) (k : ℕ) (s : List ℤ) (b : Lent) (ready : A
       record {
         is = sym (ap (λ (c : Bool). learntAnswer c n L b) e);
         state = is;
-        left = subst (λ (c : Bool). LearntLeft c n L (learnt n L k t) Yes b a) (sym e) from;
+        left = subst (λ (c : Bool). LearntLeft c n L (knownAfter n L k q) Yes b a) (sym e) from;
       }
 
   -- ---- else all is decided
-  pub answers-decided : learns n L k (tableIn n s) ≡ false → (s′ : List ℤ) → s′ ≡ withTable n s (learnt n L k (tableIn n s)) → (x : Answer) (a : Lent) → Decided n L x b a → Answers n L k s x b s′ a
+  pub answers-decided : learns n L k (tableIn n s) ≡ false → (s′ : List ℤ) → s′ ≡ withKnown n s (knownAfter n L k (knownIn n s)) → (x : Answer) (a : Lent) → Decided n L x b a → Answers n L k s x b s′ a
   answers-decided e s′ is x a d =
       record {
         is = d .is ∙ sym (ap (λ (c : Bool). learntAnswer c n L b) e);
         state = is;
-        left = subst (λ (c : Bool). LearntLeft c n L (learnt n L k t) x b a) (sym e) (d .leaves);
+        left = subst (λ (c : Bool). LearntLeft c n L (knownAfter n L k q) x b a) (sym e) (d .leaves);
       }

@@ -1,27 +1,28 @@
-// The answer to a list whose last line a session learns: from the table where the list has a solution, else by deciding.
+// The answer to a list whose last line a session learns: from what is known where the list has a solution, else by deciding.
 use decide::Answer;
 use decide::decide;
 use decide_buffers::clear;
 use decide_buffers::work_room;
-use session_learn::learn_line;
-use session_outputs::write_learned;
+use session_known::give_known;
+use session_known::learn_known;
 use session_state::FRONT_ROOM;
 use session_state::session_room;
 ghost use mathlib.Core.Path.{_≡_};
-ghost use Rattle.session_state.specs.State.{tableIn, withTable};
-ghost use Rattle.session_learn.specs.Learnt.{learns, learnt};
+ghost use Rattle.session_state.specs.State.{tableIn, knownIn, withKnown};
+ghost use Rattle.session_learn.specs.Learnt.{learns};
+ghost use Rattle.session_known.specs.Known.{knownAfter};
 ghost use Rattle.session_answer.specs.Answers.{LearnInReady, YesReady, YesWritten, AnswerReady, Answers};
 
-// Line k learnt in the table of a state.
+// Line k learnt in a state.
 fn learn_in(list: &[i32], k: usize, state: &mut [i64], n: usize) -> bool
     requires { ⌜ LearnInReady n (now list) k (now state) ⌝ }
-    ensures { λ r. ⌜ (r ≡ learns n (now (list .entry)) k (tableIn n (now (state .entry)))) × (now (state .exit) ≡ withTable n (now (state .entry)) (learnt n (now (list .entry)) k (tableIn n (now (state .entry))))) ⌝ }
+    ensures { λ r. ⌜ (r ≡ learns n (now (list .entry)) k (tableIn n (now (state .entry)))) × (now (state .exit) ≡ withKnown n (now (state .entry)) (knownAfter n (now (list .entry)) k (knownIn n (now (state .entry))))) ⌝ }
 {
     let end = session_room(n);
-    learn_line(list, k, &mut state[FRONT_ROOM..end], n)
+    learn_known(list, k, &mut state[FRONT_ROOM..end], n)
 }
 
-// The outputs from the table of a state, and zeros in the work area.
+// The outputs from what a state knows, and zeros in the work area.
 fn write_yes(
     state: &[i64],
     n: usize,
@@ -34,7 +35,7 @@ fn write_yes(
     ensures { λ _. ⌜ YesWritten n (now (state .entry)) (now (model .entry)) (now (bounds .entry)) (now (groups .entry)) (now (work .entry)) (now (model .exit)) (now (bounds .exit)) (now (groups .exit)) (now (work .exit)) ⌝ }
 {
     let end = session_room(n);
-    write_learned(&state[FRONT_ROOM..end], n, model, bounds, groups);
+    give_known(&state[FRONT_ROOM..end], n, model, bounds, groups);
     clear(work, work_room(n));
 }
 

@@ -15,7 +15,7 @@ use session_state::FRONT_ROOM;
 use session_state::STATE_PLACE;
 use session_state::head_ok;
 use session_state::read_head;
-use session_state::session_room;
+use session_state::table_end;
 ghost use mathlib.Core.Path.{_≡_};
 ghost use mathlib.Core.Bool.{true};
 ghost use Prim.Native.Nat.{_<_};
@@ -43,7 +43,7 @@ fn line_from_table(state: &[i64], line: Line) -> LineAnswer
     if head.refused {
         return LineAnswer::Unsolvable;
     }
-    let end = session_room(head.n);
+    let end = table_end(head.n);
     if line_asked(&state[FRONT_ROOM..end], head.n, line) {
         return LineAnswer::Implied;
     }
@@ -91,7 +91,7 @@ fn pair_from_table(state: &[i64], x: usize, y: usize) -> PairAnswer
             pair,
         };
     }
-    let end = session_room(head.n);
+    let end = table_end(head.n);
     let pair = pair_asked(&state[FRONT_ROOM..end], head.n, x, y);
     PairAnswer {
         outcome: PairOutcome::Implied,

@@ -30,11 +30,11 @@ use Rattle.decide.specs.declared.Answer.{Answer}
 use Rattle.decide.specs.declared.Answer.the-variants as decide
 use Rattle.decide.specs.Decided.{NotRefused, unlessRefused, answerFor, validityFor, Decided, decide-ok}
 use Rattle.decide.specs.Parts.{answered-valid, yes-answers, no-answers, yes-verdict, no-verdict}
-use Rattle.session_state.specs.State.{sessionRoom, stateOf, kept, tableFor, countIn, refusedIn, tableIn}
+use Rattle.session_state.specs.State.{sessionRoom, stateOf, kept, knownFor, countIn, refusedIn, knownIn}
 use Rattle.session_state.specs.Session.{numbers-more, length-more, length-state, kept-no}
 use Rattle.session_remake.specs.Remade.{numbersBefore, remade-is}
-use Rattle.session_promise.specs.Promise.{Stands, startAnswer, addState, withdrawAnswer, withdrawState, learntTable, tableBefore, AddLeft, Starts, Adds, Withdraws}
-use Rattle.session_promise.specs.Standing.{variables-few, lines-few, stands, empty, shorter, shorter-yes, is-state, variables, count, refused-in, numbers, table-read, add-answer, pushed-to, popped-to, Learns, stand-learns}
+use Rattle.session_promise.specs.Promise.{Stands, startAnswer, addState, withdrawAnswer, withdrawState, learntKnown, knownBefore, AddLeft, Starts, Adds, Withdraws}
+use Rattle.session_promise.specs.Standing.{variables-few, lines-few, stands, empty, shorter, shorter-yes, is-state, variables, count, refused-in, numbers, known-read, add-answer, pushed-to, popped-to, Learns, stand-learns}
 
 -- ---- the states that are reached, with n, the lines so far and whether the last answer was a no; a refused call leaves the state as it was
 pub data Reached : ℕ → List Line → Bool → List ℤ → Type 0 where
@@ -100,21 +100,21 @@ module _ (n : ℕ) (ls : List Line) (l : Line) (v : validityOf n (numbersOf ls) 
   unfolding decideValidity
   add-validity b = ap (λ (u : Validity). u orElse roomsValidity n (lengthsOf b)) one-more-validity
 
--- ---- the table that a withdrawal leaves is that of the lines before
+-- ---- what a withdrawal leaves known is known of the lines before
 before-is : {n : ℕ} (ls : List Line) (l : Line) {r : Bool} {s : List ℤ} → Stands n (ls ++ l ∷ []) r s → numbersBefore s ≡ numbersOf ls
 before-is ls l {s = s} k =
     let end : length (numbersOf ls) ≡ lineSize * (countIn s - 1) = omega (arith, length-numbersOf ls, count k, length-more ls l) in
     ap (take (lineSize * (countIn s - 1))) (numbers k ∙ numbers-more ls l) ∙ take-at (numbersOf ls) (lineNumbers l) (lineSize * (countIn s - 1)) end
 
-table-left : {n : ℕ} (ls : List Line) (l : Line) {r : Bool} {s : List ℤ} → Stands n (ls ++ l ∷ []) r s → tableBefore (refusedIn s) s ≡ tableFor n ls
-table-left {n} ls l {r} {s} k = ap (λ (q : Bool). tableBefore q s) (refused-in k) ∙ go r k
+known-left : {n : ℕ} (ls : List Line) (l : Line) {r : Bool} {s : List ℤ} → Stands n (ls ++ l ∷ []) r s → knownBefore (refusedIn s) s ≡ knownFor n ls
+known-left {n} ls l {r} {s} k = ap (λ (q : Bool). knownBefore q s) (refused-in k) ∙ go r k
   where
-    go : (q : Bool) → Stands n (ls ++ l ∷ []) q s → tableBefore q s ≡ tableFor n ls
-    go true stood = ap (λ (m : ℕ). tableIn m s) (variables stood) ∙ table-read stood ∙ ap (tableFor n) (kept-no ls l)
+    go : (q : Bool) → Stands n (ls ++ l ∷ []) q s → knownBefore q s ≡ knownFor n ls
+    go true stood = ap (λ (m : ℕ). knownIn m s) (variables stood) ∙ known-read stood ∙ ap (knownFor n) (kept-no ls l)
     go false stood =
         remade-is s ls (before-is ls l stood) (subst (λ (j : ℕ). validityOf j (numbersOf ls) ≡ validity.Valid) (sym (variables stood)) (shorter n ls l (stood .valid)))
         (subst (λ (j : ℕ). verdictOf j ls ≡ true) (sym (variables stood)) (shorter-yes n ls l (stood .valid) (stood .solvable)))
-        ∙ ap (λ (j : ℕ). tableFor j ls) (variables stood)
+        ∙ ap (λ (j : ℕ). knownFor j ls) (variables stood)
 
 -- ---- what each call does at what stands in the state
 module _ {n : ℕ} {ls : List Line} {r : Bool} {s : List ℤ} (k : Stands n ls r s) where
@@ -122,7 +122,7 @@ module _ {n : ℕ} {ls : List Line} {r : Bool} {s : List ℤ} (k : Stands n ls r
     after-no : r ≡ true → x ≡ decide.Refused AfterNo
     after-no e = d .is ∙ (add-answer k l b ∙ ap (λ (q : Bool). unlessRefused (refuseIf q AfterNo) (answerFor n (numbersOf (ls ++ l ∷ [])) b)) e)
 
-    learns : r ≡ false → Learns n ls l x b a (learntTable s l)
+    learns : r ≡ false → Learns n ls l x b a (learntKnown s l)
     learns e = stand-learns (subst (λ (q : Bool). Stands n ls q s) e k) l d
 
     -- an answer comes only where the last was no no
@@ -144,12 +144,12 @@ module _ {n : ℕ} {ls : List Line} {r : Bool} {s : List ℤ} (k : Stands n ls r
     state-yes : x ≡ decide.Yes → t ≡ stateOf n (ls ++ l ∷ []) false ++ drop (sessionRoom n) s
     state-yes e =
         let h : NotRefused x = subst NotRefused (sym e) yes-answers in
-        d .state ∙ ap (addState s l (learntTable s l)) e ∙ pushed-to k l false (learntTable s l) (room-left h) (learns (went-on h) .yes e)
+        d .state ∙ ap (addState s l (learntKnown s l)) e ∙ pushed-to k l false (learntKnown s l) (room-left h) (learns (went-on h) .yes e)
 
     state-no : x ≡ decide.No → t ≡ stateOf n (ls ++ l ∷ []) true ++ drop (sessionRoom n) s
     state-no e =
         let h : NotRefused x = subst NotRefused (sym e) no-answers in
-        d .state ∙ ap (addState s l (learntTable s l)) e ∙ pushed-to k l true (learntTable s l) (room-left h) (learns (went-on h) .no e ∙ ap (tableFor n) (sym (kept-no ls l)))
+        d .state ∙ ap (addState s l (learntKnown s l)) e ∙ pushed-to k l true (learntKnown s l) (room-left h) (learns (went-on h) .no e ∙ ap (knownFor n) (sym (kept-no ls l)))
 
     pub adds-to : AddsTo n ls r s l x b t a
     adds-to =
@@ -158,7 +158,7 @@ module _ {n : ℕ} {ls : List Line} {r : Bool} {s : List ℤ} (k : Stands n ls r
           afresh = λ e. learns e .decided;
           yes = state-yes;
           no = state-no;
-          unchanged = λ q e. (d .state ∙ ap (addState s l (learntTable s l)) e, subst (λ (y : Answer). AddLeft y s l b a) e (d .left));
+          unchanged = λ q e. (d .state ∙ ap (addState s l (learntKnown s l)) e, subst (λ (y : Answer). AddLeft y s l b a) e (d .left));
         }
 
     -- the state after it stands: its last answer was right
@@ -203,7 +203,7 @@ module _ {n : ℕ} {ls : List Line} {r : Bool} {s : List ℤ} (k : Stands n ls r
             let more : eqb (countIn s) 0 ≡ false = ne-eqb (countIn s) 0 (λ z. absurd (omega arith)) in
             let q : x ≡ validity.Valid = d .is ∙ rw (is-state k, more) refl in
             let with : Stands n (ms ++ l ∷ []) r s = subst (λ (ks : List Line). Stands n ks r s) e k in
-            (q, d .state ∙ ap (withdrawState s) q ∙ popped-to ms l with (tableBefore (refusedIn s) s) (table-left ms l with));
+            (q, d .state ∙ ap (withdrawState s) q ∙ popped-to ms l with (knownBefore (refusedIn s) s) (known-left ms l with));
       }
 
 -- the lines before have a solution, whether the last answer was a yes or a no
@@ -220,7 +220,7 @@ stands-before {n} ls l {s = s} {t = t} k d =
     stands n ls (shorter n ls l (k .valid)) false t (drop (sessionRoom n) s) (withdraws-from k d .last ls l refl .1) y y
 
 -- ---- so it is at every state that is reached
-no-lines : (n : ℕ) → n ≤ maxVariables → verdictOf n [] ≡ true
+pub no-lines : (n : ℕ) → n ≤ maxVariables → verdictOf n [] ≡ true
 no-lines n few =
     ap (verdictOf n) (sym (lines-of-numbers []))
     ∙ solvable-yes n (numbersOf []) (workable n (numbersOf []) (empty n few)) (subst Solvable (sym (lines-of-numbers [])) (record { assignment = λ _. pos 0; solves = tt }))

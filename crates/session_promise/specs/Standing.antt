@@ -1,13 +1,12 @@
 -- What is read from the numbers of a state that stands, and what the calls make of it.
 use mathlib.Core.Path.{_≡_, refl, sym, ap, ap₂, subst, _∙_}
-use mathlib.Core.Bool.{Bool, true, false, not, _&&_}
+use mathlib.Core.Bool.{Bool, true, false, not}
 use mathlib.Core.List.{List, [], _∷_, _++_}
 use Prim.Native.Nat.{ℕ, _+_, _*_, _%_, _<_, _≤_}
 use native.Mathlib.Omega.{arith}
 use borrow.Author.Tests.{le-ltb}
 use lib.IntN.{ℤ}
 use lib.ListN.{length, drop, length-append}
-use Rattle.integers.specs.Laws.{and-true}
 use Rattle.lines.specs.declared.Line.{Line}
 use Rattle.lines.specs.declared.Refusal.{Refusal}
 use Rattle.lines.specs.declared.Refusal.the-variants.{AfterNo}
@@ -19,12 +18,9 @@ use Rattle.lines.specs.Line.{lineCount, linesOf, lineNumbers, numbersOf, Solves
 use Rattle.lines.specs.LineNumbers.{length-numbers, length-numbersOf, lines-of-numbers}
 use Rattle.lines.specs.Refusal.{refuseIf, linesValidity, validityOf}
 use Rattle.lines.specs.Solutions.{solves-append}
-use Rattle.lines.specs.Valid.{AllOk, LinesOk, valid-list, shorter-valid, workable, modellable}
+use Rattle.lines.specs.Valid.{LinesOk, Workable, Modellable, valid-list, shorter-valid, workable, modellable}
 use Rattle.steps.specs.Step.{stepsOf}
-use Rattle.theory_walks.specs.Graph.{ends-points, weights-small}
-use Rattle.theory_walks.specs.Negative.{noNegative, no-negative-yes}
-use Rattle.theory_bounds.specs.Verdict.{hasFalse, consistentHalves, verdictOf}
-use Rattle.theory_answers.specs.Decided.{lines-ok}
+use Rattle.theory_bounds.specs.Verdict.{verdictOf}
 use Rattle.theory_answers.specs.Longer.{yes-before}
 use Rattle.decide_buffers.specs.Room.{Lent}
 use Rattle.decide.specs.declared.Answer.{Answer}
@@ -32,12 +28,15 @@ use Rattle.decide.specs.declared.Answer.the-variants as decide
 use Rattle.decide.specs.Decided.{NotRefused, unlessRefused, answerFor, validityFor, Leaves, decideAnswer, Decided, decide-ok, judged-yes, refused}
 use Rattle.decide.specs.Parts.{answered-valid, yes-answers, no-answers, yes-verdict, no-verdict}
 use Rattle.session_step.specs.Meaning.{TableFor}
-use Rattle.session_learn.specs.Learnt.{learns, learnt, learnt-no, learn-verdict, learn-table}
-use Rattle.session_outputs.specs.Meaning.{learned-model, learned-bounds, learned-groups}
-use Rattle.session_state.specs.State.{tableRoom, sessionRoom, frontOf, stateOf, kept, tableFor, variablesIn, countIn, refusedIn, numbersIn, numbersWith, tableIn, isState, pushed, popped, withTable}
-use Rattle.session_state.specs.Laws.{all-fit, state-head, length-numbersIn}
-use Rattle.session_state.specs.Session.{numbers-more, length-more, length-front, variables-is, count-is, refused-is, numbers-is, state-is, pushed-is, popped-is, table-is, with-is, beyond-is, table-size, state-front}
-use Rattle.session_promise.specs.Promise.{Stands, addValidity, learnsIn, learntTable, learntAnswer, addAnswer, FromTable, LearntLeft, AddLeft, Adds, noState}
+use Rattle.session_learn.specs.Learnt.{learns, learn-verdict}
+use Rattle.session_kept.specs.Kept.{Given}
+use Rattle.session_known.specs.Known.{knownAfter, after-no-line}
+use Rattle.session_known.specs.Meaning.{known-after, known-model, known-bounds, known-groups}
+use Rattle.session_known.specs.Meaning as meaning
+use Rattle.session_state.specs.State.{knownRoom, sessionRoom, frontOf, stateOf, kept, tableFor, knownFor, variablesIn, countIn, refusedIn, numbersIn, numbersWith, tableIn, knownIn, tableOfKnown, keptOfKnown, isState, pushed, popped, withKnown}
+use Rattle.session_state.specs.Laws.{all-fit, state-head, length-numbersIn, table-in-known}
+use Rattle.session_state.specs.Session.{numbers-more, length-more, length-front, variables-is, count-is, refused-is, numbers-is, state-is, pushed-is, popped-is, known-is, with-is, beyond-is, known-size, table-known, state-front}
+use Rattle.session_promise.specs.Promise.{Stands, addValidity, learnsIn, learntKnown, learntAnswer, addAnswer, FromKnown, LearntLeft, AddLeft, Adds, noState}
 
 -- ---- a valid list of lines, and its state
 module _ (n : ℕ) (ls : List Line) (v : validityOf n (numbersOf ls) ≡ validity.Valid) where
@@ -54,7 +53,7 @@ module _ (n : ℕ) (ls : List Line) (v : validityOf n (numbersOf ls) ≡ validit
   pub stands : (r : Bool) (t rest : List ℤ) → t ≡ stateOf n ls r ++ rest → verdictOf n ls ≡ not r → verdictOf n (kept ls r) ≡ true → Stands n ls r t
   stands r t rest e y w =
       let beyond : drop (sessionRoom n) t ≡ rest =
-      ap (drop (sessionRoom n)) (e ∙ state-front n ls r rest) ∙ beyond-is n (frontOf n ls r) (tableFor n (kept ls r)) rest (length-front n ls r lines-few) (table-size n (kept ls r)) in
+      ap (drop (sessionRoom n)) (e ∙ state-front n ls r rest) ∙ beyond-is n (frontOf n ls r) (knownFor n (kept ls r)) rest (length-front n ls r lines-few) (known-size n (kept ls r)) in
       record { is = e ∙ ap (λ (x : List ℤ). stateOf n ls r ++ x) (sym beyond); valid = v; verdict = y; solvable = w }
 
 -- n within its limit, and no lines
@@ -79,18 +78,9 @@ shorter-yes n ls l v y =
 
 -- ---- the table of lines that have a solution
 pub table-holds : (n : ℕ) (ls : List Line) → validityOf n (numbersOf ls) ≡ validity.Valid → verdictOf n ls ≡ true → TableFor n (stepsOf ls) (tableFor n ls)
-unfolding verdictOf
 table-holds n ls v y =
-    let w = workable n (numbersOf ls) v in
-    let all = subst (λ (ms : List Line). AllOk n ms) (lines-of-numbers ls) (lines-ok n (numbersOf ls) w) in
-    let rest = and-true (not (hasFalse ls)) (noNegative (stepsOf ls) (2 * n) && consistentHalves n ls) y .1 in
-    record {
-      few = w .variables;
-      within = ends-points n ls all;
-      small = weights-small n ls all;
-      nonneg = no-negative-yes (stepsOf ls) (2 * n) (and-true (noNegative (stepsOf ls) (2 * n)) (consistentHalves n ls) rest .0);
-      is = refl;
-    }
+    subst (λ (ms : List Line). TableFor n (stepsOf ms) (tableFor n ms)) (lines-of-numbers ls)
+    (meaning.table-holds n (numbersOf ls) (workable n (numbersOf ls) v) (ap (verdictOf n) (lines-of-numbers ls) ∙ y))
 
 -- as many as the lines and one more have
 pub length-with : (s : List ℤ) (l : Line) → isState s ≡ true → length (numbersWith s l) ≡ lineSize * countIn s + lineSize
@@ -105,41 +95,44 @@ module _ {n : ℕ} {ls : List Line} {r : Bool} {s : List ℤ} (k : Stands n ls r
   abbrev beyond : List ℤ
   beyond = drop (sessionRoom n) s
 
-  abbrev table : List ℤ
-  table = tableFor n (kept ls r)
+  abbrev known : List ℤ
+  known = knownFor n (kept ls r)
 
-  pub fronted : s ≡ frontOf n ls r ++ (tableFor n (kept ls r) ++ drop (sessionRoom n) s)
+  pub fronted : s ≡ frontOf n ls r ++ (knownFor n (kept ls r) ++ drop (sessionRoom n) s)
   fronted = k .is ∙ state-front n ls r beyond
 
-  room : tableRoom n ≤ length (table ++ beyond)
-  room = omega (arith, length-append table beyond, table-size n (kept ls r))
+  room : knownRoom n ≤ length (known ++ beyond)
+  room = omega (arith, length-append known beyond, known-size n (kept ls r))
 
   pub is-state : isState s ≡ true
   is-state =
       ap isState fronted
-      ∙ state-is n ls r (table ++ beyond) (variables-few n ls (k .valid)) (lines-few n ls (k .valid)) room (all-fit (numbersOf ls) (numbers-fit n (numbersOf ls) (k .valid)))
+      ∙ state-is n ls r (known ++ beyond) (variables-few n ls (k .valid)) (lines-few n ls (k .valid)) room (all-fit (numbersOf ls) (numbers-fit n (numbersOf ls) (k .valid)))
 
   pub variables : variablesIn s ≡ n
-  variables = ap variablesIn fronted ∙ variables-is n ls r (table ++ beyond)
+  variables = ap variablesIn fronted ∙ variables-is n ls r (known ++ beyond)
 
   pub count : countIn s ≡ length ls
-  count = ap countIn fronted ∙ count-is n ls r (table ++ beyond)
+  count = ap countIn fronted ∙ count-is n ls r (known ++ beyond)
 
   pub refused-in : refusedIn s ≡ r
-  refused-in = ap refusedIn fronted ∙ refused-is n ls r (table ++ beyond)
+  refused-in = ap refusedIn fronted ∙ refused-is n ls r (known ++ beyond)
 
   pub numbers : numbersIn s ≡ numbersOf ls
-  numbers = ap numbersIn fronted ∙ numbers-is n ls r (table ++ beyond)
+  numbers = ap numbersIn fronted ∙ numbers-is n ls r (known ++ beyond)
+
+  pub known-read : knownIn n s ≡ knownFor n (kept ls r)
+  known-read = ap (knownIn n) fronted ∙ known-is n (frontOf n ls r) known beyond (length-front n ls r (lines-few n ls (k .valid))) (known-size n (kept ls r))
 
   pub table-read : tableIn n s ≡ tableFor n (kept ls r)
-  table-read = ap (tableIn n) fronted ∙ table-is n (frontOf n ls r) table beyond (length-front n ls r (lines-few n ls (k .valid))) (table-size n (kept ls r))
+  table-read = table-in-known n s ∙ ap (tableOfKnown n) known-read ∙ table-known n (kept ls r)
 
-  -- another table
-  pub table-put : (u : List ℤ) → withTable (variablesIn s) s u ≡ frontOf n ls r ++ (u ++ drop (sessionRoom n) s)
-  table-put u =
-      ap (λ (m : ℕ). withTable m s u) variables
-      ∙ ap (λ (x : List ℤ). withTable n x u) fronted
-      ∙ with-is n (frontOf n ls r) table beyond (length-front n ls r (lines-few n ls (k .valid))) (table-size n (kept ls r)) u
+  -- something else is known
+  pub known-put : (u : List ℤ) → withKnown (variablesIn s) s u ≡ frontOf n ls r ++ (u ++ drop (sessionRoom n) s)
+  known-put u =
+      ap (λ (m : ℕ). withKnown m s u) variables
+      ∙ ap (λ (x : List ℤ). withKnown n x u) fronted
+      ∙ with-is n (frontOf n ls r) known beyond (length-front n ls r (lines-few n ls (k .valid))) (known-size n (kept ls r)) u
 
   -- only 30 is refused beyond what deciding refuses
   pub state-validity : addValidity s ≡ refuseIf r AfterNo
@@ -149,22 +142,22 @@ module _ {n : ℕ} {ls : List Line} {r : Bool} {s : List ℤ} (k : Stands n ls r
     pub all-numbers : numbersWith s l ≡ numbersOf (ls ++ l ∷ [])
     all-numbers = ap (λ (x : List ℤ). x ++ lineNumbers l) numbers ∙ sym (numbers-more ls l)
 
-    -- the state with one line more, and its table
-    pub pushed-to : (q : Bool) (u : List ℤ) → length ls < maxLines → u ≡ tableFor n (kept (ls ++ l ∷ []) q)
-        → pushed (withTable (variablesIn s) s u) l q ≡ stateOf n (ls ++ l ∷ []) q ++ drop (sessionRoom n) s
+    -- the state with one line more, and what is known of its lines
+    pub pushed-to : (q : Bool) (u : List ℤ) → length ls < maxLines → u ≡ knownFor n (kept (ls ++ l ∷ []) q)
+        → pushed (withKnown (variablesIn s) s u) l q ≡ stateOf n (ls ++ l ∷ []) q ++ drop (sessionRoom n) s
     pushed-to q u h e =
-        ap (λ (x : List ℤ). pushed x l q) (table-put u)
+        ap (λ (x : List ℤ). pushed x l q) (known-put u)
         ∙ pushed-is n ls r (u ++ beyond) l q h
         ∙ ap (λ (x : List ℤ). frontOf n (ls ++ l ∷ []) q ++ (x ++ beyond)) e
         ∙ sym (state-front n (ls ++ l ∷ []) q beyond)
 
 -- and with one less
-pub popped-to : {n : ℕ} (ls : List Line) (l : Line) {r : Bool} {s : List ℤ} → Stands n (ls ++ l ∷ []) r s → (u : List ℤ) → u ≡ tableFor n ls
-    → popped (withTable (variablesIn s) s u) ≡ stateOf n ls false ++ drop (sessionRoom n) s
+pub popped-to : {n : ℕ} (ls : List Line) (l : Line) {r : Bool} {s : List ℤ} → Stands n (ls ++ l ∷ []) r s → (u : List ℤ) → u ≡ knownFor n ls
+    → popped (withKnown (variablesIn s) s u) ≡ stateOf n ls false ++ drop (sessionRoom n) s
 popped-to {n} ls l {r} {s} k u e =
     let beyond = drop (sessionRoom n) s in
     let few : length ls < maxLines = omega (arith, lines-few n (ls ++ l ∷ []) (k .valid), length-more ls l) in
-    ap popped (table-put k u)
+    ap popped (known-put k u)
     ∙ popped-is n ls l r (u ++ beyond) few
     ∙ ap (λ (x : List ℤ). frontOf n ls false ++ (x ++ beyond)) e
     ∙ sym (state-front n ls false beyond)
@@ -196,6 +189,12 @@ module _ {n : ℕ} {ls : List Line} {s : List ℤ} (k : Stands n ls false s) (l 
       ∙ ap₂ (λ (L t : List ℤ). f n L (countIn s) t) (ap (λ (x : List ℤ). x ++ lineNumbers l) (numbers k)) (table-read k)
       ∙ ap (λ (j : ℕ). f n (numbersOf ls ++ lineNumbers l) j (tableFor n ls)) (count k ∙ sym (count-of n ls (k .valid)))
 
+  asked-known : learntKnown s l ≡ knownAfter n (numbersOf ls ++ lineNumbers l) (lineCount (numbersOf ls)) (knownFor n ls)
+  asked-known =
+      ap (λ (m : ℕ). knownAfter m (numbersWith s l) (countIn s) (knownIn m s)) (variables k)
+      ∙ ap₂ (λ (L q : List ℤ). knownAfter n L (countIn s) q) (ap (λ (x : List ℤ). x ++ lineNumbers l) (numbers k)) (known-read k)
+      ∙ ap (λ (j : ℕ). knownAfter n (numbersOf ls ++ lineNumbers l) j (knownFor n ls)) (count k ∙ sym (count-of n ls (k .valid)))
+
   module _ (v : validityOf n (numbersOf (ls ++ l ∷ [])) ≡ validity.Valid) where
     lines-ready : LinesOk n (numbersOf ls ++ lineNumbers l)
     lines-ready = subst (LinesOk n) (numbers-more ls l) (workable n more v .lines)
@@ -207,34 +206,45 @@ module _ {n : ℕ} {ls : List Line} {s : List ℤ} (k : Stands n ls false s) (l 
         ∙ learn-verdict n (numbersOf ls) l whole lines-ready yes-so-far (tableFor n ls) table-of
         ∙ ap (λ (L : List ℤ). verdictOf n (linesOf L)) (sym (numbers-more ls l))
 
-    -- and then the table is theirs
-    table-more : learnsIn s l ≡ true → TableFor n (stepsOf (linesOf (numbersOf (ls ++ l ∷ [])))) (learntTable s l)
-    table-more e =
-        subst (λ (t : List ℤ). TableFor n (stepsOf (linesOf more)) t) (sym (asked learnt))
-        (subst (λ (L : List ℤ). TableFor n (stepsOf (linesOf L)) (learnt n (numbersOf ls ++ lineNumbers l) (lineCount (numbersOf ls)) (tableFor n ls))) (sym (numbers-more ls l))
-        (learn-table n (numbersOf ls) l whole lines-ready yes-so-far (tableFor n ls) table-of (sym (asked learns) ∙ e)))
+    -- and then what is known is known of them
+    pub known-more : learnsIn s l ≡ true → learntKnown s l ≡ knownFor n (ls ++ l ∷ [])
+    known-more e =
+        asked-known
+        ∙ ap (knownAfter n (numbersOf ls ++ lineNumbers l) (lineCount (numbersOf ls))) (sym (ap (knownFor n) lines))
+        ∙ known-after n (numbersOf ls) l whole (workable n (numbersOf ls) (k .valid)) (modellable n (numbersOf ls) (k .valid)) works-more models-more yes-so-far
+        (ap (learns n (numbersOf ls ++ lineNumbers l) (lineCount (numbersOf ls))) (ap (tableFor n) lines) ∙ sym (asked learns) ∙ e)
+        ∙ ap (λ (L : List ℤ). knownFor n (linesOf L)) (sym (numbers-more ls l))
+        ∙ ap (knownFor n) (lines-of-numbers (ls ++ l ∷ []))
+      where
+        works-more : Workable n (numbersOf ls ++ lineNumbers l)
+        works-more = subst (Workable n) (numbers-more ls l) (workable n more v)
 
-    pub learnt-table : learnsIn s l ≡ true → learntTable s l ≡ tableFor n (ls ++ l ∷ [])
-    learnt-table e = table-more e .is ∙ ap (tableFor n) (lines-of-numbers (ls ++ l ∷ []))
+        models-more : Modellable n (numbersOf ls ++ lineNumbers l)
+        models-more = subst (Modellable n) (numbers-more ls l) (modellable n more v)
 
-    -- what is read off it is what deciding writes
-    from-table : learnsIn s l ≡ true → {b a : Lent} → FromTable n (learntTable s l) b a → Leaves n (numbersOf (ls ++ l ∷ [])) decide.Yes b a
-    from-table e {b} {a} o =
+    -- what is given of it is what deciding writes
+    from-known : learnsIn s l ≡ true → {b a : Lent} → FromKnown n (learntKnown s l) b a → Leaves n (numbersOf (ls ++ l ∷ [])) decide.Yes b a
+    from-known e {b} {a} o =
         let works = workable n more v in
         let modelled = modellable n more v in
         let yes : verdictOf n (linesOf more) ≡ true = sym learns-verdict ∙ e in
+        let known : learntKnown s l ≡ knownFor n (linesOf more) = known-more e ∙ ap (knownFor n) (sym (lines-of-numbers (ls ++ l ∷ []))) in
+        let outputs = subst (λ (q : List ℤ). Given n (tableOfKnown n q) (keptOfKnown n q) (b .model) (b .bounds) (b .groups) (a .model) (a .bounds) (a .groups)) known (o .outputs) in
         record {
-          model = learned-model n more works modelled yes (learntTable s l) (table-more e) (b .model) (b .bounds) (b .groups) (a .model) (a .bounds) (a .groups) (o .outputs);
-          bounds = learned-bounds n more works modelled yes (learntTable s l) (table-more e) (b .model) (b .bounds) (b .groups) (a .model) (a .bounds) (a .groups) (o .outputs);
-          groups = learned-groups n more works modelled yes (learntTable s l) (table-more e) (b .model) (b .bounds) (b .groups) (a .model) (a .bounds) (a .groups) (o .outputs);
+          model = known-model n more works yes modelled (b .model) (b .bounds) (b .groups) (a .model) (a .bounds) (a .groups) outputs;
+          bounds = known-bounds n more works yes modelled (b .model) (b .bounds) (b .groups) (a .model) (a .bounds) (a .groups) outputs;
+          groups = known-groups n more works yes modelled (b .model) (b .bounds) (b .groups) (a .model) (a .bounds) (a .groups) outputs;
           refutation = o .refutation;
           identifiers = o .identifiers;
           work = o .work;
         }
 
   -- else it is as it was
-  pub kept-table : learnsIn s l ≡ false → learntTable s l ≡ tableFor n ls
-  kept-table e = sym (learnt-no (variablesIn s) (numbersWith s l) (countIn s) (tableIn (variablesIn s) s) e) ∙ ap (λ (m : ℕ). tableIn m s) (variables k) ∙ table-read k
+  pub known-kept : learnsIn s l ≡ false → learntKnown s l ≡ knownFor n ls
+  known-kept e =
+      asked-known
+      ∙ after-no-line n (numbersOf ls ++ lineNumbers l) (lineCount (numbersOf ls)) (knownFor n ls)
+      (ap (learns n (numbersOf ls ++ lineNumbers l) (lineCount (numbersOf ls))) (table-known n ls) ∙ sym (asked learns) ∙ e)
 
 -- ---- so an add is answered as deciding all lines so far is, after a no it is refused
 answer-yes : (n : ℕ) (L : List ℤ) (b : Lent) → validityFor n L b ≡ validity.Valid → verdictOf n (linesOf L) ≡ true → decide.Yes ≡ answerFor n L b
@@ -264,11 +274,11 @@ add-answer {n} {ls} {r} {s} k l b =
     by-state true stood = refl
     by-state false stood = by-list stood (validityFor n (numbersOf (ls ++ l ∷ [])) b) refl
 
--- all lines so far are decided, and the table u is theirs on a yes, that of the lines before on a no
+-- all lines so far are decided, and u is known: of all of them on a yes, of the lines before on a no
 pub record Learns (n : ℕ) (ls : List Line) (l : Line) (answer : Answer) (b a : Lent) (u : List ℤ) : Type 0 where
   pub decided : Decided n (numbersOf (ls ++ l ∷ [])) answer b a
-  pub yes : answer ≡ decide.Yes → u ≡ tableFor n (ls ++ l ∷ [])
-  pub no : answer ≡ decide.No → u ≡ tableFor n ls
+  pub yes : answer ≡ decide.Yes → u ≡ knownFor n (ls ++ l ∷ [])
+  pub no : answer ≡ decide.No → u ≡ knownFor n ls
 
 module _ {n : ℕ} {ls : List Line} {s : List ℤ} (k : Stands n ls false s) (l : Line) {x : Answer} {b : Lent} {t : List ℤ} {a : Lent} (d : Adds s l x b t a) where
   answered : x ≡ answerFor n (numbersOf (ls ++ l ∷ [])) b
@@ -286,19 +296,19 @@ module _ {n : ℕ} {ls : List Line} {s : List ℤ} (k : Stands n ls false s) (l 
 
   left-is : (y : Answer) → x ≡ y → AddLeft y s l b a → Leaves n (numbersOf (ls ++ l ∷ [])) y b a
   left-is decide.Yes e o =
-      from-table k l (valid-then decide.Yes e yes-answers) (learns-yes e)
-      (subst (λ (m : ℕ). FromTable m (learntTable s l) b a) (variables k) (subst (λ (c : Bool). LearntLeft c (variablesIn s) (numbersWith s l) (learntTable s l) decide.Yes b a) (learns-yes e) o))
+      from-known k l (valid-then decide.Yes e yes-answers) (learns-yes e)
+      (subst (λ (m : ℕ). FromKnown m (learntKnown s l) b a) (variables k) (subst (λ (c : Bool). LearntLeft c (variablesIn s) (numbersWith s l) (learntKnown s l) decide.Yes b a) (learns-yes e) o))
   left-is decide.No e o =
       subst (λ (L : List ℤ). Leaves n L decide.No b a) (all-numbers k l)
-      (subst (λ (m : ℕ). Leaves m (numbersWith s l) decide.No b a) (variables k) (subst (λ (c : Bool). LearntLeft c (variablesIn s) (numbersWith s l) (learntTable s l) decide.No b a) (learns-no e) o))
+      (subst (λ (m : ℕ). Leaves m (numbersWith s l) decide.No b a) (variables k) (subst (λ (c : Bool). LearntLeft c (variablesIn s) (numbersWith s l) (learntKnown s l) decide.No b a) (learns-no e) o))
   left-is (decide.Refused q) e o = o
 
-  pub stand-learns : Learns n ls l x b a (learntTable s l)
+  pub stand-learns : Learns n ls l x b a (learntKnown s l)
   stand-learns =
       record {
         decided = record { is = answered; leaves = left-is x refl (d .left) };
-        yes = λ e. learnt-table k l (valid-then decide.Yes e yes-answers) (learns-yes e);
-        no = λ e. kept-table k l (learns-no e);
+        yes = λ e. known-more k l (valid-then decide.Yes e yes-answers) (learns-yes e);
+        no = λ e. known-kept k l (learns-no e);
       }
 
 -- ---- how a refused add keeps the promise

@@ -22,7 +22,7 @@ ghost use Rattle.session_step.specs.Read.{smallTable, SizedTable};
 ghost use Rattle.session_questions.specs.Asked.{namedImplied, lineImplied};
 
 // The greatest value that the distance to its opposite leaves the point p.
-fn half_of(table: &[i64], n: usize, p: usize) -> i64
+pub fn half_of(table: &[i64], n: usize, p: usize) -> i64
     requires { ⌜ SizedTable n (now table) × (p < 2 * n) ⌝ }
     ensures { λ r. ⌜ r ≡ stored (halves (smallTable (2 * n) (now (table .entry))) p) ⌝ }
 {

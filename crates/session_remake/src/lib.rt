@@ -1,36 +1,36 @@
-// The table of a state made anew from its lines without the last one.
+// What is known of the lines of a state made anew from them without the last one.
 use lines::Validity;
 use lines::limits::LINE_SIZE;
 use lines::list_validity;
 use longer_list::MOST_NUMBERS;
+use session_known::known_anew;
 use session_state::FRONT_ROOM;
 use session_state::copy_lines;
 use session_state::read_head;
 use session_state::session_room;
-use session_table::table_anew;
 ghost use mathlib.Core.Path.{_≡_};
 ghost use mathlib.Core.Bool.{true};
 ghost use Prim.Native.Nat.{_<_, _≤_};
 ghost use lib.ListN.{length};
 ghost use Rattle.lines.specs.Limits.{maxVariables};
 ghost use Rattle.lines.specs.Valid.{LinesOk};
-ghost use Rattle.session_table.specs.Anew.{anewTable};
-ghost use Rattle.session_state.specs.State.{sessionRoom, variablesIn, countIn, isState, withTable};
-ghost use Rattle.session_remake.specs.Remade.{remadeTable};
+ghost use Rattle.session_known.specs.Known.{knownAnew};
+ghost use Rattle.session_state.specs.State.{sessionRoom, variablesIn, countIn, knownIn, isState, withKnown};
+ghost use Rattle.session_remake.specs.Remade.{remadeKnown};
 
-// The table of a list, in place of the state's.
-fn put_table(list: &[i32], n: usize, state: &mut [i64])
+// What is known of a list, in place of what the state has.
+pub fn put_known(list: &[i32], n: usize, state: &mut [i64])
     requires { ⌜ (n ≤ maxVariables) × LinesOk n (now list) × (sessionRoom n ≤ length (now state)) ⌝ }
-    ensures { λ _. ⌜ now (state .exit) ≡ withTable n (now (state .entry)) (anewTable n (now (list .entry))) ⌝ }
+    ensures { λ _. ⌜ now (state .exit) ≡ withKnown n (now (state .entry)) (knownAnew n (now (list .entry)) (knownIn n (now (state .entry)))) ⌝ }
 {
     let end = session_room(n);
-    table_anew(list, n, &mut state[FRONT_ROOM..end]);
+    known_anew(list, n, &mut state[FRONT_ROOM..end]);
 }
 
-// The table of the lines before the last, where these are valid; else the state is left as it is.
-pub fn remake_table(state: &mut [i64])
+// What is known of the lines before the last, where these are valid; else the state is left as it is.
+pub fn remake_known(state: &mut [i64])
     requires { ⌜ (isState (now state) ≡ true) × (0 < countIn (now state)) ⌝ }
-    ensures { λ _. ⌜ now (state .exit) ≡ withTable (variablesIn (now (state .entry))) (now (state .entry)) (remadeTable (now (state .entry))) ⌝ }
+    ensures { λ _. ⌜ now (state .exit) ≡ withKnown (variablesIn (now (state .entry))) (now (state .entry)) (remadeKnown (now (state .entry))) ⌝ }
 {
     let mut list = [0i32; MOST_NUMBERS];
     copy_lines(state, &mut list);
@@ -38,7 +38,7 @@ pub fn remake_table(state: &mut [i64])
     let end = LINE_SIZE * (head.count - 1);
     let found = list_validity(head.n, &list[..end]);
     match found {
-        Validity::Valid => put_table(&list[..end], head.n, state),
+        Validity::Valid => put_known(&list[..end], head.n, state),
         Validity::Refused(_) => {}
     }
 }

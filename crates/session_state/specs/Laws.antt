@@ -3,14 +3,14 @@ use mathlib.Core.Path.{_≡_, refl, sym, ap, _∙_}
 use mathlib.Core.Bool.{true, _&&_}
 use mathlib.Core.List.{List, [], _∷_, _++_}
 use Prim.Native.Nat.{ℕ, zero, suc, _+_, _*_, _^_, _-_, _<_, _≤_}
-use native.Mathlib.Nat.{not-suc-le-zero, le-of-suc-le-suc}
+use native.Mathlib.Nat.{mul-le-mul-right, not-suc-le-zero, le-of-suc-le-suc}
 use native.Mathlib.Numerals.{add-one}
 use native.Mathlib.Omega.{arith}
 use borrow.Author.Tests.{leb-true}
 use lib.Dec.{leb}
 use lib.IntN.{ℤ, pos, negsuc, natAbs}
 use lib.ListN.{length, take, drop, drop-of-length-le, length-append, length-drop, take-append-drop, List·getD-append}
-use lib.Seq.{drop-cons, length-take-le, getD-take}
+use lib.Seq.{drop-cons, length-take-le, take-take, getD-take}
 use lib.Signed.{leZ}
 use mir.Syntax.{w32, w64}
 use mir.Val.{SFits}
@@ -19,7 +19,7 @@ use Rattle.integers.specs.Linear.{ints, given, given₂}
 use Rattle.integers.specs.Laws.{and-true, both-true}
 use Rattle.lines.specs.Limits.{lineSize, maxVariables, maxLines}
 use Rattle.lines.specs.Line.{number}
-use Rattle.session_state.specs.State.{headSize, frontRoom, tableRoom, sessionRoom, behind, variablesIn, countIn, numbersIn, tableIn, headOk, fits32, fitAll, isState, withTable}
+use Rattle.session_state.specs.State.{headSize, frontRoom, tableRoom, keptRoom, knownRoom, tableEnd, sessionRoom, behind, variablesIn, countIn, numbersIn, tableIn, tableOfKnown, keptOfKnown, knownIn, headOk, fits32, fitAll, isState, withKnown}
 
 -- ---- a number from 0 to m
 pub between-low : (m : ℕ) (z : ℤ) → isBetween (pos 0) (pos m) z ≡ true → pos 0 ⩽ z
@@ -29,17 +29,35 @@ pub between-high : (m : ℕ) (z : ℤ) → isBetween (pos 0) (pos m) z ≡ true 
 between-high m z e = let t = and-true (leZ (pos 0) z) (leZ z (pos m)) e in given₂ (t .0) (t .1) (simp ints (omega arith))
 
 -- ---- the room
--- before the table, k lines and the zeros behind them
+-- before what is known, k lines and the zeros behind them
 pub front-split : (k : ℕ) → k ≤ maxLines → frontRoom ≡ headSize + (lineSize * k + behind k)
 unfolding behind
 front-split k h = omega arith
 
-pub room-is : (n : ℕ) → sessionRoom n ≡ frontRoom + tableRoom n
+-- both sides of a table are small
+pub table-small : (n : ℕ) → n ≤ maxVariables → tableRoom n ≤ tableRoom maxVariables
+table-small n h =
+    let a : 2 * n * (2 * n) ≤ 2 * maxVariables * (2 * n) = mul-le-mul-right (2 * n) (omega arith) in
+    omega (arith, a, h)
+
+pub room-is : (n : ℕ) → sessionRoom n ≡ frontRoom + knownRoom n
 unfolding sessionRoom
 room-is n = refl
 
-pub room-table : (n : ℕ) → sessionRoom n - frontRoom ≡ tableRoom n
-room-table n = omega (arith, room-is n)
+pub room-known : (n : ℕ) → sessionRoom n - frontRoom ≡ knownRoom n
+room-known n = omega (arith, room-is n)
+
+pub end-is : (n : ℕ) → tableEnd n ≡ frontRoom + tableRoom n
+unfolding tableEnd
+end-is n = refl
+
+end-table : (n : ℕ) → tableEnd n - frontRoom ≡ tableRoom n
+end-table n = omega (arith, end-is n)
+
+-- the table ends within the room
+pub end-room : (n : ℕ) → tableEnd n ≤ sessionRoom n
+unfolding knownRoom
+end-room n = omega (arith, end-is n, room-is n)
 
 pub room-lines : (n k : ℕ) → k ≤ maxLines → headSize + lineSize * k ≤ sessionRoom n
 room-lines n k h = omega (arith, front-split k h, room-is n)
@@ -131,9 +149,9 @@ pub head-same : (s t : List ℤ) → length t ≡ length s → ((i : ℕ) → i 
 unfolding headOk
 head-same s t e same = rw (e, same 0 (omega arith), same 1 (omega arith), same 2 (omega arith))
 
--- and another table
-module _ (n : ℕ) (s u : List ℤ) (room : sessionRoom n ≤ length s) (size : length u ≡ tableRoom n) where
-  pub with-length : length (withTable n s u) ≡ length s
+-- and something else known
+module _ (n : ℕ) (s u : List ℤ) (room : sessionRoom n ≤ length s) (size : length u ≡ knownRoom n) where
+  pub with-length : length (withKnown n s u) ≡ length s
   with-length =
       length-append (take frontRoom s) (u ++ drop (sessionRoom n - frontRoom) (drop frontRoom s))
       ∙ omega (
@@ -147,23 +165,43 @@ module _ (n : ℕ) (s u : List ℤ) (room : sessionRoom n ≤ length s) (size : 
         size,
       )
 
-  pub with-number : (i : ℕ) → i < frontRoom → number (withTable n s u) i ≡ number s i
+  pub with-number : (i : ℕ) → i < frontRoom → number (withKnown n s u) i ≡ number s i
   with-number i h =
       List·getD-append (take frontRoom s) (u ++ drop (sessionRoom n - frontRoom) (drop frontRoom s)) (pos 0) i (omega (arith, h, length-take-le frontRoom s (omega (arith, room, room-is n))))
       ∙ getD-take frontRoom s i (pos 0) h
 
-  pub with-head : headOk (withTable n s u) ≡ headOk s
-  with-head = head-same s (withTable n s u) with-length (λ i h. with-number i (omega arith))
+  pub with-head : headOk (withKnown n s u) ≡ headOk s
+  with-head = head-same s (withKnown n s u) with-length (λ i h. with-number i (omega arith))
 
-  pub with-count : countIn (withTable n s u) ≡ countIn s
+  pub with-count : countIn (withKnown n s u) ≡ countIn s
   with-count = ap natAbs (with-number 1 (omega arith))
 
--- its own table again
-pub with-own : (n : ℕ) (s : List ℤ) → withTable n s (tableIn n s) ≡ s
+-- what was known again
+pub with-own : (n : ℕ) (s : List ℤ) → withKnown n s (knownIn n s) ≡ s
 with-own n s =
     ap (λ (x : List ℤ). take frontRoom s ++ x) (take-append-drop (sessionRoom n - frontRoom) (drop frontRoom s))
     ∙ take-append-drop frontRoom s
 
+pub length-knownIn : (n : ℕ) (s : List ℤ) → sessionRoom n ≤ length s → length (knownIn n s) ≡ knownRoom n
+length-knownIn n s room =
+    length-take-le (sessionRoom n - frontRoom) (drop frontRoom s) (omega (arith, length-drop frontRoom s, room, room-is n)) ∙ room-known n
+
+-- the table among it
+pub length-table : (n : ℕ) (q : List ℤ) → length q ≡ knownRoom n → length (tableOfKnown n q) ≡ tableRoom n
+unfolding knownRoom
+length-table n q size = length-take-le (tableRoom n) q (omega (arith, size))
+
+-- and the rest
+pub length-kept : (n : ℕ) (q : List ℤ) → length q ≡ knownRoom n → length (keptOfKnown n q) ≡ keptRoom n
+unfolding knownRoom
+length-kept n q size = length-drop (tableRoom n) q ∙ omega (arith, size)
+
+-- it is the state's table
+pub table-in-known : (n : ℕ) (s : List ℤ) → tableIn n s ≡ tableOfKnown n (knownIn n s)
+unfolding knownRoom
+table-in-known n s =
+    ap (λ (k : ℕ). take k (drop frontRoom s)) (end-table n)
+    ∙ sym (take-take (tableRoom n) (sessionRoom n - frontRoom) (drop frontRoom s) (omega (arith, room-known n)))
+
 pub length-tableIn : (n : ℕ) (s : List ℤ) → sessionRoom n ≤ length s → length (tableIn n s) ≡ tableRoom n
-length-tableIn n s room =
-    length-take-le (sessionRoom n - frontRoom) (drop frontRoom s) (omega (arith, length-drop frontRoom s, room, room-is n)) ∙ room-table n
+length-tableIn n s room = ap length (table-in-known n s) ∙ length-table n (knownIn n s) (length-knownIn n s room)

@@ -7,19 +7,23 @@ use native.Mathlib.Omega.{arith}
 use borrow.Author.Tests.{le-leb}
 use lib.Dec.{leb}
 use lib.IntN.{ℤ, pos}
-use lib.ListN.{length, take, drop, set, length-append, length-replicate, replicate-append-replicate}
+use lib.ListN.{length, take, drop, set, length-append, length-map, length-replicate, replicate-append-replicate}
 use lib.Seq.{take-at, drop-at}
 use Rattle.integers.specs.Integer.{eqZ, isBetween}
 use Rattle.integers.specs.Laws.{both-true}
+use Rattle.integers.specs.Sequence.{tabulate, length-tabulate}
 use Rattle.lines.specs.declared.Line.{Line}
 use Rattle.lines.specs.Limits.{lineSize, maxVariables, maxLines}
 use Rattle.lines.specs.Line.{lineNumbers, numbersOf}
 use Rattle.lines.specs.LineNumbers.{length-numbers, length-numbersOf}
 use Rattle.steps.specs.Step.{stepsOf}
+use Rattle.theory_bounds.specs.Verdict.{distances}
+use Rattle.theory_bounds.specs.Table.{tableModel}
+use Rattle.theory_bounds.specs.Answers.{modelOf, groupAt, groupsOf}
 use Rattle.decide_rows.specs.Table.{table-length}
 use Rattle.longer_list.specs.Written.{putAt}
-use Rattle.session_state.specs.State.{headSize, frontRoom, tableRoom, sessionRoom, flagOf, zeros, behind, frontOf, kept, tableFor, stateOf, tableIn, variablesIn, countIn, refusedIn, numbersIn, headOk, fitAll, isState, lineStart, headed, started, pushed, popped, withTable}
-use Rattle.session_state.specs.Laws.{front-split, room-is, room-table}
+use Rattle.session_state.specs.State.{headSize, frontRoom, tableRoom, keptRoom, knownRoom, sessionRoom, flagOf, zeros, behind, frontOf, kept, tableFor, wide, keptFor, knownFor, stateOf, tableOfKnown, keptOfKnown, knownIn, variablesIn, countIn, refusedIn, numbersIn, headOk, fitAll, isState, lineStart, headed, started, pushed, popped, withKnown}
+use Rattle.session_state.specs.Laws.{front-split, room-is, room-known}
 
 -- ---- the numbers of lines and of one more
 pub numbers-more : (ls : List Line) (l : Line) → numbersOf (ls ++ l ∷ []) ≡ numbersOf ls ++ lineNumbers l
@@ -80,7 +84,7 @@ module _ (n : ℕ) (ls : List Line) (r : Bool) where
         ∙ ap (λ (x : List ℤ). take (lineSize * length ls) (drop headSize x)) (split rest)
         ∙ take-at (numbersOf ls) (zeros (behind (length ls)) ++ rest) (lineSize * length ls) (length-numbersOf ls)
 
-    head-is : n ≤ maxVariables → length ls ≤ maxLines → tableRoom n ≤ length rest → headOk (frontOf n ls r ++ rest) ≡ true
+    head-is : n ≤ maxVariables → length ls ≤ maxLines → knownRoom n ≤ length rest → headOk (frontOf n ls r ++ rest) ≡ true
     unfolding headOk frontOf
     head-is few h room =
         let size = length-append (frontOf n ls r) rest in
@@ -93,7 +97,7 @@ module _ (n : ℕ) (ls : List Line) (r : Bool) where
         flag true = refl
         flag false = refl
 
-    pub state-is : n ≤ maxVariables → length ls ≤ maxLines → tableRoom n ≤ length rest → fitAll (numbersOf ls) ≡ true → isState (frontOf n ls r ++ rest) ≡ true
+    pub state-is : n ≤ maxVariables → length ls ≤ maxLines → knownRoom n ≤ length rest → fitAll (numbersOf ls) ≡ true → isState (frontOf n ls r ++ rest) ≡ true
     unfolding isState
     state-is few h room fit = both-true _ _ (head-is few h room) (ap fitAll numbers-is ∙ fit)
 
@@ -149,19 +153,19 @@ popped-is n ls l r rest h =
     ∙ ap (λ (x : List ℤ). pos n ∷ pos c ∷ pos 0 ∷ (numbersOf ls ++ x)) (sym zs)
     ∙ sym (split n ls false rest)
 
--- ---- the table behind the front
--- a front of that length, a table and what lies beyond
-module _ (n : ℕ) (front t rest : List ℤ) (long : length front ≡ frontRoom) (size : length t ≡ tableRoom n) where
-  pub table-is : tableIn n (front ++ (t ++ rest)) ≡ t
-  table-is =
+-- ---- what is known of the lines, behind the front
+-- a front of that length, what is known and what lies beyond
+module _ (n : ℕ) (front t rest : List ℤ) (long : length front ≡ frontRoom) (size : length t ≡ knownRoom n) where
+  pub known-is : knownIn n (front ++ (t ++ rest)) ≡ t
+  known-is =
       ap (take (sessionRoom n - frontRoom)) (drop-at front (t ++ rest) frontRoom long)
-      ∙ take-at t rest (sessionRoom n - frontRoom) (size ∙ sym (room-table n))
+      ∙ take-at t rest (sessionRoom n - frontRoom) (size ∙ sym (room-known n))
 
-  pub with-is : (u : List ℤ) → withTable n (front ++ (t ++ rest)) u ≡ front ++ (u ++ rest)
+  pub with-is : (u : List ℤ) → withKnown n (front ++ (t ++ rest)) u ≡ front ++ (u ++ rest)
   with-is u =
-      let behind-table : drop (sessionRoom n - frontRoom) (drop frontRoom (front ++ (t ++ rest))) ≡ rest =
-      ap (drop (sessionRoom n - frontRoom)) (drop-at front (t ++ rest) frontRoom long) ∙ drop-at t rest (sessionRoom n - frontRoom) (size ∙ sym (room-table n)) in
-      ap₂ (λ (x y : List ℤ). x ++ (u ++ y)) (take-at front (t ++ rest) frontRoom long) behind-table
+      let behind-known : drop (sessionRoom n - frontRoom) (drop frontRoom (front ++ (t ++ rest))) ≡ rest =
+      ap (drop (sessionRoom n - frontRoom)) (drop-at front (t ++ rest) frontRoom long) ∙ drop-at t rest (sessionRoom n - frontRoom) (size ∙ sym (room-known n)) in
+      ap₂ (λ (x y : List ℤ). x ++ (u ++ y)) (take-at front (t ++ rest) frontRoom long) behind-known
 
   pub beyond-is : drop (sessionRoom n) (front ++ (t ++ rest)) ≡ rest
   beyond-is =
@@ -171,16 +175,40 @@ module _ (n : ℕ) (front t rest : List ℤ) (long : length front ≡ frontRoom)
 pub table-size : (n : ℕ) (ls : List Line) → length (tableFor n ls) ≡ tableRoom n
 table-size n ls = table-length (stepsOf ls) (2 * n) (2 * n)
 
+pub kept-size : (n : ℕ) (ls : List Line) → length (keptFor n ls) ≡ keptRoom n
+unfolding modelOf groupsOf
+kept-size n ls =
+    length-append (tabulate n (tableModel n (distances n ls))) (wide (tabulate (2 * n) (groupAt (distances n ls))))
+    ∙ omega (
+      arith,
+      length-tabulate n (tableModel n (distances n ls)),
+      length-map (tabulate (2 * n) (groupAt (distances n ls))) pos,
+      length-tabulate (2 * n) (groupAt (distances n ls)),
+    )
+
+pub known-size : (n : ℕ) (ls : List Line) → length (knownFor n ls) ≡ knownRoom n
+unfolding knownFor knownRoom
+known-size n ls = length-append (tableFor n ls) (keptFor n ls) ∙ omega (arith, table-size n ls, kept-size n ls)
+
+-- of what is known the table, and the model and the groups
+pub table-known : (n : ℕ) (ls : List Line) → tableOfKnown n (knownFor n ls) ≡ tableFor n ls
+unfolding knownFor
+table-known n ls = take-at (tableFor n ls) (keptFor n ls) (tableRoom n) (table-size n ls)
+
+pub kept-known : (n : ℕ) (ls : List Line) → keptOfKnown n (knownFor n ls) ≡ keptFor n ls
+unfolding knownFor
+kept-known n ls = drop-at (tableFor n ls) (keptFor n ls) (tableRoom n) (table-size n ls)
+
 -- a state, from its front
-pub state-front : (n : ℕ) (ls : List Line) (r : Bool) (rest : List ℤ) → stateOf n ls r ++ rest ≡ frontOf n ls r ++ (tableFor n (kept ls r) ++ rest)
+pub state-front : (n : ℕ) (ls : List Line) (r : Bool) (rest : List ℤ) → stateOf n ls r ++ rest ≡ frontOf n ls r ++ (knownFor n (kept ls r) ++ rest)
 unfolding stateOf
-state-front n ls r rest = append-assoc (frontOf n ls r) (tableFor n (kept ls r)) rest
+state-front n ls r rest = append-assoc (frontOf n ls r) (knownFor n (kept ls r)) rest
 
 pub length-state : (n : ℕ) (ls : List Line) (r : Bool) → length ls ≤ maxLines → length (stateOf n ls r) ≡ sessionRoom n
 unfolding stateOf
 length-state n ls r h =
-    length-append (frontOf n ls r) (tableFor n (kept ls r)) ∙ omega (arith, length-front n ls r h, table-size n (kept ls r), room-is n)
+    length-append (frontOf n ls r) (knownFor n (kept ls r)) ∙ omega (arith, length-front n ls r h, known-size n (kept ls r), room-is n)
 
--- after a no the table is that of the lines before
+-- after a no it is what is known of the lines before
 pub kept-no : (ls : List Line) (l : Line) → kept (ls ++ l ∷ []) true ≡ ls
 kept-no ls l = take-at ls (l ∷ []) (length (ls ++ l ∷ []) - 1) (omega (arith, length-more ls l))

@@ -1,6 +1,6 @@
 -- What the state of a session is: the one place that says so. And what is read from any numbers as from a state.
 use mathlib.Core.Bool.{Bool, true, false, not, cond, _&&_}
-use mathlib.Core.List.{List, [], _∷_, _++_}
+use mathlib.Core.List.{List, [], _∷_, _++_, map}
 use Prim.Native.Nat.{ℕ, _+_, _*_, _-_, _^_}
 use lib.Dec.{leb}
 use lib.IntN.{ℤ, pos, negsuc, natAbs}
@@ -10,7 +10,9 @@ use Rattle.lines.specs.declared.Line.{Line}
 use Rattle.lines.specs.Limits.{lineSize, maxVariables, maxLines}
 use Rattle.lines.specs.Line.{number, lineNumbers, numbersOf}
 use Rattle.steps.specs.Step.{stepsOf}
+use Rattle.theory_bounds.specs.Answers.{modelOf, groupsOf}
 use Rattle.decide_rows.specs.Table.{storedTable}
+use Rattle.decide_buffers.specs.Room.{modelRoom, groupsRoom}
 use Rattle.longer_list.specs.Written.{putAt}
 use Rattle.session_state.specs.declared.Head.{Head}
 
@@ -27,9 +29,21 @@ frontRoom = headSize + lineSize * maxLines
 abbrev pub tableRoom : ℕ → ℕ
 tableRoom n = 2 * n * (2 * n)
 
+-- how many the model and the groups have
+abbrev pub keptRoom : ℕ → ℕ
+keptRoom n = modelRoom n + groupsRoom n
+
+-- how many all of them have: what is known of the lines
+unfoldable pub knownRoom : ℕ → ℕ
+knownRoom n = tableRoom n + keptRoom n
+
+-- where the table ends
+unfoldable pub tableEnd : ℕ → ℕ
+tableEnd n = frontRoom + tableRoom n
+
 -- how many numbers a state of n variables has
 unfoldable pub sessionRoom : ℕ → ℕ
-sessionRoom n = frontRoom + tableRoom n
+sessionRoom n = frontRoom + knownRoom n
 
 -- the number that says whether the last answer was a no
 abbrev pub flagOf : Bool → ℤ
@@ -46,7 +60,7 @@ behind k = lineSize * (maxLines - k)
 unfoldable pub frontOf : ℕ → List Line → Bool → List ℤ
 frontOf n ls refused = pos n ∷ pos (length ls) ∷ flagOf refused ∷ (numbersOf ls ++ zeros (behind (length ls)))
 
--- the lines whose table is kept: all of them, or after a no those before the last
+-- the lines that are known: all of them, or after a no those before the last
 abbrev pub kept : List Line → Bool → List Line
 kept ls refused = cond refused (take (length ls - 1) ls) ls
 
@@ -54,9 +68,21 @@ kept ls refused = cond refused (take (length ls - 1) ls) ls
 abbrev pub tableFor : ℕ → List Line → List ℤ
 tableFor n ls = storedTable (stepsOf ls) (2 * n) (2 * n)
 
--- the front, and the table behind it
+-- numbers of groups as those of a state
+abbrev pub wide : List ℕ → List ℤ
+wide = map pos
+
+-- their model and groups
+abbrev pub keptFor : ℕ → List Line → List ℤ
+keptFor n ls = modelOf n ls ++ wide (groupsOf n ls)
+
+-- all of these
+unfoldable pub knownFor : ℕ → List Line → List ℤ
+knownFor n ls = tableFor n ls ++ keptFor n ls
+
+-- the front, and what is known of the lines behind it
 unfoldable pub stateOf : ℕ → List Line → Bool → List ℤ
-stateOf n ls refused = frontOf n ls refused ++ tableFor n (kept ls refused)
+stateOf n ls refused = frontOf n ls refused ++ knownFor n (kept ls refused)
 
 -- ---- any numbers, read as a state
 abbrev pub variablesIn : List ℤ → ℕ
@@ -81,7 +107,18 @@ numbersWith s l = numbersIn s ++ lineNumbers l
 
 -- its table
 abbrev pub tableIn : ℕ → List ℤ → List ℤ
-tableIn n s = take (sessionRoom n - frontRoom) (drop frontRoom s)
+tableIn n s = take (tableEnd n - frontRoom) (drop frontRoom s)
+
+-- all that is known of its lines
+abbrev pub knownIn : ℕ → List ℤ → List ℤ
+knownIn n s = take (sessionRoom n - frontRoom) (drop frontRoom s)
+
+-- of this the table, and the model and the groups
+abbrev pub tableOfKnown : ℕ → List ℤ → List ℤ
+tableOfKnown n q = take (tableRoom n) q
+
+abbrev pub keptOfKnown : ℕ → List ℤ → List ℤ
+keptOfKnown n q = drop (tableRoom n) q
 
 -- ---- whether they begin with a state, as far as the calls have to know it
 unfoldable pub headOk : List ℤ → Bool
@@ -124,6 +161,6 @@ pushed s l refused = headed (countIn s + 1) refused (putAt (lineStart (countIn s
 unfoldable pub popped : List ℤ → List ℤ
 popped s = headed (countIn s - 1) false (putAt (lineStart (countIn s - 1)) (zeros lineSize) s)
 
--- another table
-abbrev pub withTable : ℕ → List ℤ → List ℤ → List ℤ
-withTable n s t = take frontRoom s ++ (t ++ drop (sessionRoom n - frontRoom) (drop frontRoom s))
+-- something else is known
+abbrev pub withKnown : ℕ → List ℤ → List ℤ → List ℤ
+withKnown n s q = take frontRoom s ++ (q ++ drop (sessionRoom n - frontRoom) (drop frontRoom s))

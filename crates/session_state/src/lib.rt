@@ -18,13 +18,13 @@ ghost use Rattle.integers.specs.Integer.{_⩽_};
 ghost use Rattle.lines.specs.Limits.{lineSize, maxVariables, maxLines};
 ghost use Rattle.lines.specs.Line.{lineNumbers};
 ghost use Rattle.longer_list.specs.Written.{mostNumbers};
-ghost use Rattle.session_state.specs.State.{headSize, sessionRoom, flagOf, headOf, headOk, fitAll, isState, numbersIn, numbersWith, countIn, headed, started, pushed, popped};
+ghost use Rattle.session_state.specs.State.{headSize, tableRoom, keptRoom, tableEnd, sessionRoom, flagOf, headOf, headOk, fitAll, isState, numbersIn, numbersWith, countIn, headed, started, pushed, popped};
 
 // The numbers before those of the lines: n, how many lines there are, and whether the last answer was a no.
 const HEAD_SIZE: usize = 3;
 // The place of the state among the buffers that may be too short.
 pub const STATE_PLACE: usize = 6;
-// The numbers before the table: these, and room for the most lines.
+// The numbers before what is known of the lines: these, and room for the most lines.
 pub const FRONT_ROOM: usize = HEAD_SIZE + LINE_SIZE * MAX_LINES;
 // The least and the greatest number of 32 bits.
 const LEAST: i64 = i32::MIN as i64;
@@ -38,12 +38,36 @@ pub struct Head {
     pub refused: bool,
 }
 
-// The room for a state of n variables: behind the lines stands the table, a number for each two points.
+// How many numbers the table of n variables has, one for each two points.
+pub fn table_room(n: usize) -> usize
+    requires { ⌜ n ≤ maxVariables ⌝ }
+    ensures { λ r. ⌜ r ≡ tableRoom n ⌝ }
+{
+    2 * n * (2 * n)
+}
+
+// How many the model and the groups have, which are kept behind it.
+pub fn kept_room(n: usize) -> usize
+    requires { ⌜ n ≤ maxVariables ⌝ }
+    ensures { λ r. ⌜ r ≡ keptRoom n ⌝ }
+{
+    n + 2 * n
+}
+
+// Where the table ends.
+pub fn table_end(n: usize) -> usize
+    requires { ⌜ n ≤ maxVariables ⌝ }
+    ensures { λ r. ⌜ r ≡ tableEnd n ⌝ }
+{
+    FRONT_ROOM + table_room(n)
+}
+
+// The room for a state of n variables.
 pub fn session_room(n: usize) -> usize
     requires { ⌜ n ≤ maxVariables ⌝ }
     ensures { λ r. ⌜ r ≡ sessionRoom n ⌝ }
 {
-    FRONT_ROOM + 2 * n * (2 * n)
+    table_end(n) + kept_room(n)
 }
 
 // A number that is not below 0.
@@ -181,7 +205,7 @@ fn set_head(state: &mut [i64], count: usize, refused: bool)
     state[2] = flag_of(refused);
 }
 
-// Writes n, and that there are no lines. The table is left as it was.
+// Writes n, and that there are no lines. What is known is left as it was.
 pub fn begin_state(state: &mut [i64], n: usize)
     requires { ⌜ (n ≤ maxVariables) × (sessionRoom n ≤ length (now state)) ⌝ }
     ensures { λ _. ⌜ now (state .exit) ≡ started n (now (state .entry)) ⌝ }

@@ -26,7 +26,7 @@ ghost use Rattle.session_step.specs.Rows.{RowsReady};
 const MAX_DISTANCE: i64 = 2 * MAX_VARIABLES as i64 * (2 * WORK_CONSTANT);
 
 // How many points the most variables have.
-const MOST_POINTS: usize = 2 * MAX_VARIABLES;
+pub const MOST_POINTS: usize = 2 * MAX_VARIABLES;
 
 // A number of the table as it is read.
 pub fn read(entry: i64) -> i64

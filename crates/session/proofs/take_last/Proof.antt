@@ -1,4 +1,4 @@
--- `session::take_last` meets its contract: making the table anew leaves the head as it was.
+-- `session::take_last` meets its contract: making anew what is known leaves the head as it was.
 use mathlib.Core.Path.{_≡_, sym, ap, _∙_}
 use mathlib.Core.Bool.{true}
 use mathlib.Core.List.{List}
@@ -9,7 +9,7 @@ use lib.IntN.{ℤ}
 use Rattle.session_state.specs.declared.Head.{Head}
 use Rattle.session_state.specs.State.{variablesIn, countIn, refusedIn, headOk}
 use Rattle.session_state.specs.Laws.{HeadOk, state-head, state-head-ok, with-head, with-count}
-use Rattle.session_remake.specs.Remade.{remadeTable, remade-size}
+use Rattle.session_remake.specs.Remade.{remadeKnown, remade-size}
 use Rattle.session.specs.Taken.{taken-no, taken-anew}
 use Rattle.session.proofs.take_last.Statement.{statement}
 use Rattle.session.proofs.take_last.Tie as tie
@@ -44,25 +44,25 @@ returns c =
     let r = t .before in
     taken-no (state r) _ (sym (refused-is r) ∙ t .if1 .taken) (p .pop-line .ensures)
 
-remake-table-requires : tie.Need-remake-table-requires
-remake-table-requires c κs = search needs
+remake-known-requires : tie.Need-remake-known-requires
+remake-known-requires c κs = search needs
 
--- the table was made anew
-module _ (m : tie.After-remake-table) where
+-- it was made anew
+module _ (m : tie.After-remake-known) where
   abbrev read : tie.After-read-head
   read = m .before .before .before
 
   abbrev made : List ℤ
-  made = m .remake-table .last .0
+  made = m .remake-known .last .0
 
   head : headOk made ≡ true
   head =
-      ap headOk (m .remake-table .ensures)
-      ∙ with-head (variablesIn (state read)) (state read) (remadeTable (state read)) (ok read .room) (remade-size (state read) (ok read .room))
+      ap headOk (m .remake-known .ensures)
+      ∙ with-head (variablesIn (state read)) (state read) (remadeKnown (state read)) (ok read .room) (remade-size (state read) (ok read .variables) (ok read .room))
       ∙ state-head-ok (state read) (start read .pre .0)
 
   count : countIn made ≡ countIn (state read)
-  count = ap countIn (m .remake-table .ensures) ∙ with-count (variablesIn (state read)) (state read) (remadeTable (state read)) (ok read .room) (remade-size (state read) (ok read .room))
+  count = ap countIn (m .remake-known .ensures) ∙ with-count (variablesIn (state read)) (state read) (remadeKnown (state read)) (ok read .room) (remade-size (state read) (ok read .variables) (ok read .room))
 
 pop-line-requires-2 : tie.Need-pop-line-requires-2
 pop-line-requires-2 c κs = let m = c .before .before in (head m, omega (arith, count m, start (read m) .pre .1))
@@ -75,7 +75,7 @@ returns-2 c =
     let p = c .before in
     let m = p .before .before .before in
     let r = read m in
-    taken-anew (state r) (made m) _ (sym (refused-is r) ∙ m .before .before .if1 .left) (m .remake-table .ensures) (p .pop-line2 .ensures)
+    taken-anew (state r) (made m) _ (sym (refused-is r) ∙ m .before .before .if1 .left) (m .remake-known .ensures) (p .pop-line2 .ensures)
 
 pub take-last-spec : {M : Type 1} → statement M
 take-last-spec =
@@ -85,7 +85,7 @@ take-last-spec =
     pop-line-requires
     same-length
     returns
-    remake-table-requires
+    remake-known-requires
     pop-line-requires-2
     same-length-2
     returns-2)

@@ -1,16 +1,14 @@
 -- `session::write_start` meets its contract.
-use mathlib.Core.Path.{_≡_, subst}
-use mathlib.Core.List.{List, _++_}
-use Prim.Native.Nat.{ℕ, _+_, _*_}
+use mathlib.Core.Path.{_≡_, ap, _∙_}
+use mathlib.Core.List.{List, []}
+use Prim.Native.Nat.{ℕ}
 use native.Mathlib.Omega.{arith}
 use borrow.Author.Needs.{needs}
 use denote.Ref.{now}
 use lib.IntN.{ℤ}
-use lib.ListN.{length, take, drop}
-use Rattle.theory_walks.specs.AllPairs.{startTable}
-use Rattle.decide_rows.specs.Stored.{storedRow}
-use Rattle.session_state.specs.State.{frontRoom}
-use Rattle.session_state.specs.Laws.{room-is}
+use lib.ListN.{length}
+use Rattle.session_state.specs.State.{knownIn, withKnown}
+use Rattle.session_known.specs.Known.{knownAnew}
 use Rattle.session.specs.Taken.{start-is}
 use Rattle.session.proofs.write_start.Statement.{statement}
 use Rattle.session.proofs.write_start.Tie as tie
@@ -29,11 +27,11 @@ module _ (b : tie.After-begin-state) where
   abbrev front : List ℤ
   front = b .begin-state .last .0
 
-start-table-requires : tie.Need-start-table-requires
-start-table-requires c κs =
-    let b = c .before .before in
+put-known-requires : tie.Need-put-known-requires
+put-known-requires c κs =
+    let b = c .before .before .before in
     let same : length (front b) ≡ length (now (start b .args .state)) = search needs in
-    omega (arith, same, start b .pre .1, room-is (n b))
+    (start b .pre .0, (λ k h. absurd (omega (arith, h))), omega (arith, same, start b .pre .1))
 
 same-length : tie.Need-same-length
 same-length c = search needs
@@ -41,10 +39,9 @@ same-length c = search needs
 returns : tie.Need-returns
 returns c =
     let made = c .before in
-    let b = made .before .before .before in
-    let t = made .start-table .last .0 in
-    start-is (n b) (start b .pre .0) (now (start b .args .state)) t
-    (subst (λ (x : List ℤ). t ≡ take frontRoom x ++ storedRow (startTable (2 * n b) (2 * n b)) ++ drop (frontRoom + 2 * n b * (2 * n b)) x) (b .begin-state .ensures) (made .start-table .ensures))
+    let b = made .before .before .before .before in
+    start-is (n b) (start b .pre .0) (now (start b .args .state)) _
+    (made .put-known .ensures ∙ ap (λ (x : List ℤ). withKnown (n b) x (knownAnew (n b) [] (knownIn (n b) x))) (b .begin-state .ensures))
 
 pub write-start-spec : {M : Type 1} → statement M
-write-start-spec = tie.close (tie.spec begin-state-requires (search needs) start-table-requires same-length returns)
+write-start-spec = tie.close (tie.spec begin-state-requires (search needs) put-known-requires same-length returns)
