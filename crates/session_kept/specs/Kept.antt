@@ -23,7 +23,7 @@ use Rattle.decide_buffers.specs.Room.{modelRoom, boundsRoom, groupsRoom}
 use Rattle.decide_stored_table.specs.Table.{byRows}
 use Rattle.decide_model.specs.Values.{smallValue, valuesOf}
 use Rattle.session_step.specs.Read.{smallTable, SizedTable}
-use Rattle.session_state.specs.State.{keptRoom, wide}
+use Rattle.session_state.specs.State.{keptRoom, widened}
 use Rattle.session_distances.specs.Distances.{allDistances}
 
 -- ---- what is kept
@@ -33,7 +33,7 @@ modelAfter n stays t m = cond (stays || not (allDistances t)) m (valuesOf (byRow
 
 -- and the groups
 abbrev pub groupsAfter : ℕ → Bool → List ℤ → List ℤ → List ℤ
-groupsAfter n stays t g = cond (stays || not (allDistances t)) g (wide (tabulate (2 * n) (groupAt (byRows (2 * n) t))))
+groupsAfter n stays t g = cond (stays || not (allDistances t)) g (widened (tabulate (2 * n) (groupAt (byRows (2 * n) t))))
 
 -- both
 abbrev pub keptAfter : ℕ → Bool → Bool → List ℤ → List ℤ → List ℤ

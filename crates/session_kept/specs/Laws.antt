@@ -37,40 +37,40 @@ use Rattle.decide_model.specs.Values.{valuesOf, values-length, value-small}
 use Rattle.session_step.specs.Read.{smallTable}
 use Rattle.session_questions.specs.Asked.{halves-short}
 use Rattle.session_distances.specs.Distances.{distanceAt, allDistances, beyond-some}
-use Rattle.session_state.specs.State.{keptRoom, wide}
+use Rattle.session_state.specs.State.{keptRoom, widened}
 use Rattle.theory_kept.specs.Slack.{equalSlack, isWide, wideStep}
 use Rattle.session_kept.specs.Kept.{keptAfter, valueAt, smallGroup}
 
 -- ---- numbers of the groups as they are kept
-wide-tabulate : (n : ℕ) (f : ℕ → ℕ) → wide (tabulate n f) ≡ tabulate n (λ i. pos (f i))
-wide-tabulate zero f = refl
-wide-tabulate (suc n) f = ap (λ (l : List ℤ). pos (f zero) ∷ l) (wide-tabulate n (λ i. f (suc i)))
+widened-tabulate : (n : ℕ) (f : ℕ → ℕ) → widened (tabulate n f) ≡ tabulate n (λ i. pos (f i))
+widened-tabulate zero f = refl
+widened-tabulate (suc n) f = ap (λ (l : List ℤ). pos (f zero) ∷ l) (widened-tabulate n (λ i. f (suc i)))
 
 -- the first n, copied one after the other
-pub wide-front : (n : ℕ) (g : List ℕ) → n ≤ length g → tabulate n (λ i. pos (getD g i 0)) ≡ wide (take n g)
-wide-front n g h = sym (wide-tabulate n (λ i. getD g i 0)) ∙ ap wide (tabulate-getD n g 0 h)
+pub widened-front : (n : ℕ) (g : List ℕ) → n ≤ length g → tabulate n (λ i. pos (getD g i 0)) ≡ widened (take n g)
+widened-front n g h = sym (widened-tabulate n (λ i. getD g i 0)) ∙ ap widened (tabulate-getD n g 0 h)
 
 -- ---- the model that stays, and the model that was read off the table to a list w
 module _ (n : ℕ) (stays : Bool) (q v : List ℤ) where
-  pub model-stays : stays ≡ true → q ≡ cond stays (take n q) v ++ drop n q
-  model-stays e = rw e (sym (take-append-drop n q))
+  pub kept-model : stays ≡ true → q ≡ cond stays (take n q) v ++ drop n q
+  kept-model e = rw e (sym (take-append-drop n q))
 
   pub model-anew : stays ≡ false → length v ≡ n → (d w q′ : List ℤ) → w ≡ v ++ d → q′ ≡ take n w ++ drop n q → q′ ≡ cond stays (take n q) v ++ drop n q
   model-anew e l d w q′ is put = put ∙ ap (λ (x : List ℤ). x ++ drop n q) (ap (take n) is ∙ take-at v d n l ∙ sym (ap (λ (b : Bool). cond b (take n q) v) e))
 
 -- ---- the groups that stay, and the groups f that were read off the table to a list g
 module _ (count : ℕ) (stays : Bool) (q : List ℤ) (f : List ℕ) where
-  pub groups-stay : stays ≡ true → q ≡ cond stays q (wide f)
-  groups-stay e = rw e refl
+  pub kept-groups : stays ≡ true → q ≡ cond stays q (widened f)
+  kept-groups e = rw e refl
 
-  pub groups-anew : stays ≡ false → length q ≡ count → length f ≡ count → (d g : List ℕ) (q′ : List ℤ) → g ≡ f ++ d → q′ ≡ wide (take count g) ++ drop count q
-      → q′ ≡ cond stays q (wide f)
+  pub groups-anew : stays ≡ false → length q ≡ count → length f ≡ count → (d g : List ℕ) (q′ : List ℤ) → g ≡ f ++ d → q′ ≡ widened (take count g) ++ drop count q
+      → q′ ≡ cond stays q (widened f)
   groups-anew e size l d g q′ is put =
       let end : length q ≤ count = omega arith in
       put
-      ∙ ap₂ (λ (x : List ℕ) (y : List ℤ). wide x ++ y) (ap (take count) is ∙ take-at f d count l) (drop-of-length-le q end)
-      ∙ append-nil (wide f)
-      ∙ sym (ap (λ (b : Bool). cond b q (wide f)) e)
+      ∙ ap₂ (λ (x : List ℕ) (y : List ℤ). widened x ++ y) (ap (take count) is ∙ take-at f d count l) (drop-of-length-le q end)
+      ∙ append-nil (widened f)
+      ∙ sym (ap (λ (b : Bool). cond b q (widened f)) e)
 
 -- ---- both: the three ways
 -- a choice by a test or a known answer
@@ -88,7 +88,7 @@ module _ (n : ℕ) (ms gs : Bool) (t q : List ℤ) where
   values = valuesOf (byRows (2 * n) t) n
 
   abbrev groups : List ℤ
-  groups = wide (tabulate (2 * n) (groupAt (byRows (2 * n) t)))
+  groups = widened (tabulate (2 * n) (groupAt (byRows (2 * n) t)))
 
   -- both stay
   pub kept-both : ms ≡ true → gs ≡ true → q ≡ keptAfter n ms gs t q

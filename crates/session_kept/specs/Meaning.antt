@@ -31,7 +31,7 @@ use Rattle.decide_yes.specs.Table as yes-table
 use Rattle.session_step.specs.Read.{smallTable, small-agree}
 use Rattle.session_step.specs.Meaning.{TableFor, short-table}
 use Rattle.session_distances.specs.Distances.{allDistances, short-distances}
-use Rattle.session_state.specs.State.{keptRoom, wide, keptFor}
+use Rattle.session_state.specs.State.{keptRoom, widened, keptFor}
 use Rattle.session_kept.specs.Kept.{modelAfter, groupsAfter, keptAfter, valueAt, keepsModel, smallGroup, groupNumber, Given}
 use Rattle.session_kept.specs.Laws.{group-pos}
 
@@ -54,7 +54,7 @@ after-length n ms gs t q size =
     front true = length-take-le n q (omega arith)
     front false = values-length (byRows (2 * n) t) n
 
-    behind : (b : Bool) → length (cond b (drop n q) (wide (tabulate (2 * n) (groupAt (byRows (2 * n) t))))) ≡ 2 * n
+    behind : (b : Bool) → length (cond b (drop n q) (widened (tabulate (2 * n) (groupAt (byRows (2 * n) t))))) ≡ 2 * n
     behind true = length-drop n q ∙ omega arith
     behind false = length-map (tabulate (2 * n) (groupAt (byRows (2 * n) t))) pos ∙ length-tabulate (2 * n) (groupAt (byRows (2 * n) t))
 
@@ -115,7 +115,7 @@ module _ (n : ℕ) (L : List ℤ) (valid : Workable n L) (modelled : Modellable 
     group-at : (i : ℕ) → number q (n + i) ≡ pos (getD G i 0)
     group-at i =
         ap₂ (λ (x : List ℤ) (k : ℕ). number x (k + i)) is (sym (model-length n (linesOf L)))
-        ∙ getD-append-add M (wide G) i (pos 0)
+        ∙ getD-append-add M (widened G) i (pos 0)
         ∙ List·getD-map pos G i 0
 
     group-few : (i : ℕ) → i < 2 * n → getD G i 0 ≤ maxVariables
@@ -141,12 +141,12 @@ module _ (n : ℕ) (L : List ℤ) (valid : Workable n L) (modelled : Modellable 
         ∙ ap (λ (x : List ℤ). valuesOf (byRows (2 * n) x) n) (table .is)
         ∙ model-read
 
-    groups-after : (stays : Bool) (g : List ℤ) → (stays ≡ true → wide G ≡ g) → groupsAfter n stays t g ≡ wide G
+    groups-after : (stays : Bool) (g : List ℤ) → (stays ≡ true → widened G ≡ g) → groupsAfter n stays t g ≡ widened G
     groups-after true g same = sym (same refl)
     groups-after false g same =
-        ap (λ (b : Bool). cond (not b) g (wide (tabulate (2 * n) (groupAt (byRows (2 * n) t))))) all
-        ∙ ap (λ (x : List ℤ). wide (tabulate (2 * n) (groupAt (byRows (2 * n) x)))) (table .is)
-        ∙ ap wide (groups-read)
+        ap (λ (b : Bool). cond (not b) g (widened (tabulate (2 * n) (groupAt (byRows (2 * n) t))))) all
+        ∙ ap (λ (x : List ℤ). widened (tabulate (2 * n) (groupAt (byRows (2 * n) x)))) (table .is)
+        ∙ ap widened (groups-read)
 
     -- both are read off the table, whatever was kept
     pub kept-anew : (q : List ℤ) → keptAfter n false false t q ≡ keptFor n (linesOf L)
@@ -154,10 +154,10 @@ module _ (n : ℕ) (L : List ℤ) (valid : Workable n L) (modelled : Modellable 
 
     -- some may stay
     pub kept-more : (ms gs : Bool) (m : List ℤ) (g : List ℕ) → (ms ≡ true → modelOf n (linesOf L) ≡ m) → (gs ≡ true → groupsOf n (linesOf L) ≡ g) → length m ≡ n
-        → keptAfter n ms gs t (m ++ wide g) ≡ keptFor n (linesOf L)
+        → keptAfter n ms gs t (m ++ widened g) ≡ keptFor n (linesOf L)
     kept-more ms gs m g em eg size =
-        ap₂ (λ (x y : List ℤ). modelAfter n ms t x ++ groupsAfter n gs t y) (take-at m (wide g) n size) (drop-at m (wide g) n size)
-        ∙ ap₂ (λ (x y : List ℤ). x ++ y) (model-after ms m em) (groups-after gs (wide g) (λ e. ap wide (eg e)))
+        ap₂ (λ (x y : List ℤ). modelAfter n ms t x ++ groupsAfter n gs t y) (take-at m (widened g) n size) (drop-at m (widened g) n size)
+        ∙ ap₂ (λ (x y : List ℤ). x ++ y) (model-after ms m em) (groups-after gs (widened g) (λ e. ap widened (eg e)))
 
     bounds-read : tabulate (2 * n) (boundAt (smallTable (2 * n) t)) ≡ boundsOf n (linesOf L)
     bounds-read =
@@ -170,7 +170,7 @@ module _ (n : ℕ) (L : List ℤ) (valid : Workable n L) (modelled : Modellable 
         (model bounds : List ℤ) (groups : List ℕ) (model′ bounds′ : List ℤ) (groups′ : List ℕ)
         (given : Given n t q model bounds groups model′ bounds′ groups′) where
       pub given-model : model′ ≡ modelOf n (linesOf L) ++ drop (modelRoom n) model
-      given-model = given .model-is ∙ ap (λ (x : List ℤ). x ++ drop (modelRoom n) model) (values-kept (wide G) q is)
+      given-model = given .model-is ∙ ap (λ (x : List ℤ). x ++ drop (modelRoom n) model) (values-kept (widened G) q is)
 
       pub given-bounds : bounds′ ≡ boundsOf n (linesOf L) ++ drop (boundsRoom n) bounds
       given-bounds = given .bounds-is ∙ ap (λ (x : List ℤ). x ++ drop (boundsRoom n) bounds) bounds-read

@@ -31,7 +31,7 @@ ghost use Rattle.decide_buffers.specs.Room.{modelRoom, groupsRoom};
 ghost use Rattle.decide_stored_table.specs.Table.{byRows, ShortTable};
 ghost use Rattle.decide_model.specs.Values.{valuesOf};
 ghost use Rattle.session_step.specs.Read.{smallTable, SizedTable};
-ghost use Rattle.session_state.specs.State.{keptRoom, wide};
+ghost use Rattle.session_state.specs.State.{keptRoom, widened};
 ghost use Rattle.theory_kept.specs.Slack.{wideStep};
 ghost use Rattle.session_kept.specs.Kept.{keptAfter, valueAt, keepsModel, keepsGroups, smallGroup, groupNumber, GiveReady, Given};
 
@@ -53,7 +53,7 @@ fn keep_values(values: &[i32], n: usize, kept: &mut [i64])
 // Copies the first numbers of the groups to the front of the kept numbers.
 fn keep_groups(groups: &[u32], count: usize, kept: &mut [i64])
     requires { ⌜ (count ≤ length (now groups)) × (count ≤ length (now kept)) ⌝ }
-    ensures { λ _. ⌜ now (kept .exit) ≡ wide (take count (now (groups .entry))) ++ drop count (now (kept .entry)) ⌝ }
+    ensures { λ _. ⌜ now (kept .exit) ≡ widened (take count (now (groups .entry))) ++ drop count (now (kept .entry)) ⌝ }
 {
     let mut i = 0;
     while i < count {
@@ -78,7 +78,7 @@ fn renew_model(table: &[i64], n: usize, stays: bool, kept: &mut [i64])
 // The groups as they stay, or read off the table: the kept numbers behind the model.
 fn renew_groups(table: &[i64], n: usize, stays: bool, kept: &mut [i64])
     requires { ⌜ ShortTable n (now table) × (length (now kept) ≡ groupsRoom n) ⌝ }
-    ensures { λ _. ⌜ now (kept .exit) ≡ cond stays (now (kept .entry)) (wide (tabulate (2 * n) (groupAt (byRows (2 * n) (now (table .entry)))))) ⌝ }
+    ensures { λ _. ⌜ now (kept .exit) ≡ cond stays (now (kept .entry)) (widened (tabulate (2 * n) (groupAt (byRows (2 * n) (now (table .entry)))))) ⌝ }
 {
     if stays {
         return;

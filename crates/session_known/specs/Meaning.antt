@@ -33,7 +33,7 @@ use Rattle.theory_kept.specs.Slack.{isWide, wideStep}
 use Rattle.theory_kept.specs.Model.{model-stays}
 use Rattle.theory_kept.specs.Groups.{groups-stay}
 use Rattle.decide_buffers.specs.Room.{modelRoom, boundsRoom, groupsRoom}
-use Rattle.session_state.specs.State.{tableFor, wide, keptFor, knownFor, tableOfKnown, keptOfKnown}
+use Rattle.session_state.specs.State.{tableFor, widened, keptFor, knownFor, tableOfKnown, keptOfKnown}
 use Rattle.session_state.specs.Session.{table-known, kept-known}
 use Rattle.session_step.specs.Read.{smallTable, small-agree}
 use Rattle.session_step.specs.Meaning.{TableFor, agree, short-table}
@@ -119,7 +119,7 @@ module _ (n : ℕ) (L : List ℤ) (l : Line) (whole : length L % lineSize ≡ 0)
   model-met e =
       model-stays n L l valid valid′ yes-more
       (meets-true (assignmentOf (modelOf n (linesOf L))) l .0
-      (sym (keeps-model n L valid modelled yes-verdict (wide (groupsOf n (linesOf L))) q refl l) ∙ ap (keepsModel n q) (sym (line-last L l whole)) ∙ e))
+      (sym (keeps-model n L valid modelled yes-verdict (widened (groupsOf n (linesOf L))) q refl l) ∙ ap (keepsModel n q) (sym (line-last L l whole)) ∙ e))
 
   -- a step that is wide in the table that is read is wide among the distances
   wide-read : (x : NamedStep) → EndsBelow (2 * n) x → wideStep (smallTable (2 * n) t′) x ≡ wideStep (distances n (linesOf (L ++ lineNumbers l))) x

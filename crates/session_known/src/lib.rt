@@ -1,12 +1,12 @@
 // What is known of the lines of a session: their table of distances, and behind it their model and groups. What it becomes
 // with one line more, or made anew from a list, and how the outputs are given of it. It may hold any numbers.
-use lines::limits::MAX_VARIABLES;
 use lines::line_at;
 use session_kept::give;
 use session_kept::keeps_groups;
 use session_kept::keeps_model;
 use session_kept::renew;
 use session_learn::learn_line;
+use session_state::MOST_KEPT;
 use session_state::kept_room;
 use session_state::table_room;
 use session_table::table_anew;
@@ -20,9 +20,6 @@ ghost use Rattle.session_kept.specs.Kept.{Given};
 ghost use Rattle.session_learn.specs.Learnt.{learns};
 ghost use Rattle.session_state.specs.State.{tableOfKnown, keptOfKnown};
 ghost use Rattle.session_known.specs.Known.{Sized, LearnKnownReady, GiveKnownReady, renewed, knownAfter, knownAnew};
-
-// As many numbers as the model and the groups of the most variables have.
-const MOST_KEPT: usize = MAX_VARIABLES + 2 * MAX_VARIABLES;
 
 // Copies numbers to the front of a list.
 fn put_numbers(numbers: &[i64], list: &mut [i64])

@@ -22,7 +22,7 @@ use Rattle.theory_bounds.specs.Table.{tableModel}
 use Rattle.theory_bounds.specs.Answers.{modelOf, groupAt, groupsOf}
 use Rattle.decide_rows.specs.Table.{table-length}
 use Rattle.longer_list.specs.Written.{putAt}
-use Rattle.session_state.specs.State.{headSize, frontRoom, tableRoom, keptRoom, knownRoom, sessionRoom, flagOf, zeros, behind, frontOf, kept, tableFor, wide, keptFor, knownFor, stateOf, tableOfKnown, keptOfKnown, knownIn, variablesIn, countIn, refusedIn, numbersIn, headOk, fitAll, isState, lineStart, headed, started, pushed, popped, withKnown}
+use Rattle.session_state.specs.State.{headSize, frontRoom, tableRoom, keptRoom, knownRoom, sessionRoom, flagOf, zeros, behind, frontOf, kept, tableFor, widened, keptFor, knownFor, stateOf, tableOfKnown, keptOfKnown, knownIn, variablesIn, countIn, refusedIn, numbersIn, headOk, fitAll, isState, lineStart, headed, started, pushed, popped, withKnown}
 use Rattle.session_state.specs.Laws.{front-split, room-is, room-known}
 
 -- ---- the numbers of lines and of one more
@@ -178,7 +178,7 @@ table-size n ls = table-length (stepsOf ls) (2 * n) (2 * n)
 pub kept-size : (n : ℕ) (ls : List Line) → length (keptFor n ls) ≡ keptRoom n
 unfolding modelOf groupsOf
 kept-size n ls =
-    length-append (tabulate n (tableModel n (distances n ls))) (wide (tabulate (2 * n) (groupAt (distances n ls))))
+    length-append (tabulate n (tableModel n (distances n ls))) (widened (tabulate (2 * n) (groupAt (distances n ls))))
     ∙ omega (
       arith,
       length-tabulate n (tableModel n (distances n ls)),

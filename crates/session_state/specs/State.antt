@@ -69,12 +69,12 @@ abbrev pub tableFor : ℕ → List Line → List ℤ
 tableFor n ls = storedTable (stepsOf ls) (2 * n) (2 * n)
 
 -- numbers of groups as those of a state
-abbrev pub wide : List ℕ → List ℤ
-wide = map pos
+abbrev pub widened : List ℕ → List ℤ
+widened = map pos
 
 -- their model and groups
 abbrev pub keptFor : ℕ → List Line → List ℤ
-keptFor n ls = modelOf n ls ++ wide (groupsOf n ls)
+keptFor n ls = modelOf n ls ++ widened (groupsOf n ls)
 
 -- all of these
 unfoldable pub knownFor : ℕ → List Line → List ℤ

@@ -26,6 +26,8 @@ const HEAD_SIZE: usize = 3;
 pub const STATE_PLACE: usize = 6;
 // The numbers before what is known of the lines: these, and room for the most lines.
 pub const FRONT_ROOM: usize = HEAD_SIZE + LINE_SIZE * MAX_LINES;
+// How many numbers the model and the groups of the most variables have, as `kept_room` says.
+pub const MOST_KEPT: usize = MAX_VARIABLES + 2 * MAX_VARIABLES;
 // The least and the greatest number of 32 bits.
 const LEAST: i64 = i32::MIN as i64;
 

@@ -22,6 +22,17 @@ use Rattle.integers.specs.Lowest.{lowest-cong}
 abbrev pub Agree : ℕ → Table → Table → Type 0
 Agree N D E = (u v : ℕ) → u < N → v < N → D u v ≡ E u v
 
+-- groups are made of the points that are the same
+pub groups-by-points : (n : ℕ) (D E : Table) → ((p q : ℕ) → p < 2 * n → q < 2 * n → samePoints D p q ≡ samePoints E p q)
+    → tabulate (2 * n) (groupAt D) ≡ tabulate (2 * n) (groupAt E)
+groups-by-points n D E same = tabulate-cong (2 * n) (groupAt D) (groupAt E) at
+  where
+    at : (i : ℕ) → i < 2 * n → groupAt D i ≡ groupAt E i
+    at i h =
+        let x = i / 2 in
+        ap (λ (p : ℕ). cond (eqb (i % 2) 0) (p / 2) (p % 2))
+        (lowest-cong (samePoints D (2 * x)) (samePoints E (2 * x)) 0 (2 * x) (λ q l. same (2 * x) q (omega arith) (omega arith)))
+
 module _ (n : ℕ) (D E : Table) (same : Agree (2 * n) D E) where
   pub halves-same : (p : ℕ) → p < 2 * n → halves D p ≡ halves E p
   unfolding halves
@@ -47,14 +58,8 @@ module _ (n : ℕ) (D E : Table) (same : Agree (2 * n) D E) where
   points-same : (p q : ℕ) → p < 2 * n → q < 2 * n → samePoints D p q ≡ samePoints E p q
   points-same p q h k = ap₂ (λ (a b : Distance). notAbove0 a && notAbove0 b) (tight-same p q h k) (tight-same q p k h)
 
-  group-same : (i : ℕ) → i < 2 * n → groupAt D i ≡ groupAt E i
-  group-same i h =
-      let x = i / 2 in
-      ap (λ (p : ℕ). cond (eqb (i % 2) 0) (p / 2) (p % 2))
-      (lowest-cong (samePoints D (2 * x)) (samePoints E (2 * x)) 0 (2 * x) (λ q l. points-same (2 * x) q (omega arith) (omega arith)))
-
   pub groups-same : tabulate (2 * n) (groupAt D) ≡ tabulate (2 * n) (groupAt E)
-  groups-same = tabulate-cong (2 * n) (groupAt D) (groupAt E) group-same
+  groups-same = groups-by-points n D E points-same
 
   pub ok-same : (p : ℕ) → p < 2 * n → halvesOk D p ≡ halvesOk E p
   ok-same p h =

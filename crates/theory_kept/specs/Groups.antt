@@ -1,17 +1,14 @@
 -- The groups stay where both steps of the added line are wide in the table of the longer list: then the same points are equal in every solution.
 use mathlib.Core.Path.{_≡_, refl, sym, ap, ap₂, subst, _∙_}
 use mathlib.Core.Logic.{inl}
-use mathlib.Core.Bool.{Bool, true, false, cond}
+use mathlib.Core.Bool.{Bool, true, false}
 use mathlib.Core.List.{List, [], _∷_, _++_, append-assoc, append-nil}
 use Prim.Native.Nat.{ℕ, _+_, _*_, _/_, _%_, _<_}
 use native.Mathlib.Omega.{arith}
 use borrow.Author.Tests.{lt-ltb}
-use lib.Dec.{eqb}
 use lib.IntN.{ℤ}
 use lib.ListN.{length}
 use Rattle.integers.specs.Laws.{never}
-use Rattle.integers.specs.Sequence.{tabulate, tabulate-cong}
-use Rattle.integers.specs.Lowest.{lowest-cong}
 use Rattle.lines.specs.declared.Line.{Line}
 use Rattle.lines.specs.Limits.{lineSize}
 use Rattle.lines.specs.Line.{lineCount, linesOf, lineNumbers}
@@ -26,23 +23,13 @@ use Rattle.theory_walks.specs.Least.{NoneNegative, best-triangle}
 use Rattle.theory_walks.specs.Negative.{noNegative, no-negative-true, no-negative-yes}
 use Rattle.theory_walks.specs.Graph.{in-left, in-right, ends-points}
 use Rattle.theory_bounds.specs.Tight.{Table}
-use Rattle.theory_bounds.specs.Answers.{samePoints, groupAt, groupsOf}
+use Rattle.theory_bounds.specs.Agree.{groups-by-points}
+use Rattle.theory_bounds.specs.Answers.{groupsOf}
 use Rattle.theory_bounds.specs.Verdict.{distances, verdictOf}
 use Rattle.theory_inserting.specs.Two.{EndsBelow, insertNamed, negative-among, named-test, named-best}
 use Rattle.theory_answers.specs.Solved.{Verdicts, verdict-yes, closed-table}
 use Rattle.theory_answers.specs.Decided.{lines-ok}
 use Rattle.theory_kept.specs.Slack.{wideStep, both-at-most, near-same, points-stay}
-
--- ---- the groups are made of the points that are the same
-same-groups : (n : ℕ) (D D′ : Table) → ((p q : ℕ) → p < 2 * n → q < 2 * n → samePoints D′ p q ≡ samePoints D p q)
-    → tabulate (2 * n) (groupAt D′) ≡ tabulate (2 * n) (groupAt D)
-same-groups n D D′ same = tabulate-cong (2 * n) (groupAt D′) (groupAt D) at
-  where
-    at : (i : ℕ) → i < 2 * n → groupAt D′ i ≡ groupAt D i
-    at i h =
-        let x = i / 2 in
-        ap (λ (p : ℕ). cond (eqb (i % 2) 0) (p / 2) (p % 2))
-        (lowest-cong (samePoints D′ (2 * x)) (samePoints D (2 * x)) 0 (2 * x) (λ q l. same (2 * x) q (omega arith) (omega arith)))
 
 -- ---- a step that may be there, behind others without a closed walk of negative sum
 module _ (N : ℕ) (E : List Step) (x : NamedStep) (within : WithinPoints N (E ++ named x)) (nonneg : NoneNegative (E ++ named x) N) where
@@ -158,4 +145,4 @@ module _ (n : ℕ) (L : List ℤ) (l : Line) (valid : Workable n L) (valid′ : 
       let closed = closed-table n ls (lines-ok n (L ++ lineNumbers l) valid′) verdicts in
       let less = both-at-most (best E N) (best F N) (best (stepsOf ls) N) x y first second in
       let near = near-same (best E N) (best F N) (best (stepsOf ls) N) x y first second triangle wide-x wide-y in
-      same-groups n (distances n (linesOf L)) (distances n ls) (points-stay n (distances n (linesOf L)) (distances n ls) closed triangle less near)
+      groups-by-points n (distances n ls) (distances n (linesOf L)) (points-stay n (distances n (linesOf L)) (distances n ls) closed triangle less near)

@@ -11,7 +11,7 @@ use mir.Syntax.{w64}
 use mir.Val.{toZ}
 use mir.Facts.{toZ-pos}
 use Rattle.integers.specs.Fill.{filled, filled-more}
-use Rattle.session_kept.specs.Laws.{wide-front}
+use Rattle.session_kept.specs.Laws.{widened-front}
 use Rattle.session_kept.proofs.keep_groups.Statement.{statement}
 use Rattle.session_kept.proofs.keep_groups.Tie as tie
 
@@ -56,7 +56,7 @@ returns c =
     let e : k .loop .i ≡ b .args .count = omega arith in
     k .loop .inv .2
     ∙ ap (filled (λ (j : ℕ). pos (getD (now (b .args .groups)) j 0)) (now (b .args .kept))) e
-    ∙ ap (λ (x : List ℤ). x ++ drop (b .args .count) (now (b .args .kept))) (wide-front (b .args .count) (now (b .args .groups)) (b .pre .0))
+    ∙ ap (λ (x : List ℤ). x ++ drop (b .args .count) (now (b .args .kept))) (widened-front (b .args .count) (now (b .args .groups)) (b .pre .0))
 
 pub keep-groups-spec : {M : Type 1} → statement M
 keep-groups-spec =

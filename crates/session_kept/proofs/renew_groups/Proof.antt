@@ -9,7 +9,7 @@ use Rattle.integers.specs.Sequence.{tabulate, length-tabulate}
 use Rattle.theory_bounds.specs.Answers.{groupAt}
 use Rattle.decide_stored_table.specs.Table.{byRows}
 use Rattle.decide_bounds_groups.specs.Grouping.{groups-ready}
-use Rattle.session_kept.specs.Laws.{groups-stay, groups-anew}
+use Rattle.session_kept.specs.Laws.{kept-groups, groups-anew}
 use Rattle.session_kept.proofs.renew_groups.Statement.{statement}
 use Rattle.session_kept.proofs.renew_groups.Tie as tie
 
@@ -21,7 +21,7 @@ abbrev found : tie.Start → List ℕ
 found s = tabulate (2 * s .args .n) (number s)
 
 returns : tie.Need-returns
-returns c = let s = c .before in groups-stay (2 * s .args .n) (s .args .stays) (now (s .args .kept)) (found s) (c .if1 .taken)
+returns c = let s = c .before in kept-groups (2 * s .args .n) (s .args .stays) (now (s .args .kept)) (found s) (c .if1 .taken)
 
 write-bounds-requires : tie.Need-write-bounds-requires
 write-bounds-requires c κs = search needs

@@ -8,7 +8,7 @@ use lib.IntN.{ℤ}
 use lib.ListN.{length}
 use Rattle.decide_stored_table.specs.Table.{byRows}
 use Rattle.decide_model.specs.Values.{valuesOf, values-length}
-use Rattle.session_kept.specs.Laws.{model-stays, model-anew}
+use Rattle.session_kept.specs.Laws.{kept-model, model-anew}
 use Rattle.session_kept.proofs.renew_model.Statement.{statement}
 use Rattle.session_kept.proofs.renew_model.Tie as tie
 
@@ -17,7 +17,7 @@ abbrev values : tie.Start → List ℤ
 values s = valuesOf (byRows (2 * s .args .n) (now (s .args .table))) (s .args .n)
 
 returns : tie.Need-returns
-returns c = let s = c .before in model-stays (s .args .n) (s .args .stays) (now (s .args .kept)) (values s) (c .if1 .taken)
+returns c = let s = c .before in kept-model (s .args .n) (s .args .stays) (now (s .args .kept)) (values s) (c .if1 .taken)
 
 write-values-requires : tie.Need-write-values-requires
 write-values-requires c κs = search needs
