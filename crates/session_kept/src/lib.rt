@@ -11,6 +11,7 @@ use integers::between;
 use lines::Line;
 use lines::limits::MAX_VARIABLES;
 use session_distances::first_beyond;
+use session_learn::EQUAL_SLACK;
 use session_questions::half_of;
 use session_step::MOST_POINTS;
 use session_step::sum_along;
@@ -34,9 +35,6 @@ ghost use Rattle.session_step.specs.Read.{smallTable, SizedTable};
 ghost use Rattle.session_state.specs.State.{keptRoom, widened};
 ghost use Rattle.theory_kept.specs.Slack.{wideStep};
 ghost use Rattle.session_kept.specs.Kept.{keptAfter, valueAt, keepsModel, keepsGroups, smallGroup, groupNumber, GiveReady, Given};
-
-// A closed way through a step is wide where its sum is above this.
-const EQUAL_SLACK: i64 = 2;
 
 // Copies the first n values to the front of the kept numbers.
 fn keep_values(values: &[i32], n: usize, kept: &mut [i64])

@@ -5,8 +5,8 @@ use mathlib.Core.List.{List}
 use Prim.Native.Nat.{ℕ, _+_, _*_, _<_}
 use native.Mathlib.Numerals.{add-one}
 use native.Mathlib.Omega.{arith}
-use lib.IntN.{ℤ, pos, _+ℤ_}
-use lib.Signed.{leZ}
+use lib.IntN.{ℤ, pos, negℤ, _+ℤ_, _-ℤ_}
+use lib.Signed.{leZ, ltZ}
 use mir.Syntax.{w64}
 use mir.Val.{SFits}
 use Rattle.integers.specs.Integer.{_⩽_, half, Within}
@@ -25,6 +25,7 @@ use Rattle.theory_walks.specs.Negative.{notBelow0}
 use Rattle.theory_bounds.specs.Tight.{Table}
 use Rattle.theory_inserting.specs.Insert.{inserted, through}
 use Rattle.theory_inserting.specs.Two.{insertNamed}
+use Rattle.theory_kept.specs.Slack.{equalSlack, isWide}
 use Rattle.decide_rows.specs.Stored.{stored}
 use Rattle.decide_rows.specs.Read.{noWalk, distanceOf, Short, maxDistance, of-none, of-some, short-more, store-none}
 use Rattle.decide_rows.specs.Numbers.{StepOk, numbered-ok}
@@ -142,6 +143,27 @@ module _ (D : Table) (small : (u v : ℕ) → Short maxWay (D u v)) (s : Step) (
       e
       ∙ ap₂ (λ (a b : Distance). stored (minD (distanceOf own) (a ⊕ s .weight ⊞ b))) before-is after-is
       ∙ ap (λ (d : Distance). stored (minD d (through D s u v))) (ap distanceOf eo ∙ way-back (D u v) (small u v))
+
+-- ---- a wide step: the stored way back against the slack without the weight
+pub wide-stored : (d : Distance) (w : ℤ) → Within maxWeight w → ltZ (equalSlack -ℤ w) (stored d) ≡ isWide (d ⊕ w)
+wide-stored none w h = below w (h .low)
+  where
+    below : (w : ℤ) → negℤ (pos maxWeight) ⩽ w → ltZ (equalSlack -ℤ w) noWalk ≡ true
+    below w = simp ints (omega arith)
+wide-stored (some z) w h = go (ltZ (equalSlack -ℤ w) z) refl
+  where
+    turn-yes : (w z : ℤ) → ltZ (equalSlack -ℤ w) z ≡ true → ltZ equalSlack (z +ℤ w) ≡ true
+    turn-yes w z = simp ints (omega arith)
+
+    turn-no : (w z : ℤ) → ltZ (equalSlack -ℤ w) z ≡ false → ltZ equalSlack (z +ℤ w) ≡ false
+    turn-no w z = simp ints (omega arith)
+
+    go : (b : Bool) → ltZ (equalSlack -ℤ w) z ≡ b → b ≡ ltZ equalSlack (z +ℤ w)
+    go true e = sym (turn-yes w z e)
+    go false e = sym (turn-no w z e)
+
+pub slack-fits : (w : ℤ) → Within maxWeight w → SFits w64 (equalSlack -ℤ w)
+slack-fits w h = given₂ (h .low) (h .high) (simp ints (omega zs))
 
 -- ---- the halves of two distances, by the code
 module _ (there back : ℤ) where

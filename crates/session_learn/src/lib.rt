@@ -23,8 +23,12 @@ ghost use Rattle.theory_inserting.specs.Two.{insertNamed};
 ghost use Rattle.decide_rows.specs.Stored.{stored};
 ghost use Rattle.decide_rows.specs.Read.{distanceOf, Short};
 ghost use Rattle.session_step.specs.Read.{smallTable};
-ghost use Rattle.session_learn.specs.With.{maxWay, EntryReady, StepsReady};
-ghost use Rattle.session_learn.specs.Learnt.{LearnReady, learns, learnt};
+ghost use Rattle.theory_kept.specs.Slack.{wideStep};
+ghost use Rattle.session_learn.specs.With.{maxWay, NamedStepOk, EntryReady, StepsReady};
+ghost use Rattle.session_learn.specs.Learnt.{LearnReady, bothWide, learns, learnt};
+
+// The greatest sum of a closed walk that makes two points equal, or halves contradict.
+pub const EQUAL_SLACK: i64 = 2;
 
 // A distance, or the way along a step of this weight where that is less.
 fn way_with(own: i64, before: i64, weight: i64, after: i64) -> i64
@@ -108,6 +112,29 @@ fn points_stand(table: &[i64], n: usize, x: NamedStep, y: NamedStep) -> bool
     true
 }
 
+// Whether each closed walk through a step that may be there has a sum above the slack, with two steps.
+fn is_wide(table: &[i64], n: usize, x: NamedStep, y: NamedStep, step: NamedStep) -> bool
+    requires { ⌜ StepsReady n (now table) x y × NamedStepOk n step ⌝ }
+    ensures { λ r. ⌜ r ≡ wideStep (insertNamed (insertNamed (smallTable (2 * n) (now (table .entry))) x) y) step ⌝ }
+{
+    if let NamedStep::Found(s) = step {
+        let back = entry_with_both(table, n, x, y, s.to, s.from);
+        return EQUAL_SLACK - s.weight < back;
+    }
+    true
+}
+
+// The same of both steps. Then no halves contradict that did not before, and no point need be asked.
+fn both_wide(table: &[i64], n: usize, x: NamedStep, y: NamedStep) -> bool
+    requires { ⌜ StepsReady n (now table) x y ⌝ }
+    ensures { λ r. ⌜ r ≡ bothWide (insertNamed (insertNamed (smallTable (2 * n) (now (table .entry))) x) y) x y ⌝ }
+{
+    if !is_wide(table, n, x, y, x) {
+        return false;
+    }
+    is_wide(table, n, x, y, y)
+}
+
 // Whether the lines with line k have a solution, where the table is that of the lines before, and these have one.
 fn can_learn(list: &[i32], k: usize, table: &[i64], n: usize) -> bool
     requires { ⌜ LearnReady n (now list) k (now table) ⌝ }
@@ -121,6 +148,9 @@ fn can_learn(list: &[i32], k: usize, table: &[i64], n: usize) -> bool
     }
     let x = step_numbered(list, 2 * k);
     let y = step_numbered(list, 2 * k + 1);
+    if both_wide(table, n, x, y) {
+        return true;
+    }
     points_stand(table, n, x, y)
 }
 

@@ -1,8 +1,8 @@
--- `session_learn::can_learn` meets its contract, in each of its three ways.
+-- `session_learn::can_learn` meets its contract, in each of its four ways.
 use mathlib.Core.Path.{_≡_, sym, ap, ap₂, _∙_}
-use mathlib.Core.Bool.{false}
+use mathlib.Core.Bool.{Bool, true, false, _||_}
 use mathlib.Core.List.{List}
-use Prim.Native.Nat.{_+_, _*_}
+use Prim.Native.Nat.{ℕ, _+_, _*_}
 use borrow.Author.Needs.{needs}
 use borrow.Author.Tests.{not-true, not-false}
 use denote.Ref.{now}
@@ -16,9 +16,10 @@ use Rattle.steps.specs.Step.{stepNumbered}
 use Rattle.theory_bounds.specs.Verdict.{halvesOk}
 use Rattle.theory_inserting.specs.Two.{insertNamed}
 use Rattle.session_step.specs.Read.{smallTable}
-use Rattle.session_line.specs.Both.{lineStaysIn}
+use Rattle.session_line.specs.Both.{lineStaysIn, lineInserted}
+use Rattle.theory_bounds.specs.Tight.{Table}
 use Rattle.session_learn.specs.With.{StepsReady, numbered-named}
-use Rattle.session_learn.specs.Learnt.{learns-not-false, learns-not-negative, learns-by-halves}
+use Rattle.session_learn.specs.Learnt.{bothWide, halvesStand, learns, learns-not-false, learns-not-negative, learns-by-halves}
 use Rattle.session_learn.proofs.can_learn.Statement.{statement}
 use Rattle.session_learn.proofs.can_learn.Tie as tie
 
@@ -97,16 +98,48 @@ module _ (c : tie.After-step-numbered2) where
         second = numbered-named (a .args .n) (L (f b)) (a .pre .valid) (2 * a .args .k + 1) y y-is;
       }
 
-points-stand-requires : tie.Need-points-stand-requires
-points-stand-requires c κs = ready c
+both-wide-requires : tie.Need-both-wide-requires
+both-wide-requires c κs = ready c
+
+-- whether both are wide
+module _ (w : tie.After-both-wide) where
+  abbrev e : tie.After-step-numbered2
+  e = w .before
+
+  abbrev n : ℕ
+  n = a e .args .n
+
+  abbrev table : List ℤ
+  table = t (f (b e))
+
+  abbrev D : Table
+  D = lineInserted (2 * n) (L (f (b e))) (a e .args .k) table
+
+  -- with the steps as they were found
+  with : {A : Type 0} (g : Table → NamedStep → NamedStep → A) → g (insertNamed (insertNamed (smallTable (2 * n) table) (x e)) (y e)) (x e) (y e) ≡ g D (stepNumbered (L (f (b e))) (2 * a e .args .k)) (stepNumbered (L (f (b e))) (2 * a e .args .k + 1))
+  with g = ap₂ (λ (p q : NamedStep). g (insertNamed (insertNamed (smallTable (2 * n) table) p) q) p q) (x-is e) (y-is e)
+
+  wide-is : w .both-wide .result ≡ bothWide D (stepNumbered (L (f (b e))) (2 * a e .args .k)) (stepNumbered (L (f (b e))) (2 * a e .args .k + 1))
+  wide-is = w .both-wide .ensures ∙ with bothWide
+
+  by-halves : (r : Bool) → r ≡ halvesStand n (L (f (b e))) (a e .args .k) table → r ≡ learns n (L (f (b e))) (a e .args .k) table
+  by-halves = learns-by-halves n (L (f (b e))) (a e .args .k) table (right (b e)) (sym (stay-is (b e)) ∙ not-false _ (went-on e .if2 .left))
 
 returns-3 : tie.Need-returns-3
 returns-3 c =
-    let e = c .before in
-    let n = a e .args .n in
-    let D = smallTable (2 * n) (t (f (b e))) in
-    learns-by-halves n (L (f (b e))) (a e .args .k) (t (f (b e))) (right (b e)) (sym (stay-is (b e)) ∙ not-false _ (went-on e .if2 .left)) (c .points-stand .result)
-    (c .points-stand .ensures ∙ ap₂ (λ (p q : NamedStep). allBelow (2 * n) (halvesOk (insertNamed (insertNamed D p) q))) (x-is e) (y-is e))
+    let w = c .before in
+    by-halves w true (ap (λ (q : Bool). q || allBelow (2 * n w) (halvesOk (D w))) (sym (c .if3 .taken) ∙ wide-is w))
+
+points-stand-requires : tie.Need-points-stand-requires
+points-stand-requires c κs = ready (c .before .before)
+
+returns-4 : tie.Need-returns-4
+returns-4 c =
+    let w = c .before .before in
+    by-halves w (c .points-stand .result)
+    (c .points-stand .ensures
+    ∙ with w (λ E p q. allBelow (2 * n w) (halvesOk E))
+    ∙ ap (λ (q : Bool). q || allBelow (2 * n w) (halvesOk (D w))) (sym (c .before .if3 .left) ∙ wide-is w))
 
 pub can-learn-spec : {M : Type 1} → statement M
 can-learn-spec =
@@ -122,5 +155,7 @@ can-learn-spec =
     (search needs)
     (search needs)
     step-numbered-requires-2
+    both-wide-requires
+    returns-3
     points-stand-requires
-    returns-3)
+    returns-4)
