@@ -369,9 +369,9 @@ utvpi_part utvpi_shorter(uint64_t n, const int32_t *list, size_t list_len,
  * the answer is a yes; the one that makes a no takes as long as deciding all lines. The room
  * of a state is UTVPI_SESSION_ROOM(n) numbers, for n up to UTVPI_MOST_VARIABLES: at least
  * 24,579 numbers, or 196,632 bytes, and at most 287,491 numbers, or 2,299,928 bytes, which
- * are best taken from the heap. The buffer may be longer; what lies beyond the room is left as it was.
- * Lengths are in numbers. A state may be stored and used again later, and a copy of it is
- * a session of its own.
+ * are best taken from the heap. The buffer may be longer; what lies beyond the room is
+ * left as it was. Lengths are in numbers. A state may be stored and used again later, and a
+ * copy of it is a session of its own.
  *
  * Only these calls write a state. It is n, how many lines there are, 1 where the last
  * answer was a no and else 0, the numbers of each line in order, zeros up to where those of
