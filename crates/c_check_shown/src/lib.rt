@@ -1,4 +1,7 @@
 // The exported check of a showing, on bytes: four little-endian bytes to a number. It answers one number.
+
+#![tactic(auto)]
+
 ghost use Rattle.std.specs.Prelude.{◌≡◌, ◌*◌, ◌<◌, ◌≤◌, length};
 ghost use Rattle.lines.specs.Limits.{line_size, max_variables, max_refutation};
 ghost use Rattle.lines.specs.Line.{line_at};

@@ -1,5 +1,8 @@
 // The exported checks of a model and of a refutation, on bytes: four little-endian bytes to a number of a list or a refutation,
 // eight to a value of a model. Each answers one number.
+
+#![tactic(auto)]
+
 ghost use Rattle.std.specs.Prelude.{◌≡◌, ◌≤◌};
 ghost use Rattle.lines.specs.Limits.{max_variables};
 ghost use Rattle.little_endian.specs.Bytes.{nat32s};

@@ -1,5 +1,8 @@
 // What the exported functions share: the numbers that a refusal and an answer of a check are returned as, and a list out of
 // bytes, four little-endian ones to a number.
+
+#![tactic(auto)]
+
 ghost use Rattle.std.specs.Prelude.{◌≡◌, ◌*◌, ◌<◌, ◌≤◌, length};
 ghost use Rattle.lines.specs.Limits.{line_size, max_lines};
 ghost use Rattle.lines.specs.Refusal.{place_of};

@@ -1,4 +1,7 @@
 // The exported function that decides a list of numbers, with lent buffers. It answers one number.
+
+#![tactic(auto)]
+
 ghost use Rattle.std.specs.Prelude.{◌≡◌};
 ghost use Rattle.decide.specs.Places as deciding;
 ghost use Rattle.c_codes.specs.Codes.{refusal_unit};

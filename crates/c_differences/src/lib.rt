@@ -1,5 +1,8 @@
 // The exported function that decides a list of differences, with lent buffers. It answers one number, by the code of the
 // function that decides any list.
+
+#![tactic(auto)]
+
 ghost use Rattle.c_differences.specs.Calls.{DifferencesReturn};
 
 use c_deciding::decide_code;

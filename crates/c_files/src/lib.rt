@@ -1,4 +1,7 @@
 // The exported functions that read a list from the bytes of a file and write one. Each answers a struct.
+
+#![tactic(auto)]
+
 ghost use Rattle.std.specs.Prelude.{◌≡◌};
 ghost use Rattle.c_files.specs.Files.{file_read, file_written, ReadReturns, WriteReturns};
 
@@ -7,7 +10,7 @@ use file_records::file_number_and_place;
 
 // What reading a file returns: a refusal's number and place, or 0, 0, n and the number of lines.
 #[repr(C)]
-#[derive(Drop)]
+#[derive(Clone, Copy)]
 pub struct FileRead {
     pub refusal: u64,
     pub place: u64,
@@ -17,7 +20,7 @@ pub struct FileRead {
 
 // What writing a file returns: a refusal's number and place, or 0, 0 and how many bytes were written.
 #[repr(C)]
-#[derive(Drop)]
+#[derive(Clone, Copy)]
 pub struct FileWritten {
     pub refusal: u64,
     pub place: u64,

@@ -1,4 +1,7 @@
 // The exported question of what two variables of a list imply about each other, with a lent work area.
+
+#![tactic(auto)]
+
 ghost use Rattle.std.specs.Prelude.{◌≡◌};
 ghost use Rattle.implied_pair.specs.Places.{Below};
 ghost use Rattle.c_codes.specs.Codes.{refusal_unit};
@@ -9,7 +12,7 @@ use implied_pair::{PairOutcome, implied_pair};
 
 // What C gets: the result, and behind it x + y and x - y, then -x + y and -x - y.
 #[repr(C)]
-#[derive(Drop)]
+#[derive(Clone, Copy)]
 pub struct CPair {
     pub result: i64,
     pub plus: [i64; 2],

@@ -1,4 +1,7 @@
 // The exported question whether every solution of a list meets a line, with lent buffers. It answers one number.
+
+#![tactic(auto)]
+
 ghost use Rattle.std.specs.Prelude.{◌≡◌};
 ghost use Rattle.implied_line.specs.Places.{Below};
 ghost use Rattle.c_codes.specs.Codes.{refusal_unit};

@@ -1,5 +1,8 @@
 // The exported check of a refutation that arrives in pieces: begin, take its numbers one after another, and end. What lies
 // between two of them C keeps.
+
+#![tactic(auto)]
+
 ghost use Rattle.std.specs.Prelude.{◌≡◌};
 ghost use Rattle.c_pieces.specs.Pieces.{good_number_lem, progress_of_lem, kept_of_lem, refutation_begin, refutation_take, refutation_end};
 
@@ -10,7 +13,7 @@ use check_refutation::Progress;
 // What C keeps between two numbers of a refutation that arrives in pieces: the checker's own numbers. Every value of each
 // is defined: the byte good is 1 as long as nothing was wrong, and any other number says that something was.
 #[repr(C)]
-#[derive(Drop)]
+#[derive(Clone, Copy)]
 pub struct Kept {
     pub read: usize,
     pub kind: usize,

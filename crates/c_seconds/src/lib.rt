@@ -1,4 +1,7 @@
 // The exported functions that write counts of ticks in seconds. Each answers a struct.
+
+#![tactic(auto)]
+
 ghost use Rattle.std.specs.Prelude.{◌≡◌};
 ghost use Rattle.c_seconds.specs.Seconds.{seconds_written, ModelReturns, EventsReturn};
 
@@ -6,7 +9,7 @@ use seconds::{SecondsAnswer, events_seconds, form_seconds, seconds_number_and_pl
 
 // What writing seconds returns: a refusal's number and place, or 0 and 0.
 #[repr(C)]
-#[derive(Drop)]
+#[derive(Clone, Copy)]
 pub struct SecondsWritten {
     pub refusal: u64,
     pub place: u64,

@@ -1,5 +1,8 @@
 // The exported calls of a session: it is started, lines are added to it, and the last one is withdrawn. Each call answers one
 // number.
+
+#![tactic(auto)]
+
 ghost use Rattle.std.specs.Prelude.{◌≡◌};
 ghost use Rattle.lines.specs.Places.{Placed};
 ghost use Rattle.c_codes.specs.Codes.{refusal_unit};

@@ -1,5 +1,8 @@
 // The exported questions to a session, without adding: whether the lines so far imply a line, and what they imply of two
 // variables.
+
+#![tactic(auto)]
+
 ghost use Rattle.std.specs.Prelude.{◌≡◌};
 ghost use Rattle.c_session_asked.specs.Calls.{line_returned, pair_returned};
 

@@ -1,5 +1,8 @@
 // The exported function that is lent two refutations of a list and says which is the shorter accepted one. It answers a
 // struct.
+
+#![tactic(auto)]
+
 ghost use Rattle.std.specs.Prelude.{◌≡◌};
 ghost use Rattle.c_shorter.specs.Calls.{part_returned, shorter_returned};
 
@@ -14,7 +17,7 @@ const SECOND: u64 = 2;
 
 // What C gets: which of the two it is, and how many numbers from the front of its slice it has; 0 for none.
 #[repr(C)]
-#[derive(Drop)]
+#[derive(Clone, Copy)]
 pub struct CPart {
     pub which: u64,
     pub length: u64,

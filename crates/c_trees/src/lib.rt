@@ -1,4 +1,7 @@
 // The exported questions about a tree over the lines of a list, with lent buffers. Each answers a struct.
+
+#![tactic(auto)]
+
 ghost use Rattle.std.specs.Prelude.{◌≡◌};
 ghost use Rattle.c_trees.specs.Calls.{choice_returned, FirstReturns, ChoiceReturns};
 
@@ -11,7 +14,7 @@ const REFUSED: i64 = -1;
 
 // What C gets: the result, a refusal's number and place or 0 and 0, and the number of a choice.
 #[repr(C)]
-#[derive(Drop)]
+#[derive(Clone, Copy)]
 pub struct CChoice {
     pub result: i64,
     pub refusal: u64,

@@ -1,4 +1,7 @@
 // The model check: whether proposed values solve a list, or the first line that they fail.
+
+#![tactic(auto)]
+
 ghost use Rattle.std.specs.Prelude.{◌≡◌, nat_abs, ◌*ℤ◌, length};
 ghost use Rattle.lines.specs.Line.{lines_of, left_side_lem, meets, assignment_of};
 ghost use Rattle.lines.specs.Valid.{LineWorks, LinesOk};

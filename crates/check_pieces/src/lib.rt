@@ -1,5 +1,8 @@
 // A refutation that arrives in pieces: begin, take the numbers as they come, and ask for the answer at the end. What is
 // kept between two numbers is the checker's own state, ten numbers; the refutation itself is never kept.
+
+#![tactic(auto)]
+
 ghost use Rattle.std.specs.Prelude.{◌≡◌, ◌*◌, ◌≤◌};
 ghost use Rattle.integers.specs.Integer.{is_within_lem};
 ghost use Rattle.lines.specs.Limits.{max_refutation};

@@ -1,5 +1,8 @@
 // The refutation checker: one pass over the numbers of a refutation (the field's term: a certificate), each read once.
 // It knows nothing of how a refutation is found. Tests are joined by & and |, which leave one way through the code.
+
+#![tactic(auto)]
+
 ghost use Rattle.std.specs.Prelude.{◌≡◌, cond, ◌<◌, ◌≤◌, length};
 ghost use Rattle.integers.specs.Integer.{Within};
 ghost use Rattle.lines.specs.Limits.{max_variables, max_refutation};
@@ -22,7 +25,7 @@ pub const HEAD_SIZE: usize = 3;
 // sums of the first and of the second walk; whether nothing was wrong so far, and the index of the first wrong step
 // number. In kind 2 the second walk goes on
 // where the first ended, so that both are one walk that turns round after p steps.
-#[derive(Drop)]
+#[derive(Clone, Copy)]
 pub struct Progress {
     pub read: usize,
     pub kind: usize,

@@ -1,5 +1,8 @@
 // Of two refutations of one list, which anybody may have proposed: the shorter one that the checker accepts, handed back
 // as a part of the slice that was lent. Everything is only read.
+
+#![tactic(auto)]
+
 ghost use Rattle.std.specs.Prelude.{◌≡◌};
 ghost use Rattle.check_shorter.specs.Shorter.{accepted_length_lem, part_by_lengths_lem, shorter_part_lem, slice, shorter_slice};
 
@@ -7,7 +10,7 @@ use check_answers::CheckAnswer;
 use check_refutation::{HEAD_SIZE, check_refutation};
 
 // What is handed back: so many numbers from the front of the first slice, or of the second; or no numbers.
-#[derive(Drop)]
+#[derive(Clone, Copy)]
 pub enum Part {
     OfFirst(usize),
     OfSecond(usize),

@@ -1,5 +1,8 @@
 // The checker of showings: a showing of a line is a refutation of the list against the line, and the refutation checker's
 // pass judges it.
+
+#![tactic(auto)]
+
 ghost use Rattle.std.specs.Prelude.{◌≡◌};
 ghost use Rattle.check_shown.specs.Answer.{showing_validity_lem, shown_answer};
 

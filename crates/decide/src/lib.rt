@@ -1,4 +1,7 @@
 // Deciding a list: a refutation if there is one, else the model, the bounds and the groups.
+
+#![tactic(auto)]
+
 ghost use Rattle.std.specs.Prelude.{◌≡◌, true, false, ◌≤◌, length};
 ghost use Rattle.decide_written_walks.specs.Refutation.{HalvesReady};
 ghost use Rattle.engine_packed_steps.specs.Layout.{places_at};
@@ -27,7 +30,7 @@ use lines::limits::LINE_SIZE;
 use lines::{Refusal, Validity};
 
 // Yes, no, or a refusal.
-#[derive(Drop)]
+#[derive(Clone, Copy)]
 pub enum Answer {
     Yes,
     No,

@@ -1,4 +1,7 @@
 // What deciding writes on a yes, read off the table of distances: bounds and groups.
+
+#![tactic(auto)]
+
 ghost use Rattle.std.specs.Prelude.{◌≡◌, ◌++◌, ◌+◌, ◌*◌, ◌<◌, ◌≤◌, length, drop};
 ghost use Rattle.integers.specs.Sequence.{tabulate};
 ghost use Rattle.steps.specs.Point.{point, opposite};

@@ -1,4 +1,7 @@
 // The lent buffers of deciding: the room that each needs, refusals 7 and 8, and the clearing of the work area.
+
+#![tactic(auto)]
+
 ghost use Rattle.std.specs.Prelude.{◌≡◌, ◌++◌, ◌+◌, ◌*◌, ◌≤◌, pos, length, drop, replicate};
 ghost use Rattle.lines.specs.Limits.{max_variables};
 ghost use Rattle.decide_buffers.specs.Room.{model_room_lem, bounds_room_lem, groups_room_lem, refutation_room_lem, identifiers_room_lem, work_room_lem, differences_work_room_lem, model_lengths, model_rooms, lent_rooms_by, first_short, decide_validity_lem};

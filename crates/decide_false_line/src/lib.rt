@@ -1,4 +1,7 @@
 // The first false line of a list, which is refuted by it alone.
+
+#![tactic(auto)]
+
 ghost use Rattle.std.specs.Prelude.{◌≡◌};
 ghost use Rattle.lines.specs.Line.{lines_of};
 ghost use Rattle.theory_bounds.specs.Verdict.{first_false_lem};

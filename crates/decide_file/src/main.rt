@@ -1,13 +1,16 @@
 // Decides the list of a file on standard input, and prints the answer. All that matters is in `report_input`, which judges
 // an input longer than the buffer as if it had been read whole; here is only reading and writing. An input that can't be
 // read is not judged.
+
+#![tactic(auto)]
+
 ghost use Rattle.decide_file.specs.Reading.{InBuffer};
 
 use file_report::{INPUT_SIZE, TEXT_SIZE, report_input};
 use libc::{STDIN_FILENO, STDOUT_FILENO};
 
 // How many bytes were read; or a read failed.
-#[derive(Drop)]
+#[derive(Clone, Copy)]
 enum Input {
     Read(usize),
     Failed,

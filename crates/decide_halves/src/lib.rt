@@ -1,4 +1,7 @@
 // The first point whose halves are not consistent, read off the table of distances.
+
+#![tactic(auto)]
+
 ghost use Rattle.std.specs.Prelude.{◌≡◌, ◌*◌, ◌<◌};
 ghost use Rattle.integers.specs.Lowest.{first_failing_lem};
 ghost use Rattle.theory_bounds.specs.Verdict.{halves_ok_lem};

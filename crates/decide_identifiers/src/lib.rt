@@ -1,4 +1,7 @@
 // The identifiers of a refutation's steps: of each step that of its line, in walk order.
+
+#![tactic(auto)]
+
 ghost use Rattle.std.specs.Prelude.{◌≡◌, ◌++◌, ◌/◌, ◌<◌, ◌≤◌, length, drop};
 ghost use Rattle.lines.specs.Line.{line_at, line_count};
 ghost use Rattle.lines.specs.Valid.{IdentifierOk};

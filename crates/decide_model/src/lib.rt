@@ -1,4 +1,7 @@
 // The model of a table of distances: variables in number order, each the possible value nearest zero, given those before.
+
+#![tactic(auto)]
+
 ghost use Rattle.std.specs.Prelude.{◌≡◌, ◌++◌, ◌+◌, ◌*◌, ◌<◌, ◌≤◌, length, drop};
 ghost use Rattle.integers.specs.Integer.{Within};
 ghost use Rattle.integers.specs.Sequence.{tabulate};

@@ -1,5 +1,8 @@
 // The rows of a source in the lent work area: a row holds a number for each point, the least sum of a walk from the source
 // to it, or NO_WALK. Rows of several sources may stand side by side, as columns: point p of column j is at p * width + j.
+
+#![tactic(auto)]
+
 ghost use Rattle.std.specs.Prelude.{◌≡◌, ◌++◌, ◌+◌, ◌*◌, ◌<◌, ◌≤◌, length, take, drop};
 ghost use Rattle.integers.specs.Integer.{Within};
 ghost use Rattle.lines.specs.Line.{number, lines_of};

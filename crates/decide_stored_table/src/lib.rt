@@ -1,4 +1,7 @@
 // A table of distances read by rows: the distance of two points, tightened or not, and a point's half.
+
+#![tactic(auto)]
+
 ghost use Rattle.std.specs.Prelude.{◌≡◌, ◌+◌, ◌*◌, ◌<◌};
 ghost use Rattle.lines.specs.Line.{number};
 ghost use Rattle.theory_walks.specs.Distance.{min_d, ◌⊞◌, half_d};

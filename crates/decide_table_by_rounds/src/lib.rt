@@ -1,4 +1,7 @@
 // The table of distances between all points: the rows of all sources side by side, made in rounds.
+
+#![tactic(auto)]
+
 ghost use Rattle.std.specs.Prelude.{◌≡◌, ◌++◌, ◌+◌, ◌*◌, ◌<◌, ◌≤◌, length, take, drop};
 ghost use Rattle.integers.specs.Lowest.{first_failing_lem};
 ghost use Rattle.lines.specs.Line.{lines_of};

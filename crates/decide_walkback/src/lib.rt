@@ -1,4 +1,7 @@
 // A walk read back from the rows of a source: from the walk's end, one row at a time.
+
+#![tactic(auto)]
+
 ghost use Rattle.std.specs.Prelude.{◌≡◌, ◌*◌, ◌<◌, length};
 ghost use Rattle.integers.specs.Integer.{Within};
 ghost use Rattle.lines.specs.Limits.{max_variables};
@@ -12,7 +15,7 @@ use lines::limits::LINE_SIZE;
 use steps::{NamedStep, Step, step_numbered};
 
 // What going one row back comes to: how many steps (0 or 1), the step's number, and the point then.
-#[derive(Drop)]
+#[derive(Clone, Copy)]
 pub struct Move {
     pub count: usize,
     pub number: usize,

@@ -1,4 +1,7 @@
 // The refutation that deciding hands over: its head, and the step numbers of its walks.
+
+#![tactic(auto)]
+
 ghost use Rattle.std.specs.Prelude.{◌≡◌, ◌∷◌, ◌+◌, ◌*◌, ◌<◌, ◌≤◌, length, drop};
 ghost use Rattle.lines.specs.Limits.{work_lines};
 ghost use Rattle.check_refutation.specs.Progress.{head_size};

@@ -1,4 +1,7 @@
 // What deciding writes on a yes, from the table of distances: the model, the bounds and the groups.
+
+#![tactic(auto)]
+
 ghost use Rattle.std.specs.Prelude.{◌≡◌, ◌++◌, ◌*◌, drop};
 ghost use Rattle.integers.specs.Sequence.{tabulate};
 ghost use Rattle.theory_bounds.specs.Table.{table_model};

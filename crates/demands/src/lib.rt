@@ -1,5 +1,8 @@
 // The checkers and `shorter` called on buffers that are lent for writing: each answers what its definition says, and
 // leaves every buffer as it was.
+
+#![tactic(auto)]
+
 ghost use Rattle.std.specs.Prelude.{◌≡◌, length};
 ghost use Rattle.check_model.specs.Model.{model_answer};
 ghost use Rattle.check_refutation.specs.Answer.{refutation_answer};

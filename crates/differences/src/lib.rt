@@ -1,5 +1,8 @@
 // Deciding a list of differences, lines with one coefficient 1 and one -1. There is one point for each variable, so that the
 // table of distances, and with it the work area, is small.
+
+#![tactic(auto)]
+
 ghost use Rattle.differences.specs.Answered.{AnswerReady, Answered};
 ghost use Rattle.differences.specs.Decided.{DifferencesDecided};
 

@@ -1,6 +1,9 @@
 // A table of entries between variables, closed through one variable after the other (the field's term: the method of Floyd
 // and Warshall). Row v has the entries to v. An entry is no less than 0: twice the sum of a walk, and the number of its
 // start less that of its end; or FAR.
+
+#![tactic(auto)]
+
 ghost use Rattle.std.specs.Prelude.{◌<◌};
 ghost use Rattle.differences_closing.specs.Entries.{Ranged};
 ghost use Rattle.differences_closing.specs.Closed.{LowerReady, RowLowered, RowReady, RowThrough, RowsReady, RowsThrough, ThroughAll, Closed};

@@ -1,5 +1,8 @@
 // Differences among the lines of a list: a line with one coefficient 1 and one -1 is one step over the variables
 // themselves. The first line that is none, and what is refused of such a list and its lent buffers.
+
+#![tactic(auto)]
+
 ghost use Rattle.std.specs.Prelude.{◌≡◌, ◌<◌, nat_abs};
 ghost use Rattle.lines.specs.Limits.{max_variables};
 ghost use Rattle.lines.specs.Line.{line_at, line_count};

@@ -1,5 +1,8 @@
 // The model of a list of differences, off the table of the distances between its variables: in number order, each the
 // possible value nearest zero, given those before.
+
+#![tactic(auto)]
+
 ghost use Rattle.std.specs.Prelude.{◌≡◌, ◌++◌, ◌<◌, length, drop};
 ghost use Rattle.integers.specs.Integer.{Within};
 ghost use Rattle.integers.specs.Sequence.{tabulate};

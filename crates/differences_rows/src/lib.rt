@@ -1,6 +1,9 @@
 // The rows of the engine for differences, with a number for each variable: row 0 is 0 everywhere, and each other one is
 // made of the one before by a round over the lines. Row k has the least sums of the walks of at most k steps, from
 // anywhere.
+
+#![tactic(auto)]
+
 pub mod layout;
 
 ghost use Rattle.std.specs.Prelude.{◌≡◌, [], ◌∷◌, ◌*◌, ◌<◌, length, take};

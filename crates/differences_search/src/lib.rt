@@ -1,6 +1,9 @@
 // Whether a list of differences is refuted: rows are made until one is the same as the one before it, which is a
 // potential, or a walk read back from them shows a closed walk of negative sum. That is tried after few rounds, after
 // some more, and at the latest after as many rounds as there are variables.
+
+#![tactic(auto)]
+
 ghost use Rattle.std.specs.Prelude.{◌≤◌};
 ghost use Rattle.differences_walk.specs.Refuted.{RefuteReady, BackRefuted};
 ghost use Rattle.differences_search.specs.Double.{DoubleReady, Doubled};

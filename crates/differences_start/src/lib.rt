@@ -1,5 +1,8 @@
 // How the table of distances between variables begins, at the front of the work area; row v has the entries to v. An
 // entry is made on numbers of the variables, twice their potentials, which make it no less than 0.
+
+#![tactic(auto)]
+
 ghost use Rattle.std.specs.Prelude.{◌<◌};
 ghost use Rattle.lines.specs.Line.{line_count};
 ghost use Rattle.differences_start.specs.Start.{DiagonalReady, Diagonal, StartReady, PutReady, LinePut, LinesPut, Started};

@@ -1,5 +1,8 @@
 // The table of distances between variables, at the front of the work area; row v has the distances to v. It is made on
 // numbers that potentials make no less than 0, closed, and in the end turned back.
+
+#![tactic(auto)]
+
 ghost use Rattle.std.specs.Prelude.{◌<◌};
 ghost use Rattle.differences_table.specs.Finished.{FinishReady, RowFinished, Finished};
 ghost use Rattle.differences_table.specs.Table.{TableReady, PlainTable};

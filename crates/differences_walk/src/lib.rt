@@ -1,6 +1,9 @@
 // A refutation of kind 1 from the rows of the engine for differences. An entry that the last round changed is made by a
 // walk of as many steps as there were rounds. It is read back, one row at a time; where it comes to a variable twice, the
 // part between is a closed walk of negative sum.
+
+#![tactic(auto)]
+
 ghost use Rattle.std.specs.Prelude.{◌≡◌, ◌<◌, length};
 ghost use Rattle.lines.specs.Line.{line_count};
 ghost use Rattle.differences_walk.specs.Makes.{makes_at, OldRow, IsMade, FindReady};
@@ -17,7 +20,7 @@ use differences_rows::layout::{points_at, walk_at};
 use lines::limits::LINE_SIZE;
 
 // Two places of a walk.
-#[derive(Drop)]
+#[derive(Clone, Copy)]
 pub struct Part {
     pub first: usize,
     pub last: usize,

@@ -1,5 +1,8 @@
 // What deciding a list of differences writes on a yes, off the table of the distances between its variables: the model, the
 // bounds, of which there are none, and the groups.
+
+#![tactic(auto)]
+
 ghost use Rattle.std.specs.Prelude.{◌≡◌, ◌++◌, ◌*◌, ◌<◌, ◌≤◌, length, drop};
 ghost use Rattle.integers.specs.Sequence.{tabulate};
 ghost use Rattle.theory_bounds.specs.Table.{table_model};

@@ -1,6 +1,9 @@
 // A refutation of kind 1 at once: passes over the packed steps leave at each point that they lower the step (the field's
 // term: the point's predecessor), and after each pass the marks are followed back from the last point lowered. What they
 // lead round is checked, so that nothing is asked of the passes; where it is no negative closed walk, nothing is written.
+
+#![tactic(auto)]
+
 ghost use Rattle.std.specs.Prelude.{◌≡◌, true, ◌+◌, ◌*◌, ◌<◌, ◌≤◌, length};
 ghost use Rattle.theory_walks.specs.Negative.{no_negative};
 ghost use Rattle.engine_packed_steps.specs.Steps.{steps_in};
@@ -25,7 +28,7 @@ pub const LOWEST_MARK: i64 = -1_000_000_000_000_000;
 pub const ALL: i64 = 9223372036854775807;
 
 // A walk followed back: the place of its first step number in the work area, and its sum.
-#[derive(Drop)]
+#[derive(Clone, Copy)]
 pub struct Followed {
     pub start: usize,
     pub sum: i64,

@@ -1,6 +1,9 @@
 // Elimination: the two points of one variable after the other leave, and later rows are lowered by theirs. Entries are
 // only lowered by sums of two, so that the order is of no account for what the table means; what is reached is looked at
 // in the end.
+
+#![tactic(auto)]
+
 ghost use Rattle.engine_reduced_table.specs.Reduced.{Reduced, Kept, Asked, PairReady};
 
 use engine_reduced_table::{FAR, entry_at, lower};

@@ -1,5 +1,8 @@
 // The rows of distances, written from the settled table on reduced weights, whose points are renamed: row v holds at u the
 // entry between the renamed opposites of v and u, turned back.
+
+#![tactic(auto)]
+
 ghost use Rattle.std.specs.Prelude.{◌≡◌, ◌+◌};
 ghost use Rattle.lines.specs.Line.{number};
 ghost use Rattle.decide_rows.specs.Stored.{stored};

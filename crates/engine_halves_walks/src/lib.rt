@@ -1,6 +1,9 @@
 // A refutation of kind 2 at once: passes over the packed steps leave at each point that they lower the step, and the
 // marks are followed back from a point to its opposite, and from this to the point. What they lead along is checked, so
 // that nothing is asked of the passes; where it is no refutation, nothing is written.
+
+#![tactic(auto)]
+
 ghost use Rattle.std.specs.Prelude.{◌+◌, ◌*◌, ◌<◌, ◌≤◌, length};
 ghost use Rattle.decide_written_walks.specs.Refutation.{HalvesReady};
 ghost use Rattle.engine_closed_walk.specs.Passes.{PassReady, Passed};

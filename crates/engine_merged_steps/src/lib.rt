@@ -1,5 +1,8 @@
 // The steps of a list at the front of the work area, at most as many as there are pairs of points: all of them, or of
 // those between the same two points only the lightest. These are found in cells behind the front, one for each pair.
+
+#![tactic(auto)]
+
 ghost use Rattle.std.specs.Prelude.{◌≡◌, true, ◌+◌, ◌*◌, ◌≤◌, ◌<◌, length};
 ghost use Rattle.lines.specs.Limits.{max_variables};
 ghost use Rattle.lines.specs.Line.{line_count};

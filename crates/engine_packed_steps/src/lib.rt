@@ -1,5 +1,8 @@
 // The steps of a list at the front of the work area, each in one number: its weight, its number in the list, its start
 // and its end. Of two that go between the same points the lighter one is the smaller number.
+
+#![tactic(auto)]
+
 pub mod layout;
 
 ghost use Rattle.std.specs.Prelude.{◌≡◌, ◌*◌, ◌<◌, pos, nat_abs};

@@ -1,4 +1,7 @@
 // The table before anything leaves: the numbers of points, FAR everywhere, 0 on the diagonal, and the reduced weights of the steps.
+
+#![tactic(auto)]
+
 ghost use Rattle.std.specs.Prelude.{◌<◌, ◌≤◌, ◌+◌, ◌*◌, length};
 ghost use Rattle.integers.specs.Integer.{Within};
 ghost use Rattle.engine_reduced_start.specs.Start.{max_read, PointsReady, Pointed, AllFar};

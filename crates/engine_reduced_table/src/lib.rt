@@ -1,6 +1,9 @@
 // The table while it is made, on reduced weights. Behind the steps stand a number of each point (its potential) at
 // `pot`, a row to copy to, and the table: an entry is twice the sum of a walk, and the number of its start less that of
 // its end; or FAR. A function that stores only lowers an entry by a sum of two.
+
+#![tactic(auto)]
+
 ghost use Rattle.std.specs.Prelude.{◌≡◌, ◌<◌};
 ghost use Rattle.lines.specs.Line.{number};
 ghost use Rattle.engine_reduced_table.specs.Reduced.{cell, Reduced, Kept, Asked, LowerReady, NegativePart};
@@ -78,7 +81,7 @@ pub fn lower_entry(
 }
 
 // A step with its reduced weight in place of its own, where that can be an entry: it is not below 0, and below FAR.
-#[derive(Drop)]
+#[derive(Clone, Copy)]
 pub enum ReducedStep {
     Entry(Step),
     NoEntry,

@@ -1,6 +1,9 @@
 // Restoring: the variables that left come back in the opposite order, each with its two rows, the entries between its
 // points, and its columns, which are those rows of the mirror image. Entries are only lowered by sums of two, or to the
 // mirror image's.
+
+#![tactic(auto)]
+
 ghost use Rattle.engine_reduced_table.specs.Reduced.{Reduced, Kept, Asked, PairReady};
 
 use decide_rows::copy_row;

@@ -1,5 +1,8 @@
 // Whether the table is settled: the diagonal is 0, and no step lowers an entry. Then it holds the distances, each turned
 // back by the numbers of its two points.
+
+#![tactic(auto)]
+
 ghost use Rattle.std.specs.Prelude.{◌≡◌, ◌<◌};
 ghost use Rattle.decide_rows.specs.Stored.{stored};
 ghost use Rattle.engine_settled_table.specs.Settled.{SumReady, SettledIf, StepIf, DiagonalIf, StepsIf, TableIf};

@@ -2,6 +2,9 @@
 // area. A potential shows that no closed walk is negative; variables get places, those with few steps first, and the steps
 // are renamed; the table on reduced weights is closed, and if it is settled, its rows are the distances. Each of these is
 // looked at, so that nothing is asked of the way; where one look fails, the table is made in rounds.
+
+#![tactic(auto)]
+
 ghost use Rattle.engine_table.specs.Placed.{PlaceReady, Placed};
 ghost use Rattle.engine_table.specs.Settling.{SettleReady, Settling, StartReady, Started};
 ghost use Rattle.engine_table.specs.Made.{MadeReady, Made};

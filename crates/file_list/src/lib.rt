@@ -1,4 +1,7 @@
 // A file for lists, read and written.
+
+#![tactic(auto)]
+
 ghost use Rattle.std.specs.Prelude.{◌≡◌, ◌++◌, ◌+◌, ◌*◌, ◌<◌, ◌≤◌, length, drop};
 ghost use Rattle.lines.specs.Limits.{line_size, max_variables};
 ghost use Rattle.lines.specs.Line.{line_numbers_lem, line_at, line_count, lines_of};
@@ -27,21 +30,21 @@ pub const LONGEST_LINE_RECORD: usize = HEADER_SIZE + NUMBER_BYTES * LINE_SIZE;
 const MOST_NUMBERS: usize = LINE_SIZE * MAX_LINES;
 
 // What stands in a file: n and the number of lines.
-#[derive(Drop)]
+#[derive(Clone, Copy)]
 pub struct Listed {
     pub n: usize,
     pub lines: usize,
 }
 
 // What reading answers.
-#[derive(Drop)]
+#[derive(Clone, Copy)]
 pub enum ReadAnswer {
     Read(Listed),
     Refused(FileRefusal),
 }
 
 // What writing answers: how many bytes were written, or a refusal.
-#[derive(Drop)]
+#[derive(Clone, Copy)]
 pub enum WriteAnswer {
     Written(usize),
     Refused(FileRefusal),

@@ -1,4 +1,7 @@
 // The records of a file for lists: a two-byte length of the body, a two-byte kind, the body, all little-endian.
+
+#![tactic(auto)]
+
 ghost use Rattle.std.specs.Prelude.{◌≡◌, ◌+◌, ◌*◌, ◌^◌, ◌<◌, ◌≤◌, length};
 ghost use Rattle.lines.specs.Limits.{line_size};
 ghost use Rattle.file_records.specs.Table.{header_size, record_size_lem, le16, kind_at_lem};
@@ -29,7 +32,7 @@ pub const NUMBER_BYTES: usize = 4;
 pub const BARE_SIZE: usize = LINE_SIZE - 1;
 
 // What is wrong with a file, each with the byte offset of its record, or with its list.
-#[derive(Drop)]
+#[derive(Clone, Copy)]
 pub enum FileRefusal {
     Cut(usize),
     UnknownKind(usize),
@@ -42,14 +45,14 @@ pub enum FileRefusal {
 }
 
 // The length of a kind's body.
-#[derive(Drop)]
+#[derive(Clone, Copy)]
 pub enum BodySize {
     Known(usize),
     Unknown,
 }
 
 // Where the next record begins, and what was read before it.
-#[derive(Drop)]
+#[derive(Clone, Copy)]
 pub struct Cursor {
     pub at: usize,
     pub n: usize,
@@ -58,7 +61,7 @@ pub struct Cursor {
 }
 
 // What a record leaves: more to read, the end, or a refusal.
-#[derive(Drop)]
+#[derive(Clone, Copy)]
 pub enum Next {
     More(Cursor),
     End(Cursor),

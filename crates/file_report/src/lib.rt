@@ -1,4 +1,7 @@
 // What the program does: the bytes of a file read, its list decided, and the answer as text.
+
+#![tactic(auto)]
+
 ghost use Rattle.std.specs.Prelude.{take};
 ghost use Rattle.file_text.specs.Text.{no_text};
 ghost use Rattle.file_text.specs.Put.{Wrote};

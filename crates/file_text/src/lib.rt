@@ -1,5 +1,8 @@
 // An answer as text: "yes" and a line for each variable, "no" and a line with the refutation's numbers, or one line
 // with what a refusal says. Each function puts its text into a lent slice, from `at` on, and returns the place behind it.
+
+#![tactic(auto)]
+
 ghost use Rattle.std.specs.Prelude.{◌≡◌, ◌∷◌, [], ◌+◌, ◌*◌, ◌<◌, ◌≤◌, pos, nat_abs, length};
 ghost use Rattle.integers.specs.Integer.{◌⋖◌};
 ghost use Rattle.file_text.specs.Text.{decimal_of, signed_text, bound_text, line_text, yes_text, no_text, refused_text};

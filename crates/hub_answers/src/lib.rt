@@ -1,5 +1,8 @@
 // The answers of a list with one hub, read off its least weights: the model, the bounds, and groups in which each variable
 // is its own.
+
+#![tactic(auto)]
+
 ghost use Rattle.std.specs.Prelude.{◌≡◌, ◌++◌, ◌*◌, ◌<◌, ◌≤◌, length, drop};
 ghost use Rattle.integers.specs.Sequence.{tabulate};
 ghost use Rattle.lines.specs.Limits.{max_variables};

@@ -1,5 +1,8 @@
 // What the least weights of a list with one hub leave the hub's points and those of the other variables, and the tests
 // whether the answers can be read off.
+
+#![tactic(auto)]
+
 ghost use Rattle.std.specs.Prelude.{◌≡◌, ◌*◌, ◌<◌, ◌≤◌};
 ghost use Rattle.integers.specs.Integer.{Within};
 ghost use Rattle.theory_hub.specs.Hub.{hub_points, weight_rows, own, cap, leaves, hub_limit_lem, reach, sound, loose, all_sound_lem, all_loose_lem};

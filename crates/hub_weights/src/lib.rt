@@ -1,6 +1,9 @@
 // The least weights of the steps of a list with one hub, at the front of the work area. A row holds a number for each
 // point: the least weight of a step from it to the hub's plus point, in the next row to the hub's minus point, in the
 // last to the point's opposite, or NO_WALK.
+
+#![tactic(auto)]
+
 ghost use Rattle.std.specs.Prelude.{◌≡◌, true, [], ◌∷◌, ◌<◌, length};
 ghost use Rattle.lines.specs.Line.{lines_of};
 ghost use Rattle.steps.specs.Step.{step_numbered_lem, steps_of, named};

@@ -1,5 +1,8 @@
 // The line question: whether every solution of a list meets a line. If not, the model of the list with the opposite line
 // behind it breaks the line.
+
+#![tactic(auto)]
+
 ghost use Rattle.std.specs.Prelude.{◌≡◌, length};
 ghost use Rattle.decide_buffers.specs.Room.{model_lengths};
 ghost use Rattle.implied_line.specs.Answer.{question_validity_lem, AnswersLine};
@@ -13,7 +16,7 @@ use longer_list::{MOST_NUMBERS, copy_with_line};
 use opposite_line::opposite_line;
 
 // The list implies the line, it does not, or it has no solution; or a refusal.
-#[derive(Drop)]
+#[derive(Clone, Copy)]
 pub enum LineAnswer {
     Implied,
     NotImplied,

@@ -1,4 +1,7 @@
 // The pair: the greatest values that the sums and differences of two variables have over all solutions of a list.
+
+#![tactic(auto)]
+
 ghost use Rattle.std.specs.Prelude.{◌≡◌, ◌*◌, ◌<◌};
 ghost use Rattle.steps.specs.Point.{opposite};
 ghost use Rattle.theory_bounds.specs.Tight.{tight};
@@ -13,14 +16,14 @@ use lines::{Refusal, Validity, list_validity};
 use steps::opposite_of;
 
 // A row for each sign of x: x + y and x - y, then -x + y and -x - y.
-#[derive(Drop)]
+#[derive(Clone, Copy)]
 pub struct Pair {
     pub plus: [i64; 2],
     pub minus: [i64; 2],
 }
 
 // What came of the question.
-#[derive(Drop)]
+#[derive(Clone, Copy)]
 pub enum PairOutcome {
     Implied,
     Unsolvable,
@@ -28,7 +31,7 @@ pub enum PairOutcome {
 }
 
 // The pair is all zeros where none is implied.
-#[derive(Drop)]
+#[derive(Clone, Copy)]
 pub struct PairAnswer {
     pub outcome: PairOutcome,
     pub pair: Pair,

@@ -1,4 +1,7 @@
 // Signed numbers: halving toward minus infinity, and the test for a range.
+
+#![tactic(auto)]
+
 ghost use Rattle.std.specs.Prelude.{◌≡◌};
 ghost use Rattle.integers.specs.Integer.{half, is_between};
 

@@ -1,4 +1,7 @@
 // A list of lines as docs/SPECIFICATION.md gives it: its lines, and the first refusal that applies to it.
+
+#![tactic(auto)]
+
 pub mod limits;
 
 ghost use Rattle.std.specs.Prelude.{◌≡◌, not, ◌<◌, ◌≤◌};
@@ -13,7 +16,7 @@ use limits::{LINE_SIZE, MAX_CONSTANT, MAX_IDENTIFIER, MAX_LINES, MAX_VARIABLES, 
 // One line: a·x + b·y <= d. x and y are the numbers of variables (the field's term: a UTVPI constraint). The identifier is that of the message
 // which the line came from.
 #[repr(C)]
-#[derive(Drop)]
+#[derive(Clone, Copy)]
 pub struct Line {
     pub a: i32,
     pub x: i32,
@@ -24,7 +27,7 @@ pub struct Line {
 }
 
 // The specification's refusals, in the order of their numbers, each with its place where it has one.
-#[derive(Drop)]
+#[derive(Clone, Copy)]
 pub enum Refusal {
     TooManyVariables,
     BrokenLength,
@@ -45,14 +48,14 @@ pub enum Refusal {
 }
 
 // Whether something is refused, and by what.
-#[derive(Drop)]
+#[derive(Clone, Copy)]
 pub enum Validity {
     Valid,
     Refused(Refusal),
 }
 
 // The specification's number and place of a refusal.
-#[derive(Drop)]
+#[derive(Clone, Copy)]
 pub struct Numbered {
     pub number: usize,
     pub place: usize,

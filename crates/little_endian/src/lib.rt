@@ -1,5 +1,8 @@
 // Bytes read as little-endian numbers, one number at a place and a whole slice decoded into numbers; and a number's bytes
 // written to a place.
+
+#![tactic(auto)]
+
 ghost use Rattle.std.specs.Prelude.{◌≡◌, ◌++◌, ◌+◌, ◌/◌, ◌<◌, ◌≤◌, length, drop};
 ghost use Rattle.std.proofs.Common.{to_z, of_z};
 ghost use Rattle.std.specs.Int.{w32, w64};

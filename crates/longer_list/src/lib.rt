@@ -1,5 +1,8 @@
 // A list with a line more behind it, in a buffer: numbers copied to the front of it, and a line's numbers written behind
 // them.
+
+#![tactic(auto)]
+
 ghost use Rattle.std.specs.Prelude.{◌≡◌, ◌++◌, ◌+◌, ◌≤◌, length, drop};
 ghost use Rattle.lines.specs.Limits.{line_size};
 ghost use Rattle.lines.specs.Line.{line_numbers_lem};

@@ -1,4 +1,7 @@
 // The opposite of a line, which an assignment of whole numbers meets exactly if it does not meet the line.
+
+#![tactic(auto)]
+
 ghost use Rattle.std.specs.Prelude.{◌≡◌};
 ghost use Rattle.integers.specs.Integer.{Within};
 ghost use Rattle.lines.specs.Limits.{max_variables, shown_constant_lem};

@@ -1,4 +1,7 @@
 // Models in seconds: each count of ticks is written as a 64-bit float of seconds, by its recorder's clock.
+
+#![tactic(auto)]
+
 ghost use Rattle.std.specs.Prelude.{◌≡◌, true, ◌≤◌, length};
 ghost use Rattle.integers.specs.Fill.{filled};
 ghost use Rattle.seconds.specs.Clock.{seconds_of_lem, is_count, usable, usable_clock_lem, usable_form_lem, clock_of_lem};
@@ -18,14 +21,14 @@ const SECONDS_FORM: u32 = 0;
 const TICKS_FORM: u32 = 1;
 
 // A recorder's clock, by the seconds of one tick or by the ticks of one second.
-#[derive(Drop)]
+#[derive(Clone, Copy)]
 pub enum Clock {
     SecondsPerTick(f64),
     TicksPerSecond(f64),
 }
 
 // Why no seconds are written, each with the index of its recorder, count or event where it has one.
-#[derive(Drop)]
+#[derive(Clone, Copy)]
 pub enum SecondsRefusal {
     UnusableClock(usize),
     CountOutside(usize),
@@ -34,7 +37,7 @@ pub enum SecondsRefusal {
     NoTable,
 }
 
-#[derive(Drop)]
+#[derive(Clone, Copy)]
 pub enum SecondsAnswer {
     Written,
     Refused(SecondsRefusal),

@@ -1,5 +1,8 @@
 // A session that takes lines one at a time: it is started, lines are added to it, and the last one is withdrawn. A lent state
 // holds it between the calls. Each call reads the state as any numbers.
+
+#![tactic(auto)]
+
 ghost use Rattle.std.specs.Prelude.{◌≡◌, true, ◌<◌, ◌≤◌, length};
 ghost use Rattle.lines.specs.Limits.{max_variables};
 ghost use Rattle.session_state.specs.State.{session_room_lem, count_in, is_state_lem};

@@ -1,4 +1,7 @@
 // A line is added to the state of a session: it is learnt, and all lines so far are answered.
+
+#![tactic(auto)]
+
 ghost use Rattle.std.specs.Prelude.{◌≡◌, true, false, ◌<◌};
 ghost use Rattle.lines.specs.Limits.{max_lines};
 ghost use Rattle.session_state.specs.State.{count_in, refused_in, head_ok_lem, is_state_lem};

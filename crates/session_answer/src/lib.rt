@@ -1,4 +1,7 @@
 // The answer to a list whose last line a session learns: from what is known where the list has a solution, else by deciding.
+
+#![tactic(auto)]
+
 ghost use Rattle.std.specs.Prelude.{◌≡◌};
 ghost use Rattle.session_state.specs.State.{table_in, known_in, with_known};
 ghost use Rattle.session_learn.specs.Learnt.{learns};

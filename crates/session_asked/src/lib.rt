@@ -1,6 +1,9 @@
 // Questions to a session, without adding: the pair of two variables and whether a line is implied by the lines so far, from
 // the table of its state. The state is read as any numbers, and only its head and its table are looked at: so each takes
 // constant time.
+
+#![tactic(auto)]
+
 ghost use Rattle.std.specs.Prelude.{◌≡◌, true, ◌<◌};
 ghost use Rattle.lines.specs.Valid.{LineWorks};
 ghost use Rattle.session_state.specs.State.{variables_in, head_ok_lem};

@@ -1,4 +1,7 @@
 // Whether each number of a table that may hold any is a distance, or stands for no walk.
+
+#![tactic(auto)]
+
 ghost use Rattle.std.specs.Prelude.{◌≡◌, length};
 ghost use Rattle.integers.specs.Lowest.{first_failing_lem};
 ghost use Rattle.session_distances.specs.Distances.{is_distance_lem, distance_at};

@@ -1,5 +1,8 @@
 // The model and the groups that are kept beside a table of distances, as numbers of 64 bits: whether they stay when a line
 // is learnt, how they are read off the table anew, and how the outputs are handed out. Table and kept numbers may be any.
+
+#![tactic(auto)]
+
 ghost use Rattle.std.specs.Prelude.{◌≡◌, cond, ◌++◌, ◌+◌, ◌*◌, ◌<◌, ◌≤◌, length, take, drop};
 ghost use Rattle.integers.specs.Sequence.{tabulate};
 ghost use Rattle.lines.specs.Limits.{max_variables};

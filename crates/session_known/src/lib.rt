@@ -1,5 +1,8 @@
 // What is known of the lines of a session: their table of distances, and behind it their model and groups. What it becomes
 // with one line more, or made anew from a list, and how the outputs are given of it. It may hold any numbers.
+
+#![tactic(auto)]
+
 ghost use Rattle.std.specs.Prelude.{◌≡◌, ◌++◌, ◌≤◌, length, drop};
 ghost use Rattle.lines.specs.Limits.{max_variables};
 ghost use Rattle.lines.specs.Valid.{LinesOk};

@@ -1,5 +1,8 @@
 // A line learnt: whether the lines with it have a solution, from the table of those before it; and then the table of all.
 // Nothing is written where they have none.
+
+#![tactic(auto)]
+
 ghost use Rattle.std.specs.Prelude.{◌≡◌, ◌*◌, ◌<◌};
 ghost use Rattle.integers.specs.Integer.{Within};
 ghost use Rattle.integers.specs.Table.{all_below};

@@ -1,5 +1,8 @@
 // The two steps of a line, by their numbers: whether they close a walk of negative sum, both tested before either is put
 // into the table of distances; and the table with both.
+
+#![tactic(auto)]
+
 ghost use Rattle.std.specs.Prelude.{◌≡◌, ◌*◌, ◌<◌};
 ghost use Rattle.lines.specs.Line.{line_count};
 ghost use Rattle.lines.specs.Valid.{LinesOk};

@@ -1,5 +1,8 @@
 // Questions to a table of distances: the pair of two variables and whether a line is implied, each by a few entries. The
 // table may hold any numbers; of one that is the table of a list the answers are those on the list.
+
+#![tactic(auto)]
+
 ghost use Rattle.std.specs.Prelude.{◌≡◌, ◌*◌, ◌<◌};
 ghost use Rattle.lines.specs.Valid.{LineWorks, LinesOk};
 ghost use Rattle.steps.specs.Step.{step_numbered_lem};

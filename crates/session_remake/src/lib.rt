@@ -1,4 +1,7 @@
 // What is known of the lines of a state made anew from them without the last one.
+
+#![tactic(auto)]
+
 ghost use Rattle.std.specs.Prelude.{◌≡◌, true, ◌<◌, ◌≤◌, length};
 ghost use Rattle.lines.specs.Limits.{max_variables};
 ghost use Rattle.lines.specs.Valid.{LinesOk};

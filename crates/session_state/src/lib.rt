@@ -1,5 +1,8 @@
 // The state of a session in the numbers of one lent buffer: how it is laid out, whether some numbers are one, and what is
 // read from it and written to it.
+
+#![tactic(auto)]
+
 ghost use Rattle.std.specs.Prelude.{◌≡◌, true, ◌++◌, ◌+◌, ◌*◌, ◌<◌, ◌≤◌, pos, nat_abs, length, drop};
 ghost use Rattle.integers.specs.Integer.{◌⩽◌};
 ghost use Rattle.lines.specs.Limits.{line_size, max_variables, max_lines};
@@ -27,7 +30,7 @@ const LEAST: i64 = i32::MIN as i64;
 const GREATEST: i64 = i32::MAX as i64;
 
 // What stands before the lines.
-#[derive(Drop)]
+#[derive(Clone, Copy)]
 pub struct Head {
     pub n: usize,
     pub count: usize,

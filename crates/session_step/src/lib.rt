@@ -1,5 +1,8 @@
 // One more step in a table of distances, in time that grows with the table's size and not with the list's. The table may
 // hold any numbers: one that is beyond all distances is read as no walk.
+
+#![tactic(auto)]
+
 ghost use Rattle.std.specs.Prelude.{◌≡◌, ◌*◌, ◌<◌, ◌≤◌, length};
 ghost use Rattle.theory_walks.specs.Negative.{not_below0};
 ghost use Rattle.decide_rows.specs.Stored.{stored};

@@ -1,4 +1,7 @@
 // The table of distances of a list, made anew in place: from the start table, one line after the other.
+
+#![tactic(auto)]
+
 ghost use Rattle.std.specs.Prelude.{◌≡◌};
 ghost use Rattle.lines.specs.Valid.{LinesOk};
 ghost use Rattle.session_step.specs.Read.{SizedTable};

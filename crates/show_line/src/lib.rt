@@ -1,4 +1,7 @@
 // Showing a line: a refutation of the list against the line, where every solution of the list meets the line.
+
+#![tactic(auto)]
+
 ghost use Rattle.std.specs.Prelude.{◌≡◌, ◌≤◌};
 ghost use Rattle.lines.specs.Limits.{max_variables};
 ghost use Rattle.decide_buffers.specs.Room.{first_short};
@@ -14,7 +17,7 @@ use longer_list::MOST_NUMBERS;
 use shown_list::write_against;
 
 // A showing is written; some solution does not meet the line; or a refusal.
-#[derive(Drop)]
+#[derive(Clone, Copy)]
 pub enum ShowAnswer {
     Shown,
     NotShown,

@@ -1,4 +1,7 @@
 // A list against a line, in a buffer: the list, lines 0 <= 0 up to the most lines, and behind these the opposite of the line.
+
+#![tactic(auto)]
+
 ghost use Rattle.std.specs.Prelude.{◌≡◌};
 ghost use Rattle.shown_list.specs.Against.{against};
 ghost use Rattle.shown_list.specs.Written.{AgainstReady};

@@ -1,4 +1,7 @@
 // The steps of a list's lines, by the specification's table, and the step with a given number.
+
+#![tactic(auto)]
+
 ghost use Rattle.std.specs.Prelude.{◌≡◌, ◌<◌, pos, nat_abs, ◌*ℤ◌};
 ghost use Rattle.integers.specs.Integer.{Within};
 ghost use Rattle.lines.specs.Limits.{max_variables, work_constant};
@@ -12,7 +15,7 @@ use lines::limits::LINE_SIZE;
 use lines::{Line, line_at};
 
 // A step goes from a point to a point: it says that the value of `from` less that of `to` is at most the weight.
-#[derive(Drop)]
+#[derive(Clone, Copy)]
 pub struct Step {
     pub from: usize,
     pub to: usize,
@@ -20,7 +23,7 @@ pub struct Step {
 }
 
 // What a step number names.
-#[derive(Drop)]
+#[derive(Clone, Copy)]
 pub enum NamedStep {
     Found(Step),
     Nothing,
@@ -28,7 +31,7 @@ pub enum NamedStep {
 
 // A side's three entries of the specification's table: start, end and weight factor. An end is a place of the line and a
 // sign: 0 is x+, 1 is x-, 2 is y+, 3 is y-. A factor of 0 says that there is no step.
-#[derive(Drop)]
+#[derive(Clone, Copy)]
 pub struct Side {
     pub start: usize,
     pub end: usize,

@@ -1,4 +1,7 @@
 // Choices of a tree, by their tree: the lines that a choice picks get a flag.
+
+#![tactic(auto)]
+
 ghost use Rattle.std.specs.Prelude.{◌≡◌, ◌/◌, ◌%◌, set};
 ghost use Rattle.tree_reading.specs.Tree.{all, any, max_depth};
 ghost use Rattle.tree_choices.specs.Choosing.{marked, chosen, choice_of};

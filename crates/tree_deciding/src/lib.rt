@@ -1,5 +1,8 @@
 // What the questions about a tree over the lines of a list answer; and the one of a choice by its number, which is decided
 // as a list.
+
+#![tactic(auto)]
+
 ghost use Rattle.std.specs.Prelude.{◌≡◌};
 ghost use Rattle.lines.specs.Valid.{ListOk};
 ghost use Rattle.tree_lists.specs.Numbered.{numbered_list};
@@ -15,14 +18,14 @@ use tree_lists::{MOST_NUMBERS, write_choice};
 use tree_reading::{Reading, TreeRefusal, tree_number_and_place};
 
 // A refusal that deciding has too, of the list or of what is lent; or one of the tree.
-#[derive(Drop)]
+#[derive(Clone, Copy)]
 pub enum ConditionRefusal {
     Deciding(Refusal),
     Tree(TreeRefusal),
 }
 
 // Yes, with the number of the choice; no; or a refusal.
-#[derive(Drop)]
+#[derive(Clone, Copy)]
 pub enum TreeAnswer {
     Yes(usize),
     No,

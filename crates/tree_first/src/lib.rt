@@ -1,4 +1,7 @@
 // The first choice with a solution, of a tree over the lines of a list: one choice is tried after the other.
+
+#![tactic(auto)]
+
 ghost use Rattle.std.specs.Prelude.{◌<◌};
 ghost use Rattle.tree_deciding.specs.Answer.{tree_over, AnswersFirst};
 ghost use Rattle.tree_first.specs.Tried.{TryAsked, Tried, FirstTried};

@@ -1,4 +1,7 @@
 // The list of a choice: the whole list, with zeros for each line that is not picked.
+
+#![tactic(auto)]
+
 ghost use Rattle.std.specs.Prelude.{◌≡◌, ◌++◌, ◌<◌, length, drop};
 ghost use Rattle.tree_lists.specs.Masked.{is_picked_lem, masked_number_lem, masked_into};
 ghost use Rattle.tree_lists.specs.Numbered.{numbered_list, ChoiceReady};

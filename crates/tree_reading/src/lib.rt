@@ -1,5 +1,8 @@
 // Trees over the lines of a list, as numbers in reading order: 1 and a child count is all-of, 2 and a child count any-of,
 // 3 and a line number a line. They are read, their choices counted, and the first refusal of them found.
+
+#![tactic(auto)]
+
 ghost use Rattle.std.specs.Prelude.{◌≡◌, ◌<◌, min, length};
 ghost use Rattle.tree_reading.specs.Tree.{all, any};
 ghost use Rattle.tree_reading.specs.Refusal.{tree_number, tree_place};
@@ -20,7 +23,7 @@ pub const MAX_DEPTH: usize = 8;
 pub const MAX_CHOICES: usize = 256;
 
 // What is wrong with a tree, each with the index of the number at fault; or that it has no choice with this number.
-#[derive(Drop)]
+#[derive(Clone, Copy)]
 pub enum TreeRefusal {
     TooManyChoices(usize),
     Malformed(usize),
@@ -29,7 +32,7 @@ pub enum TreeRefusal {
 }
 
 // What the first two numbers of a node say: a line, a number of children, or a refusal.
-#[derive(Drop)]
+#[derive(Clone, Copy)]
 pub enum Head {
     Line,
     Children(u32),
@@ -38,14 +41,14 @@ pub enum Head {
 
 // A node that was read: where the next one begins, its choices (one above the most for any higher number), and the first
 // node in it with more than the most, or the length of the numbers if there is none.
-#[derive(Drop)]
+#[derive(Clone, Copy)]
 pub struct Node {
     pub end: usize,
     pub choices: usize,
     pub over: usize,
 }
 
-#[derive(Drop)]
+#[derive(Clone, Copy)]
 pub enum Reading {
     Read(Node),
     Refused(TreeRefusal),
