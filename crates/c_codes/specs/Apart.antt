@@ -1,7 +1,7 @@
 -- The number returned tells refusals apart, from each other and from every other answer.
 use Rattle.std.specs.Prelude.{◌≡◌, ℕ, ◌+◌, ◌*◌, ◌<◌, pos, neg_ℤ}
 use Rattle.std.proofs.Common.{arith}
-use Rattle.integers.specs.Linear.{ints}
+use Rattle.integers.proofs.Linear.{ints}
 use Rattle.lines.specs.declared.Refusal.{Refusal}
 use Rattle.lines.specs.Refusal.{number_of, place_of}
 use Rattle.lines.specs.Numbers.{number_some, one_refusal}

@@ -1,7 +1,7 @@
 -- What the questions promise gives what is returned; and the struct tells the answers apart.
 use Rattle.std.specs.Prelude.{◌≡◌, refl, List, ℕ, ◌<◌, ℤ, pos}
 use Rattle.std.proofs.Common.{sym, ap, subst, ◌∙◌, arith}
-use Rattle.integers.specs.Linear.{ints}
+use Rattle.integers.proofs.Linear.{ints}
 use Rattle.decide_buffers.specs.Room.{Lent, ModelLent}
 use Rattle.c_codes.specs.Codes.{no_code}
 use Rattle.c_codes.specs.Apart.{same_pos}

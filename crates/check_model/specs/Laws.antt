@@ -8,8 +8,8 @@ use Rattle.std.proofs.Math.ListN.{drop}
 use Rattle.std.specs.Int.Signed.{lt_z}
 use Rattle.std.specs.Int.{w64}
 use Rattle.integers.specs.Integer.{◌⩽◌, is_within_lem, Within}
-use Rattle.integers.specs.Linear.{ints, zs}
-use Rattle.integers.specs.Laws.{is_within}
+use Rattle.integers.proofs.Linear.{ints, zs}
+use Rattle.integers.proofs.Halving.{is_within}
 use Rattle.lines.specs.declared.Refusal.TheVariants.{BadValue}
 use Rattle.lines.specs.declared.Validity.TheVariants.{Valid}
 use Rattle.lines.specs.Limits.{max_value}

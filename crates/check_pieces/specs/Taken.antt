@@ -3,7 +3,8 @@ use Rattle.std.specs.Prelude.{◌≡◌, refl, Bool, true, false, not, cond, ◌
 use Rattle.std.proofs.Common.{ap, arith, lt-ltb, le-ltb, ltb-true, ltb-false}
 use Rattle.std.proofs.lemmas.Bool.{not-true}
 use Rattle.integers.specs.Integer.{is_within_lem, Within}
-use Rattle.integers.specs.Laws.{never, and_true, is_within, within_is}
+use Rattle.integers.specs.Laws.{never, and_true}
+use Rattle.integers.proofs.Halving.{is_within, within_is}
 use Rattle.lines.specs.declared.Refusal.TheVariants.{LongRefutation}
 use Rattle.lines.specs.declared.Validity.{Validity}
 use Rattle.lines.specs.declared.Validity.TheVariants.{Valid, Refused}

@@ -3,7 +3,7 @@
 use Rattle.std.specs.Prelude.{◌≡◌, refl, Bool, true, false, not, cond, ◌&&◌, List, [], ◌∷◌, ◌++◌, ℕ, ◌+◌, ◌*◌, ◌^◌, ◌<◌, ◌≤◌, eqb, ltb, ℤ, pos, ◌+ℤ◌, length}
 use Rattle.std.proofs.Common.{◌∙◌, mul-le-mul_left, mul-le-mul_right, arith}
 use Rattle.integers.specs.Integer.{Within}
-use Rattle.integers.specs.Linear.{ints, given, given₂}
+use Rattle.integers.proofs.Linear.{ints, given, given₂}
 use Rattle.lines.specs.Limits.{max_refutation}
 use Rattle.steps.specs.declared.Step.{Step}
 use Rattle.steps.specs.declared.NamedStep.{NamedStep}

@@ -2,7 +2,7 @@
 use Rattle.std.specs.Prelude.{◌≡◌, List, ℕ, ◌≤◌, ℤ, pos, replicate}
 use Rattle.std.proofs.Common.{arith, ltb-false}
 use Rattle.integers.specs.Integer.{Within}
-use Rattle.integers.specs.Linear.{ints, given}
+use Rattle.integers.proofs.Linear.{ints, given}
 use Rattle.lines.specs.declared.Line.{Line}
 use Rattle.lines.specs.declared.Validity.TheVariants.{Valid}
 use Rattle.lines.specs.Limits.{max_variables, max_refutation, shown_constant_lem}

@@ -7,7 +7,7 @@ use Rattle.std.proofs.Math.ListN.{length, take, drop, length-drop}
 use Rattle.std.proofs.Math.Seq.{length-take-le}
 use Rattle.std.specs.Int.Signed.{lt_z}
 use Rattle.integers.specs.Integer.{◌⋖◌, half}
-use Rattle.integers.specs.Linear.{ints}
+use Rattle.integers.proofs.Linear.{ints}
 use Rattle.integers.specs.Laws.{and_true, both_true}
 use Rattle.lines.specs.Line.{line_at, line_count, is_false_lem}
 use Rattle.steps.specs.declared.Step.{Step}

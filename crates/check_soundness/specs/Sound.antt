@@ -2,7 +2,7 @@
 use Rattle.std.specs.Prelude.{◌≡◌, true, List, [], ◌∷◌, ◌++◌, ℕ, ◌%◌, ℤ, pos, neg_ℤ, ◌+ℤ◌, ◌-ℤ◌, length, drop}
 use Rattle.std.proofs.Common.{ap, subst, ◌∙◌, arith}
 use Rattle.integers.specs.Integer.{◌⩽◌, ◌⋖◌, half}
-use Rattle.integers.specs.Linear.{ints}
+use Rattle.integers.proofs.Linear.{ints}
 use Rattle.lines.specs.Limits.{line_size}
 use Rattle.lines.specs.Line.{Assignment, Solves, lines_of, is_false_lem}
 use Rattle.lines.specs.Valid.{LinesOk}
@@ -11,7 +11,7 @@ use Rattle.steps.specs.declared.Step.{Step}
 use Rattle.steps.specs.Point.{value, value_opposite}
 use Rattle.steps.specs.Step.{Holds}
 use Rattle.steps.specs.Laws.{numbered_longer}
-use Rattle.steps.specs.Meaning.{numbered_holds, no_false_line}
+use Rattle.steps.proofs.Meaning.{numbered_holds, no_false_line}
 use Rattle.steps.specs.Walk.{Names, AllSay, total, walk_says}
 use Rattle.check_refutation.specs.Progress.{head_size, accepts}
 use Rattle.check_soundness.specs.Refutes.{Walk, FalseStep, Refutes, kind_1, kind_2, kind_3}

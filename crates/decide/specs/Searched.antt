@@ -18,7 +18,8 @@ use Rattle.theory_bounds.specs.Verdict.{has_false, first_false_lem, distances, h
 use Rattle.theory_answers.specs.Refuted.{Due, due_false, kind_negative, kind_halves}
 use Rattle.decide_rows.specs.Table.{table_start, stored_table}
 use Rattle.decide_stored_table.specs.Table.{table_of, ShortTable}
-use Rattle.theory_bounds.specs.Agree.{Agree, ok_same, all_ok_same}
+use Rattle.theory_bounds.specs.Agree.{Agree}
+use Rattle.theory_bounds.proofs.AgreeHalves.{ok_same, all_ok_same}
 use Rattle.integers.specs.Lowest.{first_failing_lem, none_fails, first_failing}
 use Rattle.decide_buffers.specs.Room.{refutation_room_lem}
 use Rattle.decide_false_line.specs.False.{false_none}

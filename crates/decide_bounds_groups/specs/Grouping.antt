@@ -7,7 +7,7 @@ use Rattle.std.proofs.Math.ListN.{get_or-append}
 use Rattle.std.specs.Int.Signed.{le_z}
 use Rattle.std.specs.Int.{w64}
 use Rattle.integers.specs.Integer.{eq_z, Within}
-use Rattle.integers.specs.Linear.{ints, zs}
+use Rattle.integers.proofs.Linear.{ints, zs}
 use Rattle.integers.specs.Laws.{eq_eq_z, ne_eq_z}
 use Rattle.integers.specs.Sequence.{tabulate, length_tabulate, get_d_tabulate}
 use Rattle.integers.specs.Fill.{filled, filled_more}

@@ -4,7 +4,7 @@ use Rattle.std.proofs.Common.{sym, ap, ◌∙◌, arith, SFits}
 use Rattle.std.specs.Int.Signed.{le_z, lt_z}
 use Rattle.std.specs.Int.{w64}
 use Rattle.integers.specs.Integer.{Within}
-use Rattle.integers.specs.Linear.{ints, zs}
+use Rattle.integers.proofs.Linear.{ints, zs}
 use Rattle.theory_walks.specs.Distance.{Distance, none, some}
 use Rattle.lines.specs.Limits.{absent_least}
 use Rattle.theory_bounds.specs.Answers.{least_of, not_above0}

@@ -5,7 +5,7 @@ use Rattle.std.proofs.Math.Path.{ap}
 use Prim.Native.Nat.{ℕ, zero, suc, ◌+◌, ◌*◌, ◌<◌, ◌≤◌}
 use Rattle.std.specs.Int.{w32, w64}
 use Rattle.integers.specs.Integer.{◌⩽◌, Within}
-use Rattle.integers.specs.Linear.{ints, zs}
+use Rattle.integers.proofs.Linear.{ints, zs}
 use Rattle.lines.specs.Limits.{max_variables, model_constant}
 use Rattle.lines.specs.Line.{number, assignment_of}
 use Rattle.steps.specs.Point.{point, opposite}

@@ -4,7 +4,7 @@ use Rattle.std.proofs.Math.Path.{sym, ap}
 use Rattle.std.proofs.Common.{◌∙◌, arith}
 use Rattle.std.specs.Int.Signed.{lt_z}
 use Rattle.integers.specs.Integer.{max_z}
-use Rattle.integers.specs.Linear.{ints}
+use Rattle.integers.proofs.Linear.{ints}
 use Rattle.theory_walks.specs.Distance.{Distance, none, some, min_d}
 use Rattle.theory_bounds.specs.Near.{above, at_most, near}
 use Rattle.decide_rows.specs.Stored.{stored}

@@ -10,7 +10,7 @@ use Rattle.std.proofs.Math.Decide.{dec_lt}
 use Rattle.std.proofs.Math.ListN.{length, length-append, get_or-append}
 use Rattle.std.proofs.lemmas.List.{get_or_at}
 use Rattle.integers.specs.Integer.{is_within_lem, Within}
-use Rattle.integers.specs.Laws.{is_within, within_is}
+use Rattle.integers.proofs.Halving.{is_within, within_is}
 use Rattle.integers.specs.Sequence.{tabulate, tabulate_add, tabulate_cong, length_tabulate, grow}
 use Rattle.lines.specs.Line.{number}
 use Rattle.theory_bounds.specs.Tight.{Table}

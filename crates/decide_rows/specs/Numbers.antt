@@ -20,7 +20,7 @@ use Rattle.steps.specs.declared.NamedStep.{NamedStep}
 use Rattle.steps.specs.declared.NamedStep.TheVariants.{Found, Nothing}
 use Rattle.steps.specs.Step.{max_weight, step_of, step_numbered_lem, steps_of, named}
 use Rattle.steps.specs.Laws.{numbered_weight}
-use Rattle.steps.specs.Mirror.{line_step_known}
+use Rattle.steps.proofs.Mirror.{line_step_known}
 use Rattle.theory_walks.specs.Row.{In}
 use Rattle.theory_walks.specs.Size.{WithinWeights}
 

@@ -4,7 +4,7 @@ use Rattle.std.proofs.Common.{sym, ap, ap₂, ◌∙◌, inl, inr, not-suc-le-ze
 use Rattle.std.specs.Int.Signed.{le_z}
 use Rattle.std.specs.Int.{w64}
 use Rattle.integers.specs.Integer.{◌⩽◌, ◌⋖◌, min_z, eq_z, Within}
-use Rattle.integers.specs.Linear.{ints, zs, given}
+use Rattle.integers.proofs.Linear.{ints, zs, given}
 use Rattle.integers.specs.Laws.{eq_eq_z, eq_z_true, ne_eq_z}
 use Rattle.lines.specs.Limits.{max_variables}
 use Rattle.lines.specs.Line.{number}

@@ -8,7 +8,7 @@ use Rattle.std.proofs.Math.ListN.{drop}
 use Rattle.std.proofs.lemmas.List.{length-map}
 use Rattle.std.specs.Int.Signed.{le_z}
 use Rattle.integers.specs.Integer.{◌⋖◌}
-use Rattle.integers.specs.Linear.{ints}
+use Rattle.integers.proofs.Linear.{ints}
 use Rattle.lines.specs.Limits.{max_variables}
 use Rattle.lines.specs.Line.{number, lines_of}
 use Rattle.lines.specs.Valid.{LinesOk, all_ok}

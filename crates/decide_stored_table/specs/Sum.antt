@@ -4,7 +4,7 @@ use Rattle.std.proofs.Common.{sym, ap, ap₂, ◌∙◌, inl, inr, arith, SFits}
 use Rattle.std.specs.Int.Signed.{lt_z}
 use Rattle.std.specs.Int.{w64}
 use Rattle.integers.specs.Integer.{◌⩽◌, half, min_z, eq_z, Within}
-use Rattle.integers.specs.Linear.{ints, zs, given}
+use Rattle.integers.proofs.Linear.{ints, zs, given}
 use Rattle.integers.specs.Laws.{never, eq_z_true}
 use Rattle.theory_walks.specs.Distance.{Distance, none, some, min_d, ◌⊞◌, half_d, min_one_z}
 use Rattle.theory_walks.specs.Size.{within_sum}

@@ -3,7 +3,7 @@ use Rattle.std.specs.Prelude.{◌≡◌, refl, Bool, true, false, cond, List, �
 use Rattle.std.proofs.Common.{sym, ◌∙◌, arith, below_more, eqb-true, eq-eqb, ne_eqb, SFits}
 use Rattle.std.specs.Int.{w64}
 use Rattle.integers.specs.Integer.{eq_z, Within}
-use Rattle.integers.specs.Linear.{ints, zs}
+use Rattle.integers.proofs.Linear.{ints, zs}
 use Rattle.integers.specs.Laws.{never, eq_eq_z, eq_z_true, ne_eq_z}
 use Rattle.lines.specs.Limits.{max_variables}
 use Rattle.lines.specs.Line.{line_at, line_count}
@@ -13,7 +13,7 @@ use Rattle.steps.specs.declared.NamedStep.{NamedStep}
 use Rattle.steps.specs.declared.NamedStep.TheVariants.{Found, Nothing}
 use Rattle.steps.specs.Step.{max_weight, step_numbered_lem}
 use Rattle.steps.specs.Laws.{from_line}
-use Rattle.steps.specs.Mirror.{line_step_known}
+use Rattle.steps.proofs.Mirror.{line_step_known}
 use Rattle.lines.specs.Limits.{absent_greatest}
 
 -- an entry of a row as it is stored

@@ -8,7 +8,7 @@ use Rattle.std.proofs.Math.Decide.{dec_lt}
 use Rattle.std.proofs.Math.ListN.{take, length-append, length-drop}
 use Rattle.std.proofs.lemmas.List.{length-map, drop-append-le, set_at}
 use Rattle.std.proofs.Math.Seq.{take-nil, take-length, take-append-le}
-use Rattle.integers.specs.Linear.{ints}
+use Rattle.integers.proofs.Linear.{ints}
 use Rattle.lines.specs.Limits.{max_variables}
 use Rattle.lines.specs.Line.{lines_of}
 use Rattle.lines.specs.Valid.{LinesOk, all_ok}

@@ -2,7 +2,7 @@
 use Rattle.std.specs.Prelude.{◌≡◌, refl, true, List, [], ◌∷◌, ◌++◌, ℕ, ◌+◌, ◌*◌, ◌<◌, ◌≤◌, ℤ, pos, ◌+ℤ◌, length, take, drop}
 use Rattle.std.proofs.Common.{sym, ap, ap₂, subst, ◌∙◌, inr, append_assoc, arith, length-append, length-drop, take_at, drop_at, length-take-le, drop-drop}
 use Rattle.integers.specs.Integer.{◌⋖◌, half}
-use Rattle.integers.specs.Linear.{ints}
+use Rattle.integers.proofs.Linear.{ints}
 use Rattle.lines.specs.Limits.{max_variables, work_lines}
 use Rattle.lines.specs.Line.{line_count, lines_of}
 use Rattle.lines.specs.Valid.{LinesOk}

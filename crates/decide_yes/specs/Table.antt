@@ -2,7 +2,7 @@
 use Rattle.std.specs.Prelude.{◌≡◌, true, List, ℕ, ◌*◌, ◌<◌, ◌≤◌, ℤ, nat_abs}
 use Rattle.std.proofs.Common.{ap, ◌∙◌, mul-le-mul_right, arith}
 use Rattle.integers.specs.Integer.{Within}
-use Rattle.integers.specs.Laws.{abs_within}
+use Rattle.integers.proofs.Halving.{abs_within}
 use Rattle.integers.specs.Sequence.{tabulate, tabulate_cong}
 use Rattle.lines.specs.Limits.{max_variables, model_constant}
 use Rattle.lines.specs.Line.{lines_of, assignment_of}

@@ -8,7 +8,7 @@ use Rattle.std.proofs.Common.{sym, ap₂, subst, ◌∙◌, arith, take_at, drop
 use Rattle.std.proofs.Math.Path.{ap}
 use Rattle.std.proofs.Math.Logic.{Iff·trans}
 use Rattle.integers.specs.Integer.{◌⩽◌, ◌⋖◌}
-use Rattle.integers.specs.Linear.{ints}
+use Rattle.integers.proofs.Linear.{ints}
 use Rattle.integers.specs.Laws.{never}
 use Rattle.integers.specs.Sequence.{length_tabulate}
 use Rattle.lines.specs.declared.Line.{Line}

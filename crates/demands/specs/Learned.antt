@@ -8,8 +8,9 @@ use Rattle.std.proofs.Common.{ap, ap₂, ◌∙◌, inl, inr, arith}
 use Rattle.std.proofs.Math.Decide.{dec_lt}
 use Rattle.std.specs.Int.Signed.{le_z, lt_z}
 use Rattle.integers.specs.Integer.{◌⩽◌, ◌⋖◌, Within}
-use Rattle.integers.specs.Linear.{ints}
-use Rattle.integers.specs.Laws.{both_true, within_is}
+use Rattle.integers.proofs.Linear.{ints}
+use Rattle.integers.specs.Laws.{both_true}
+use Rattle.integers.proofs.Halving.{within_is}
 use Rattle.lines.specs.declared.Line.{Line}
 use Rattle.lines.specs.declared.Validity.TheVariants.{Valid}
 use Rattle.lines.specs.Limits.{max_constant, shown_constant_lem, absent_least, absent_greatest}

@@ -13,7 +13,7 @@ use Rattle.lines.specs.Fits.{numbers_fit}
 use Rattle.file_records.specs.declared.FileRefusal.{FileRefusal}
 use Rattle.file_records.specs.declared.FileRefusal.TheVariants.{List as OfList}
 use Rattle.file_records.specs.Refusal.{file_number, file_place}
-use Rattle.file_records.specs.Laid.{laid_scan}
+use Rattle.file_records.proofs.Reading.{laid_scan}
 use Rattle.file_list.specs.declared.Listed.{Listed}
 use Rattle.file_list.specs.declared.ReadAnswer.TheVariants.{Read, Refused}
 use Rattle.file_list.specs.File.{file_of, file_list_lem}

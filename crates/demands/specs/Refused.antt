@@ -9,8 +9,9 @@ use Rattle.std.proofs.lemmas.Bool.{false≢true, not-true}
 use Rattle.std.proofs.Math.Decide.{ℕ_discrete}
 use Rattle.std.specs.Int.Signed.{le_z, lt_z}
 use Rattle.integers.specs.Integer.{◌⩽◌, ◌⋖◌, eq_z, is_within_lem, Within}
-use Rattle.integers.specs.Linear.{ints, zs, given}
-use Rattle.integers.specs.Laws.{never, is_within, eq_z_true, eq_eq_z}
+use Rattle.integers.proofs.Linear.{ints, zs, given}
+use Rattle.integers.specs.Laws.{never, eq_z_true, eq_eq_z}
+use Rattle.integers.proofs.Halving.{is_within}
 use Rattle.integers.specs.Table.{all_below, below_at}
 use Rattle.integers.specs.Lowest.{first_failing_lem, first_failing}
 use Rattle.lines.specs.declared.Line.{Line}

@@ -10,7 +10,7 @@ use Rattle.std.specs.Float.{nan, binary64}
 use Rattle.std.specs.Float.Ieee.{of_int, round, le, is_nan}
 use Rattle.std.specs.Float.Ieee.Exact.{HasValue}
 use Rattle.integers.specs.Integer.{◌⩽◌, Within}
-use Rattle.integers.specs.Laws.{within_is, abs_within}
+use Rattle.integers.proofs.Halving.{within_is, abs_within}
 use Rattle.lines.specs.Valid.{valid_list}
 use Rattle.decide.specs.declared.Answer.TheVariants as decide
 use Rattle.decide.specs.Parts.{model_in_lem}

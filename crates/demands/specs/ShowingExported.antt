@@ -4,7 +4,7 @@ use Rattle.std.specs.Prelude.{◌≡◌, refl, ◌↔◌, Bool, true, false, con
 use Rattle.std.proofs.Common.{sym, ap, subst, ◌∙◌, arith, SFits}
 use Rattle.std.specs.Int.{w32}
 use Rattle.integers.specs.Integer.{◌⩽◌, ◌⋖◌}
-use Rattle.integers.specs.Linear.{ints}
+use Rattle.integers.proofs.Linear.{ints}
 use Rattle.integers.specs.Laws.{never}
 use Rattle.lines.specs.declared.Line.{Line}
 use Rattle.lines.specs.declared.Refusal.{Refusal}

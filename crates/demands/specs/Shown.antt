@@ -4,7 +4,7 @@ use Rattle.std.proofs.Common.{arith}
 use borrow.Author.Tests.{eq-eqb}
 use Rattle.std.proofs.Math.IntN.{nat_abs}
 use Rattle.std.proofs.Math.ListN.{length}
-use Rattle.integers.specs.Laws.{within_is, abs_within}
+use Rattle.integers.proofs.Halving.{within_is, abs_within}
 use Rattle.lines.specs.declared.Validity.TheVariants.{Valid}
 use Rattle.lines.specs.Limits.{max_constant, max_value}
 use Rattle.lines.specs.Line.{lines_of, assignment_of}

@@ -7,8 +7,9 @@ use Rattle.std.proofs.Common.{sym, ap, ◌∙◌, inl, inr, arith, SFits}
 use Rattle.std.specs.Int.{w32}
 use Rattle.std.specs.Int.Signed.{le_z, lt_z}
 use Rattle.integers.specs.Integer.{◌⩽◌, ◌⋖◌, eq_z, Within}
-use Rattle.integers.specs.Linear.{ints, given, given₂}
-use Rattle.integers.specs.Laws.{both_true, abs_within}
+use Rattle.integers.proofs.Linear.{ints, given, given₂}
+use Rattle.integers.specs.Laws.{both_true}
+use Rattle.integers.proofs.Halving.{abs_within}
 use Rattle.integers.specs.Sequence.{length_tabulate}
 use Rattle.lines.specs.declared.Line.{Line}
 use Rattle.lines.specs.declared.Validity.TheVariants.{Valid}

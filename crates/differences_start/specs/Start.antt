@@ -3,7 +3,7 @@ use Rattle.std.specs.Prelude.{◌≡◌, refl, List, [], ◌∷◌, ℕ, ◌+◌
 use Rattle.std.proofs.Common.{sym, subst, ◌∙◌, arith}
 use Rattle.std.proofs.Math.Decide.{ℕ_discrete}
 use Rattle.integers.specs.Integer.{◌⩽◌, ◌⋖◌, Within}
-use Rattle.integers.specs.Linear.{ints, zs}
+use Rattle.integers.proofs.Linear.{ints, zs}
 use Rattle.lines.specs.Limits.{max_variables}
 use Rattle.lines.specs.Line.{number, line_at, line_count}
 use Rattle.steps.specs.declared.Step.{Step}

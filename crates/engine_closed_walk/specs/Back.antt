@@ -3,7 +3,7 @@ use Rattle.std.specs.Prelude.{◌≡◌, false, List, ℕ, ◌+◌, ◌*◌, ◌
 use Rattle.std.proofs.Common.{arith}
 use Rattle.std.specs.Int.Signed.{lt_z}
 use Rattle.integers.specs.Integer.{◌⩽◌}
-use Rattle.integers.specs.Linear.{ints}
+use Rattle.integers.proofs.Linear.{ints}
 use Rattle.lines.specs.Limits.{max_variables}
 use Rattle.lines.specs.Line.{line_count}
 use Rattle.lines.specs.Valid.{LinesOk}

@@ -3,7 +3,7 @@ use Rattle.std.specs.Prelude.{◌≡◌, refl, List, [], ◌∷◌, ℕ, ◌+◌
 use Rattle.std.proofs.Common.{subst, arith, SFits}
 use Rattle.std.specs.Int.{w64}
 use Rattle.integers.specs.Integer.{Within}
-use Rattle.integers.specs.Linear.{ints, zs}
+use Rattle.integers.proofs.Linear.{ints, zs}
 use Rattle.lines.specs.Limits.{max_variables, work_lines}
 use Rattle.lines.specs.Line.{line_count}
 use Rattle.lines.specs.Valid.{LinesOk}

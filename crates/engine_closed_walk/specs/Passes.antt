@@ -5,7 +5,7 @@ use Rattle.std.proofs.Math.Decide.{ℕ_discrete}
 use Rattle.std.proofs.Common.{arith, get_or-set_same, get_or-set_other, SFits}
 use Rattle.std.specs.Int.{w64}
 use Rattle.integers.specs.Integer.{◌⩽◌, ◌⋖◌, Within}
-use Rattle.integers.specs.Linear.{ints, zs}
+use Rattle.integers.proofs.Linear.{ints, zs}
 use Rattle.lines.specs.Line.{number}
 use Rattle.steps.specs.Step.{max_weight}
 use Rattle.engine_packed_steps.specs.Steps.{StepOk, StepsReady, ReadReady}

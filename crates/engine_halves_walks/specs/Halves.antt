@@ -3,7 +3,7 @@ use Rattle.std.specs.Prelude.{◌≡◌, refl, Bool, true, false, List, ◌∷�
 use Rattle.std.proofs.Common.{ap, ap₂, subst, ◌∙◌, arith, length-append, SFits}
 use Rattle.std.specs.Int.{w64}
 use Rattle.integers.specs.Integer.{◌⋖◌, half, Within}
-use Rattle.integers.specs.Linear.{ints, zs}
+use Rattle.integers.proofs.Linear.{ints, zs}
 use Rattle.integers.specs.Laws.{never}
 use Rattle.steps.specs.Point.{opposite}
 use Rattle.steps.specs.Walk.{Path}

@@ -4,7 +4,7 @@ use Rattle.std.specs.Prelude.{◌≡◌, refl, ◌⊎◌, List, [], ◌∷◌, �
 use Rattle.std.proofs.Common.{sym, ap, subst, ◌∙◌, inl, inr, ⊎_elim, append-nil, mul-le-mul_right, arith, get_or-set_same, get_or-set_other}
 use Rattle.std.proofs.Math.Decide.{ℕ_discrete, dec_lt}
 use Rattle.integers.specs.Integer.{◌⩽◌, ◌⋖◌}
-use Rattle.integers.specs.Linear.{ints, ≤ℤ_trans}
+use Rattle.integers.proofs.Linear.{ints, ≤ℤ_trans}
 use Rattle.lines.specs.Limits.{max_variables, work_lines}
 use Rattle.lines.specs.Line.{number, line_count}
 use Rattle.lines.specs.Valid.{LinesOk}

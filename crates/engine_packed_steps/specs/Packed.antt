@@ -4,7 +4,7 @@ use Rattle.std.proofs.Common.{◌∙◌, arith}
 use Rattle.std.specs.Int.{w64}
 use mir.Val.{Fits, SFits, bits, hbits}
 use Rattle.integers.specs.Integer.{◌⩽◌, Within}
-use Rattle.integers.specs.Linear.{ints, zs}
+use Rattle.integers.proofs.Linear.{ints, zs}
 use Rattle.lines.specs.Limits.{max_variables, max_lines}
 use Rattle.steps.specs.declared.Step.{Step}
 use Rattle.steps.specs.Step.{max_weight}

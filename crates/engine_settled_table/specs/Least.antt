@@ -3,7 +3,7 @@ use Rattle.std.specs.Prelude.{◌≡◌, refl, Bool, true, false, List, ℕ, ◌
 use Rattle.std.proofs.Common.{sym, ap, ◌∙◌, mul-le-mul_right, arith}
 use Rattle.std.specs.Int.Signed.{lt_z}
 use Rattle.integers.specs.Integer.{◌⩽◌, ◌⋖◌, half, Within}
-use Rattle.integers.specs.Linear.{ints}
+use Rattle.integers.proofs.Linear.{ints}
 use Rattle.lines.specs.Limits.{max_variables}
 use Rattle.steps.specs.declared.Step.{Step}
 use Rattle.steps.specs.Step.{max_weight}

@@ -4,7 +4,7 @@ use Rattle.std.proofs.Common.{ap, SFits}
 use Rattle.std.specs.Int.Signed.{lt_z}
 use Rattle.std.specs.Int.{w64}
 use Rattle.integers.specs.Integer.{◌⩽◌, half, Within}
-use Rattle.integers.specs.Linear.{ints, zs}
+use Rattle.integers.proofs.Linear.{ints, zs}
 use Rattle.theory_walks.specs.Distance.{Distance, none, some}
 use Rattle.engine_reduced_table.specs.Reduced.{far, max_potential}
 

@@ -4,7 +4,7 @@ use Rattle.std.proofs.Common.{sym, subst, inl, inr, arith, SFits}
 use Rattle.std.proofs.Math.Decide.{ℕ_discrete}
 use Rattle.std.specs.Int.{w64}
 use Rattle.integers.specs.Integer.{◌⩽◌, ◌⋖◌}
-use Rattle.integers.specs.Linear.{ints, zs}
+use Rattle.integers.proofs.Linear.{ints, zs}
 use Rattle.integers.specs.Laws.{never}
 use Rattle.lines.specs.Limits.{max_variables}
 use Rattle.lines.specs.Line.{number}

@@ -15,7 +15,8 @@ use Rattle.file_records.specs.declared.FileRefusal.{FileRefusal}
 use Rattle.file_records.specs.declared.Next.{Next}
 use Rattle.file_records.specs.declared.Next.TheVariants as next
 use Rattle.file_records.specs.Scan.{scan}
-use Rattle.file_records.specs.Laid.{Laid, scan_laid, laid_scan}
+use Rattle.file_records.specs.Laid.{Laid}
+use Rattle.file_records.proofs.Reading.{scan_laid, laid_scan}
 use Rattle.file_list.specs.declared.Listed.{Listed}
 use Rattle.file_list.specs.declared.ReadAnswer.{ReadAnswer}
 use Rattle.file_list.specs.declared.ReadAnswer.TheVariants.{Read, Refused}

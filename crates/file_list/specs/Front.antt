@@ -21,7 +21,8 @@ use Rattle.file_records.specs.declared.Next.TheVariants.{More, End, Refused}
 use Rattle.file_records.specs.Table.{header_size, variables_kind, identified_kind, body_size_lem, size_of, record_size_lem, le16, kind_at_lem, record_place, identifier_place}
 use Rattle.file_records.specs.Places.{longest, variables_record, identified_record, end_record, place_first, place_suc, place_most}
 use Rattle.file_records.specs.Scan.{start, taken, sized, next_record_lem, onward, scan_from, whole_file_lem, scan}
-use Rattle.file_records.specs.Laid.{Placed, Reached, Left, Scanned, next_left, start_reached, scanned, scan_laid}
+use Rattle.file_records.specs.Laid.{Placed, Reached, Left, Scanned, start_reached}
+use Rattle.file_records.proofs.Reading.{next_left, scanned, scan_laid}
 use Rattle.file_list.specs.File.{numbers_in, line_in, file_list_lem}
 use Rattle.file_list.specs.LineRecord.{numbers_few}
 use Rattle.file_list.specs.Read.{after_scan, read_answer}

@@ -1,18 +1,16 @@
 -- What the code keeps while it reads records.
-use Rattle.std.specs.Prelude.{◌≡◌, refl, Bool, true, false, List, get_or, take, drop}
-use Rattle.std.proofs.Common.{sym, ◌∙◌, add-zero, arith, get_or-take, get_or-drop}
+use Rattle.std.specs.Prelude.{◌≡◌, Bool, true, false, List, get_or, take, drop}
+use Rattle.std.proofs.Common.{◌∙◌, add-zero, arith, get_or-take, get_or-drop}
 use Rattle.std.proofs.Math.Path.{ap}
-use Prim.Native.Nat.{ℕ, zero, suc, ◌+◌, ◌*◌, ◌<◌, ◌≤◌}
+use Prim.Native.Nat.{ℕ, suc, ◌+◌, ◌*◌, ◌<◌, ◌≤◌}
 use Rattle.std.proofs.Math.ListN.{length}
 use Rattle.lines.specs.Limits.{line_size}
 use Rattle.little_endian.specs.Bytes.{le32}
 use Rattle.file_records.specs.declared.BodySize.TheVariants.{Known}
 use Rattle.file_records.specs.declared.Cursor.{Cursor}
-use Rattle.file_records.specs.declared.Next.{Next}
-use Rattle.file_records.specs.declared.Next.TheVariants.{More}
-use Rattle.file_records.specs.Table.{header_size, variables_kind, body_size_lem, le16}
-use Rattle.file_records.specs.Scan.{start, next_record_lem, onward, scan_from, whole_file_lem, scan}
-use Rattle.file_records.specs.Laid.{place_least, Placed, Reached, next_left, start_reached}
+use Rattle.file_records.specs.Table.{variables_kind, body_size_lem, le16}
+use Rattle.file_records.specs.Scan.{start, scan_from}
+use Rattle.file_records.specs.Laid.{place_least, Placed, Reached}
 
 -- what is kept of a cursor, so that no sum overflows
 pub record InFile (b : List ℕ) (c : Cursor) : Type 0 where
@@ -38,33 +36,6 @@ pub record Running (b : List ℕ) (room : ℕ) (c : Cursor) : Type 0 where
   pub turns : ℕ
   pub enough : length b < c.at + turns
   pub same : scan_from turns b room c ≡ scan_from (suc (length b)) b room start
-
-module _ (b : List ℕ) (room : ℕ) where
-  pub begins : Running b room start
-  begins = record { reached = start_reached b room; turns = suc (length b); enough = omega arith; same = refl }
-
-  -- one turn
-  turn : (k : ℕ) (c : Cursor) (m : Next) → next_record_lem b room c ≡ m → onward (scan_from k b room) m ≡ scan_from (suc k) b room c
-  unfolding scan_from
-  turn k c m e = ap (onward (scan_from k b room)) (sym e)
-
-  pub goes_on : (c d : Cursor) → Running b room c → next_record_lem b room c ≡ More d → Running b room d × (c.at < d.at)
-  goes_on c d h e = go h.turns h.enough h.same
-    where
-      l : Reached b room d × (c.at + header_size ≤ d.at)
-      l = rw e at (next_left b room c h.reached)
-
-      go : (k : ℕ) → length b < c.at + k → scan_from k b room c ≡ scan_from (suc (length b)) b room start → Running b room d × (c.at < d.at)
-      go zero p q = absurd (omega (arith, h.reached.within))
-      go (suc k) p q = (record { reached = l.0; turns = k; enough = omega (arith, l.1); same = turn k c (More d) e ∙ q }, omega (arith, l.1))
-
-  pub stops : (c : Cursor) → Running b room c → (m : Next) → next_record_lem b room c ≡ m → ((k : ℕ) → onward (scan_from k b room) m ≡ m) → whole_file_lem b m ≡ scan b room
-  unfolding scan
-  stops c h m e f = go h.turns h.enough h.same
-    where
-      go : (k : ℕ) → length b < c.at + k → scan_from k b room c ≡ scan_from (suc (length b)) b room start → whole_file_lem b m ≡ whole_file_lem b (scan_from (suc (length b)) b room start)
-      go zero p q = absurd (omega (arith, h.reached.within))
-      go (suc k) p q = ap (whole_file_lem b) (sym (f k) ∙ turn k c m e ∙ q)
 
 -- ---- a part of the file says what the file says there
 module _ (b : List ℕ) (at k : ℕ) where

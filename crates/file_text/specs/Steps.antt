@@ -6,7 +6,7 @@ use Rattle.std.proofs.lemmas.List.{set_split}
 use Rattle.std.proofs.Math.Seq.{append_snoc}
 use Rattle.std.specs.Int.{w64}
 use Rattle.integers.specs.Integer.{◌⩽◌, ◌⋖◌}
-use Rattle.integers.specs.Linear.{ints}
+use Rattle.integers.proofs.Linear.{ints}
 use Rattle.lines.specs.Limits.{absent_least, absent_greatest}
 use Rattle.file_text.specs.Text.{space, newline, minus, decimal_of, signed_text, bound_text, line_text, lines_text, followed, spaced}
 

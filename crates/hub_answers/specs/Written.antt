@@ -4,7 +4,7 @@ use Rattle.std.proofs.Math.Path.{sym}
 use Rattle.std.proofs.Common.{ap, ap₂, ◌∙◌, arith, ltb-true, lt-ltb, le-ltb, eq-eqb, ne_eqb, SFits}
 use Rattle.std.specs.Int.Signed.{le_z, lt_z}
 use Rattle.std.specs.Int.{w32}
-use Rattle.integers.specs.Linear.{ints}
+use Rattle.integers.proofs.Linear.{ints}
 use Rattle.integers.specs.Fill.{filled, filled_more}
 use Rattle.steps.specs.Point.{point, opposite}
 use Rattle.theory_walks.specs.Distance.{Distance, ◌⊞◌}

@@ -4,7 +4,7 @@ use Rattle.std.proofs.Common.{sym, arith, SFits}
 use Prim.Native.Nat.{ℕ, zero, suc, ◌+◌, ◌*◌, ◌<◌, ◌≤◌}
 use Rattle.std.specs.Int.{w64}
 use Rattle.integers.specs.Integer.{◌⩽◌, min_z, max_z, Within}
-use Rattle.integers.specs.Linear.{ints, zs}
+use Rattle.integers.proofs.Linear.{ints, zs}
 use Rattle.steps.specs.Point.{opposite}
 use Rattle.steps.specs.Step.{max_weight}
 use Rattle.theory_walks.specs.Distance.{Distance, none, some, ◌⊕◌}

@@ -5,8 +5,8 @@ use Rattle.std.specs.Int.Signed.{le_z, lt_z, mag}
 use Rattle.std.specs.Int.{w64}
 use mir.Val.{hbits, to_z, of_z}
 use Rattle.integers.specs.Integer.{Within}
-use Rattle.integers.specs.Linear.{ints}
-use Rattle.integers.specs.Bits.{kept}
+use Rattle.integers.proofs.Linear.{ints}
+use Rattle.integers.proofs.Bits.{kept}
 use Rattle.theory_walks.specs.Distance.{Distance, none, some, min_d, ◌⊕◌, ◌⊞◌, half_d}
 use Rattle.theory_walks.specs.Negative.{not_below0}
 use Rattle.theory_bounds.specs.Answers.{not_above0}

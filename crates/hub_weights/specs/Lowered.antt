@@ -3,7 +3,7 @@ use Rattle.std.specs.Prelude.{◌≡◌, refl, ◌⊎◌, List, ℕ, ◌+◌, �
 use Rattle.std.proofs.Common.{sym, subst, inl, inr, arith, get_or-set_same}
 use Rattle.std.proofs.Math.Decide.{ℕ_discrete, dec_lt}
 use Rattle.integers.specs.Integer.{◌⩽◌, ◌⋖◌}
-use Rattle.integers.specs.Linear.{ints}
+use Rattle.integers.proofs.Linear.{ints}
 use Rattle.lines.specs.Line.{number}
 use Rattle.theory_walks.specs.Distance.{le_refl}
 use Rattle.engine_packed_steps.specs.Scratch.{Scratch, scratch_none, scratch_set, scratch_at, scratch_behind}

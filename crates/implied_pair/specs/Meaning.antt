@@ -3,7 +3,7 @@
 use Rattle.std.specs.Prelude.{◌≡◌, refl, ◌↔◌, true, List, ℕ, zero, suc, ◌<◌, ℤ, pos, neg_ℤ, nat_abs, ◌+ℤ◌, length, get_or}
 use Rattle.std.proofs.Common.{sym, ap₂, ◌∙◌, inl, inr, arith, ext_get_or}
 use Rattle.integers.specs.Integer.{◌⩽◌, ◌⋖◌, Within}
-use Rattle.integers.specs.Linear.{ints, zs}
+use Rattle.integers.proofs.Linear.{ints, zs}
 use Rattle.lines.specs.declared.Line.{Line}
 use Rattle.lines.specs.declared.Validity.TheVariants.{Valid}
 use Rattle.lines.specs.Limits.{absent_greatest}

@@ -5,7 +5,7 @@ use Rattle.std.proofs.Math.ListN.{get_or-eq_default}
 use Rattle.std.specs.Int.Signed.{le_z, lt_z}
 use Rattle.std.specs.Int.{w32}
 use Rattle.integers.specs.Integer.{eq_z, Within}
-use Rattle.integers.specs.Linear.{ints, given, given₂}
+use Rattle.integers.proofs.Linear.{ints, given, given₂}
 use Rattle.integers.specs.Laws.{and_true, eq_z_true}
 use Rattle.lines.specs.declared.Line.{Line}
 use Rattle.lines.specs.declared.Validity.TheVariants.{Valid}

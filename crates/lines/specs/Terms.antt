@@ -8,7 +8,7 @@ use Rattle.integers.specs.Sequence.{tabulate, tabulate_cong}
 use Rattle.lines.specs.declared.Line.{Line}
 use Rattle.lines.specs.declared.Refusal.TheVariants.{MisplacedCoefficient}
 use Rattle.lines.specs.declared.Validity.TheVariants.{Valid}
-use Rattle.lines.specs.Line.{line_at, line_count, lines_of, numbers_of}
+use Rattle.lines.specs.Line.{line_at, line_count, numbers_of}
 use Rattle.lines.specs.LineNumbers.{numbers_of_lines}
 use Rattle.lines.specs.Refusal.{variable_ok_lem, lone_ok_lem, line_validity_lem, validity_of}
 use Rattle.lines.specs.Valid.{rule_holds, line_variables, valid_list}

@@ -5,8 +5,9 @@ use Rattle.std.proofs.Math.Decide.{dec_lt}
 use Rattle.std.proofs.lemmas.Bool.{not-false}
 use Rattle.std.specs.Int.Signed.{le_z, lt_z}
 use Rattle.integers.specs.Integer.{◌⩽◌, ◌⋖◌, eq_z, is_between, is_within_lem, Within}
-use Rattle.integers.specs.Linear.{ints, given, given₂}
-use Rattle.integers.specs.Laws.{never, and_true, is_within, ne_eq_z}
+use Rattle.integers.proofs.Linear.{ints, given, given₂}
+use Rattle.integers.specs.Laws.{never, and_true, ne_eq_z}
+use Rattle.integers.proofs.Halving.{is_within}
 use Rattle.integers.specs.Sequence.{tabulate}
 use Rattle.lines.specs.declared.Line.{Line}
 use Rattle.lines.specs.declared.Refusal.{Refusal}

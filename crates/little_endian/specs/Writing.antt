@@ -9,7 +9,7 @@ use Rattle.std.proofs.Math.ListN.{length}
 use Rattle.std.proofs.Math.Seq.{sets, sets-eq}
 use Rattle.std.specs.Int.Signed.{le_z, non_neg}
 use Rattle.std.specs.Int.{w32, w64}
-use Rattle.integers.specs.Linear.{ints}
+use Rattle.integers.proofs.Linear.{ints}
 use Rattle.integers.specs.Laws.{never}
 
 -- the bytes of a number, the first the lowest

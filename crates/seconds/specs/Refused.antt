@@ -4,7 +4,8 @@ use Rattle.std.proofs.Common.{sym, ap, subst, ◌∙◌, inl, inr, arith, le-leb
 use Rattle.std.proofs.lemmas.Bool.{false≢true, lt-leb, not-true, not-false}
 use Rattle.std.proofs.Math.Decide.{dec_lt}
 use Rattle.integers.specs.Integer.{Within}
-use Rattle.integers.specs.Laws.{never, both_true, is_within, within_is}
+use Rattle.integers.specs.Laws.{never, both_true}
+use Rattle.integers.proofs.Halving.{is_within, within_is}
 use Rattle.integers.specs.Lowest.{Passed, NonePassed, lowest_known, first_failing_lem}
 use Rattle.seconds.specs.declared.SecondsRefusal.{SecondsRefusal}
 use Rattle.seconds.specs.declared.SecondsRefusal.TheVariants.{UnusableClock, CountOutside, NoRoom, NoRecorder, NoTable}

@@ -12,8 +12,8 @@ use Rattle.std.specs.Float.Ieee.Exact.{HasValue}
 use Rattle.std.specs.Float.Ieee.Scale.{round_same}
 use Rattle.std.specs.Float.Ieee.Back.{round_whole}
 use Rattle.integers.specs.Integer.{◌⩽◌}
-use Rattle.integers.specs.Laws.{is_within}
-use Rattle.integers.specs.Linear.{ints}
+use Rattle.integers.proofs.Halving.{is_within}
+use Rattle.integers.proofs.Linear.{ints}
 use Rattle.seconds.specs.declared.Clock.{Clock}
 use Rattle.seconds.specs.declared.Clock.TheVariants.{SecondsPerTick, TicksPerSecond}
 use Rattle.seconds.specs.Clock.{max_count, is_count, seconds_of_lem, usable, usable_clock_lem}

@@ -6,8 +6,9 @@ use Rattle.std.proofs.Math.ListN.{get_or-eq_default}
 use Rattle.std.specs.Int.Signed.{le_z, lt_z}
 use Rattle.std.specs.Int.{w64}
 use Rattle.integers.specs.Integer.{◌⩽◌, is_between, Within}
-use Rattle.integers.specs.Linear.{ints}
-use Rattle.integers.specs.Laws.{and_true, both_true, is_within}
+use Rattle.integers.proofs.Linear.{ints}
+use Rattle.integers.specs.Laws.{and_true, both_true}
+use Rattle.integers.proofs.Halving.{is_within}
 use Rattle.integers.specs.Sequence.{tabulate, tabulate_get_d, length_tabulate, get_d_tabulate}
 use Rattle.integers.specs.Lowest.{first_failing_lem}
 use Rattle.lines.specs.Limits.{max_variables, max_value, absent_least}

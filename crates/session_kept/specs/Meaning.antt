@@ -4,7 +4,8 @@ use Rattle.std.specs.Prelude.{◌≡◌, refl, Bool, true, false, not, cond, ◌
 use Rattle.std.proofs.Common.{sym, ap, ap₂, ◌∙◌, arith, length-append, length-drop, take_at, drop_at, take_all, length-take-le, get_or-append-add}
 use Rattle.std.proofs.lemmas.List.{length-map}
 use Rattle.std.proofs.Math.ListN.{get_or-append, get_or-map}
-use Rattle.integers.specs.Laws.{never, within_is}
+use Rattle.integers.specs.Laws.{never}
+use Rattle.integers.proofs.Halving.{within_is}
 use Rattle.integers.specs.Sequence.{tabulate, tabulate_cong, tabulate_get_d, length_tabulate, get_d_tabulate}
 use Rattle.integers.specs.Lowest.{lowest_at_most}
 use Rattle.lines.specs.declared.Line.{Line}

@@ -18,7 +18,8 @@ use Rattle.steps.specs.Step.{steps_of, step_numbered_lem}
 use Rattle.theory_walks.specs.Least.{NoneNegative}
 use Rattle.theory_walks.specs.Negative.{no_negative, no_negative_yes}
 use Rattle.theory_bounds.specs.Tight.{Table}
-use Rattle.theory_bounds.specs.Agree.{Agree, all_ok_same}
+use Rattle.theory_bounds.specs.Agree.{Agree}
+use Rattle.theory_bounds.proofs.AgreeHalves.{all_ok_same}
 use Rattle.theory_bounds.specs.Verdict.{has_false, consistent_halves, distances, halves_ok_lem, verdict_of}
 use Rattle.theory_inserting.specs.Two.{EndsBelow, closing_same}
 use Rattle.theory_kept.specs.Slack.{is_wide, wide_step}

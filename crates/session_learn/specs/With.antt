@@ -4,7 +4,7 @@ use Rattle.std.proofs.Common.{sym, ap, ap₂, ◌∙◌, add-one, arith, SFits}
 use Rattle.std.specs.Int.Signed.{le_z, lt_z}
 use Rattle.std.specs.Int.{w64}
 use Rattle.integers.specs.Integer.{◌⩽◌, half, Within}
-use Rattle.integers.specs.Linear.{ints, zs, given₂}
+use Rattle.integers.proofs.Linear.{ints, zs, given₂}
 use Rattle.integers.specs.Laws.{never, both_true}
 use Rattle.integers.specs.Table.{all_below, below_at}
 use Rattle.lines.specs.Line.{number}

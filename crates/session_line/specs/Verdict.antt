@@ -14,7 +14,8 @@ use Rattle.lines.specs.Valid.{LinesOk}
 use Rattle.steps.specs.Step.{steps_of}
 use Rattle.theory_walks.specs.Negative.{no_negative}
 use Rattle.theory_bounds.specs.Tight.{Table}
-use Rattle.theory_bounds.specs.Agree.{Agree, all_ok_same}
+use Rattle.theory_bounds.specs.Agree.{Agree}
+use Rattle.theory_bounds.proofs.AgreeHalves.{all_ok_same}
 use Rattle.theory_bounds.specs.Verdict.{has_false, distances, halves_ok_lem, consistent_halves, verdict_of}
 use Rattle.session_step.specs.Meaning.{TableFor}
 use Rattle.session_line.specs.Both.{line_stays_in}

@@ -6,7 +6,7 @@ use Rattle.std.proofs.Math.Bool.{false}
 use Rattle.std.proofs.Math.IntN.{pos}
 use Rattle.std.specs.Int.Signed.{le_z, lt_z}
 use Rattle.integers.specs.Integer.{◌⩽◌}
-use Rattle.integers.specs.Linear.{ints}
+use Rattle.integers.proofs.Linear.{ints}
 use Rattle.integers.specs.Laws.{never, and_true, both_true}
 use Rattle.lines.specs.declared.Line.{Line}
 use Rattle.lines.specs.declared.Validity.TheVariants.{Valid}
@@ -18,8 +18,8 @@ use Rattle.steps.specs.declared.NamedStep.{NamedStep}
 use Rattle.steps.specs.declared.NamedStep.TheVariants.{Found, Nothing}
 use Rattle.steps.specs.Point.{value}
 use Rattle.steps.specs.Step.{step_of, steps_of, Holds}
-use Rattle.steps.specs.Mirror.{line_step_known}
-use Rattle.steps.specs.Meaning.{meets_holds, line_steps, false_line}
+use Rattle.steps.proofs.Mirror.{line_step_known}
+use Rattle.steps.proofs.Meaning.{meets_holds, line_steps, false_line}
 use Rattle.theory_walks.specs.Distance.{Distance, none, some}
 use Rattle.theory_bounds.specs.Tight.{Table, tight}
 use Rattle.theory_bounds.specs.Table.{greatest_difference, no_greatest_difference}

@@ -5,7 +5,7 @@ use Rattle.std.proofs.Math.ListN.{get_or-append}
 use Rattle.std.specs.Int.Signed.{le_z}
 use Rattle.std.specs.Int.{w32, w64}
 use Rattle.integers.specs.Integer.{◌⩽◌, is_between}
-use Rattle.integers.specs.Linear.{ints, given, given₂}
+use Rattle.integers.proofs.Linear.{ints, given, given₂}
 use Rattle.integers.specs.Laws.{and_true, both_true}
 use Rattle.lines.specs.Limits.{line_size, max_variables, max_lines}
 use Rattle.lines.specs.Line.{number}

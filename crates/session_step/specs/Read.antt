@@ -3,8 +3,9 @@
 use Rattle.std.specs.Prelude.{◌≡◌, refl, Bool, true, false, cond, List, ℕ, ◌+◌, ◌*◌, ◌≤◌, ℤ, pos, length}
 use Rattle.std.proofs.Common.{arith}
 use Rattle.integers.specs.Integer.{◌⩽◌, eq_z, is_within_lem}
-use Rattle.integers.specs.Linear.{ints}
-use Rattle.integers.specs.Laws.{never, eq_z_true, is_within, within_is}
+use Rattle.integers.proofs.Linear.{ints}
+use Rattle.integers.specs.Laws.{never, eq_z_true}
+use Rattle.integers.proofs.Halving.{is_within, within_is}
 use Rattle.lines.specs.Limits.{max_variables}
 use Rattle.lines.specs.Line.{number}
 use Rattle.theory_walks.specs.Distance.{Distance, none, some}

@@ -2,7 +2,7 @@
 --
 -- A step number of a showing is that of a line of the list or of the opposite line, since the lines between have no steps; in a longer list both have the
 -- numbers that they had.
-use Rattle.std.specs.Prelude.{◌≡◌, true, List, ◌++◌, ℕ, ◌+◌, ◌/◌, ◌%◌, ◌<◌, ◌≤◌, ℤ, length, drop}
+use Rattle.std.specs.Prelude.{◌≡◌, true, List, ◌++◌, ℕ, ◌/◌, ◌%◌, ◌<◌, ◌≤◌, ℤ, length, drop}
 use Rattle.std.proofs.Common.{sym, ◌∙◌, arith, lt-ltb}
 use Rattle.std.proofs.Math.Path.{ap}
 use Rattle.integers.specs.Laws.{never}

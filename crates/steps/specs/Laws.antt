@@ -2,7 +2,7 @@
 use Rattle.std.specs.Prelude.{◌≡◌, refl, Bool, true, false, not, cond, List, [], ◌∷◌, ◌++◌, ℕ, zero, suc, ◌+◌, ◌*◌, ◌/◌, ◌%◌, ◌<◌, T, eqb, ltb, ℤ, pos, ◌*ℤ◌, length, get_or}
 use Rattle.std.proofs.Common.{sym, subst, arith, lt-ltb, ltb-true, eq-eqb, ne_eqb}
 use Rattle.integers.specs.Integer.{Within}
-use Rattle.integers.specs.Linear.{ints, zs, given₂}
+use Rattle.integers.proofs.Linear.{ints, zs, given₂}
 use Rattle.integers.specs.Laws.{never, and_true}
 use Rattle.lines.specs.declared.Line.{Line}
 use Rattle.lines.specs.Limits.{line_size, work_constant}

@@ -3,7 +3,6 @@ pub mod Table
 pub mod Sides
 pub mod Step
 pub mod Laws
-pub mod Meaning
 pub mod Walk
 pub mod Mirror
 pub mod Zero

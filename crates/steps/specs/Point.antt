@@ -20,20 +20,6 @@ signed (suc k) z = neg_ℤ z
 unfoldable pub value : Assignment → ℕ → ℤ
 value s p = signed (p % 2) (s (p / 2))
 
-pub value_plus : (s : Assignment) (x : ℕ) → value s (point x 0) ≡ s x
-unfolding value
-value_plus s x =
-    let e : point x 0 % 2 ≡ 0 = omega arith in
-    let f : point x 0 / 2 ≡ x = omega arith in
-    rw (e, f)
-
-pub value_minus : (s : Assignment) (x : ℕ) → value s (point x 1) ≡ neg_ℤ (s x)
-unfolding value
-value_minus s x =
-    let e : point x 1 % 2 ≡ 1 = omega arith in
-    let f : point x 1 / 2 ≡ x = omega arith in
-    rw (e, f)
-
 pub value_opposite : (s : Assignment) (p : ℕ) → value s (opposite p) ≡ neg_ℤ (value s p)
 unfolding value opposite
 value_opposite s p = go (p % 2) refl

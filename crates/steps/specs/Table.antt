@@ -2,7 +2,7 @@
 use Rattle.std.specs.Prelude.{◌≡◌, refl, Bool, true, not, cond, ◌&&◌, ◌||◌, List, [], ◌∷◌, ℕ, zero, suc, ◌+◌, ◌*◌, ◌/◌, ◌%◌, ◌<◌, eqb, ltb, ℤ, pos, negsuc, ◌-ℤ◌, ◌*ℤ◌, get_or}
 use Rattle.std.proofs.Common.{sym, ap, subst₂, ◌∙◌, arith, ltb-true, eq-eqb, ne_eqb, eqb-true}
 use Rattle.integers.specs.Integer.{eq_z, Within}
-use Rattle.integers.specs.Linear.{zs}
+use Rattle.integers.proofs.Linear.{zs}
 use Rattle.integers.specs.Laws.{and_true, eq_z_true}
 use Rattle.integers.specs.Table.{all_below, below_at}
 

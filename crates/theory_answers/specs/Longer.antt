@@ -2,7 +2,7 @@
 use Rattle.std.specs.Prelude.{◌≡◌, ◌⊎◌, ◌↔◌, true, false, List, ◌++◌, ℕ, ◌+◌, ◌*◌, ◌%◌, ◌<◌, ℤ, pos, length, get_or}
 use Rattle.std.proofs.Common.{sym, subst, ◌∙◌, inl, inr, arith, ext_get_or}
 use Rattle.integers.specs.Integer.{◌⩽◌, ◌⋖◌}
-use Rattle.integers.specs.Linear.{ints}
+use Rattle.integers.proofs.Linear.{ints}
 use Rattle.lines.specs.declared.Line.{Line}
 use Rattle.lines.specs.Limits.{line_size, absent_greatest}
 use Rattle.lines.specs.Line.{lines_of, Assignment, assignment_of, Solves, Solvable, Entails}

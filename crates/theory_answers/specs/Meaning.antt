@@ -3,13 +3,14 @@ use Rattle.std.specs.Prelude.{◌≡◌, refl, ◌⊎◌, ◌↔◌, Bool, true,
 use Rattle.std.proofs.Common.{sym, ap, ap₂, subst, ◌∙◌, inl, inr, arith}
 use Rattle.std.specs.Int.Signed.{le_z}
 use Rattle.integers.specs.Integer.{◌⩽◌}
-use Rattle.integers.specs.Linear.{ints}
+use Rattle.integers.proofs.Linear.{ints}
 use Rattle.integers.specs.Laws.{never, and_true, both_true}
 use Rattle.integers.specs.Sequence.{length_tabulate, get_d_tabulate}
 use Rattle.lines.specs.declared.Line.{Line}
 use Rattle.lines.specs.Line.{Assignment, assignment_of, Solves}
 use Rattle.lines.specs.Valid.{AllOk}
-use Rattle.steps.specs.Point.{point, opposite, signed, value, value_plus, value_minus, value_opposite}
+use Rattle.steps.specs.Point.{point, opposite, signed, value, value_opposite}
+use Rattle.steps.proofs.PointLaws.{value_plus, value_minus}
 use Rattle.theory_walks.specs.Distance.{Distance, none, some, ◌⊑◌, some_le, le_some}
 use Rattle.theory_bounds.specs.Points.{variable_of, value_cong, variable_below, opposite_below}
 use Rattle.theory_bounds.specs.Tight.{Table, halves, tight}

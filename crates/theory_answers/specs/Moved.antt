@@ -3,7 +3,7 @@
 use Rattle.std.specs.Prelude.{◌≡◌, ◌⊎◌, List, [], ◌∷◌, ℕ, zero, suc, ◌+◌, ◌-◌, ◌≤◌, ◌<◌, min, ℤ, pos, negsuc, neg_ℤ, nat_abs, ◌+ℤ◌, ◌-ℤ◌, ◌*ℤ◌}
 use Rattle.std.proofs.Common.{ap, inl, inr, arith}
 use Rattle.integers.specs.Integer.{◌⩽◌, ◌⋖◌, Within}
-use Rattle.integers.specs.Linear.{ints, given}
+use Rattle.integers.proofs.Linear.{ints, given}
 use Rattle.lines.specs.declared.Line.{Line}
 use Rattle.lines.specs.Line.{Assignment, left_side_lem, Meets, Solves}
 use Rattle.lines.specs.Valid.{LineWorks, variable_lt, AllOk}

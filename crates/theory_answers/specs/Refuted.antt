@@ -19,7 +19,8 @@ use Rattle.theory_walks.specs.Negative.{no_negative, negative_point, negative_wa
 use Rattle.check_soundness.specs.Head.{kind_of, steps_in}
 use Rattle.check_soundness.specs.Refutes.{Closed, Falsehood, Refutes, kind_1, kind_2, kind_3}
 use Rattle.theory_walks.specs.Graph.{at_line, numbered}
-use Rattle.theory_bounds.specs.Verdict.{has_false, first_false_lem, lowest_false, consistent_halves, bad_halves, verdict_of, due_kind}
+use Rattle.theory_bounds.specs.Verdict.{has_false, first_false_lem, lowest_false, consistent_halves, verdict_of, due_kind}
+use Rattle.theory_bounds.proofs.BadHalves.{bad_halves}
 
 -- a refutation of the due kind: that of the lowest false line, or one with at most 4n steps
 pub record Due (n : ℕ) (L : List ℤ) (R : List ℕ) : Type 0 where

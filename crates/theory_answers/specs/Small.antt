@@ -8,8 +8,8 @@ use Rattle.std.proofs.Common.{ap, inl, inr, arith}
 use Rattle.std.proofs.Math.Decide.{dec_lt}
 use Rattle.std.specs.Int.Signed.{lt_z}
 use Rattle.integers.specs.Integer.{◌⩽◌, ◌⋖◌, Within}
-use Rattle.integers.specs.Linear.{ints, given, neg_part, ≤ℤ_trans}
-use Rattle.integers.specs.Laws.{test_yes, test_no}
+use Rattle.integers.proofs.Linear.{ints, given, neg_part, ≤ℤ_trans}
+use Rattle.integers.proofs.Halving.{test_yes, test_no}
 use Rattle.integers.specs.Sequence.{tabulate}
 use Rattle.lines.specs.declared.Line.{Line}
 use Rattle.lines.specs.declared.Validity.TheVariants.{Valid}

@@ -1,19 +1,16 @@
 -- Two tables with the same distances between the points of n variables have the same model, bounds, groups and first bad point.
 -- So what is read off the stored table is what the definitions say of the distances themselves.
-use Rattle.std.specs.Prelude.{◌≡◌, refl, Bool, cond, ◌&&◌, ℕ, zero, suc, ◌*◌, ◌/◌, ◌%◌, ◌<◌, eqb}
+use Rattle.std.specs.Prelude.{◌≡◌, cond, ◌&&◌, ℕ, ◌*◌, ◌/◌, ◌%◌, ◌<◌, eqb}
 use Rattle.std.proofs.Math.Path.{ap, ap₂}
 use Rattle.std.proofs.Common.{arith}
 use Rattle.integers.specs.Sequence.{tabulate, tabulate_cong}
-use Rattle.integers.specs.Table.{all_below}
 use Rattle.steps.specs.Point.{point, opposite}
 use Rattle.theory_walks.specs.Distance.{Distance, min_d, ◌⊞◌, half_d}
-use Rattle.theory_walks.specs.Negative.{not_below0}
 use Rattle.theory_bounds.specs.Points.{plus_below, minus_below, opposite_below}
 use Rattle.theory_bounds.specs.Tight.{Table, halves, tight}
 use Rattle.theory_bounds.specs.Range.{model_same}
 use Rattle.theory_bounds.specs.Table.{table_model}
 use Rattle.theory_bounds.specs.Answers.{least_of, greatest_of, bound_at, not_above0, same_points_lem, group_at_lem}
-use Rattle.theory_bounds.specs.Verdict.{halves_ok_lem}
 use Rattle.integers.specs.Lowest.{lowest_cong}
 
 -- the same distances between the points below N
@@ -58,15 +55,3 @@ module _ (n : ℕ) (D E : Table) (same : Agree (2 * n) D E) where
 
   pub groups_same : tabulate (2 * n) (group_at_lem D) ≡ tabulate (2 * n) (group_at_lem E)
   groups_same = groups_by_points n D E points_same
-
-  pub ok_same : (p : ℕ) → p < 2 * n → halves_ok_lem D p ≡ halves_ok_lem E p
-  ok_same p h =
-      let l = opposite_below n p h in
-      ap₂ (λ (a b : Distance). not_below0 (half_d a ⊞ half_d b)) (same p (opposite p) h l) (same (opposite p) p l h)
-
-  pub all_ok_same : all_below (2 * n) (halves_ok_lem D) ≡ all_below (2 * n) (halves_ok_lem E)
-  all_ok_same = go (2 * n) ok_same
-    where
-      go : (k : ℕ) → ((p : ℕ) → p < k → halves_ok_lem D p ≡ halves_ok_lem E p) → all_below k (halves_ok_lem D) ≡ all_below k (halves_ok_lem E)
-      go zero e = refl
-      go (suc k) e = ap₂ (λ (a b : Bool). a && b) (e k (omega arith)) (go k (λ p h. e p (omega arith)))

@@ -4,9 +4,10 @@ use Rattle.std.specs.Prelude.{◌≡◌, refl, ◌↔◌, List, [], ◌∷◌, �
 use Rattle.std.proofs.Common.{sym, ◌∙◌, ap, subst, inl, inr, ⊎_elim, arith}
 use Rattle.std.proofs.Math.Decide.{ℕ_discrete}
 use Rattle.integers.specs.Integer.{◌⩽◌, half}
-use Rattle.integers.specs.Linear.{ints}
+use Rattle.integers.proofs.Linear.{ints}
 use Rattle.lines.specs.Line.{Assignment}
-use Rattle.steps.specs.Point.{point, opposite, value, value_plus, value_minus, value_opposite, opposite_twice}
+use Rattle.steps.specs.Point.{point, opposite, value, value_opposite, opposite_twice}
+use Rattle.steps.proofs.PointLaws.{value_plus, value_minus}
 use Rattle.theory_walks.specs.Distance.{Distance, none, some, Up, Below, up_le, le_trans, up_some, up_eq, up_dec, not_none}
 use Rattle.theory_bounds.specs.Points.{variable_of, opposite_plus, opposite_minus, which, same_variable, value_cong, assign, assign_same, assign_other}
 use Rattle.theory_bounds.specs.Tight.{Table, Strong}

@@ -5,9 +5,10 @@ use Rattle.std.proofs.Common.{sym, ◌∙◌, ap, subst, inl, inr, arith}
 use Rattle.std.proofs.Math.Logic.{⊎_elim}
 use Rattle.std.proofs.Math.Decide.{ℕ_discrete}
 use Rattle.integers.specs.Integer.{◌⩽◌}
-use Rattle.integers.specs.Linear.{ints}
+use Rattle.integers.proofs.Linear.{ints}
 use Rattle.lines.specs.Line.{Assignment}
-use Rattle.steps.specs.Point.{point, opposite, value, value_plus, value_minus, value_opposite, opposite_twice}
+use Rattle.steps.specs.Point.{point, opposite, value, value_opposite, opposite_twice}
+use Rattle.steps.proofs.PointLaws.{value_plus, value_minus}
 use Rattle.theory_walks.specs.Distance.{Distance, some, min_d, ◌⊞◌, Up, up, up_le, le_refl, le_trans, up_mono, up_eq, up_plus, up_plus_e, up_min_l, up_min_r, up_min_e}
 use Rattle.theory_bounds.specs.Points.{variable_of, variable_plus, variable_minus, variable_opposite, opposite_plus, which, same_variable, value_cong, assign, assign_same, assign_other}
 use Rattle.theory_bounds.specs.Tight.{Table, Strong}

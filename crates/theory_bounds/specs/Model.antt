@@ -7,9 +7,10 @@ use Prim.Native.Nat.{ℕ, zero, suc, ◌≤◌, ◌<◌}
 use native.Mathlib.Omega.{arith}
 use Rattle.std.proofs.Math.Decide.{ℕ_discrete}
 use Rattle.integers.specs.Integer.{◌⩽◌}
-use Rattle.integers.specs.Linear.{ints}
+use Rattle.integers.proofs.Linear.{ints}
 use Rattle.lines.specs.Line.{Assignment}
-use Rattle.steps.specs.Point.{point, value, value_plus, value_minus}
+use Rattle.steps.specs.Point.{point, value}
+use Rattle.steps.proofs.PointLaws.{value_plus, value_minus}
 use Rattle.theory_walks.specs.Distance.{Distance, Below, le_trans, up_eq}
 use Rattle.theory_bounds.specs.Points.{variable_of, variable_plus, variable_minus, assign, assign_same, assign_other}
 use Rattle.theory_bounds.specs.Tight.{Table, Strong}

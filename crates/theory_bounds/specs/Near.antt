@@ -3,8 +3,8 @@
 use Rattle.std.specs.Prelude.{◌≡◌, ℕ, ◌+◌, ◌≤◌, ℤ, pos, negsuc, neg_ℤ, nat_abs, ◌+ℤ◌}
 use Rattle.std.proofs.Common.{arith}
 use Rattle.integers.specs.Integer.{◌⩽◌, min_z, max_z, nearest_zero}
-use Rattle.integers.specs.Linear.{ints}
-use Rattle.integers.specs.Laws.{nearest_least}
+use Rattle.integers.proofs.Linear.{ints}
+use Rattle.integers.proofs.Halving.{nearest_least}
 use Rattle.theory_walks.specs.Distance.{Distance, none, some, Up, Below, le_refl, up_at, not_none, some_below}
 
 -- the greater of z and the lower end

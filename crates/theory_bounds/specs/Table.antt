@@ -6,9 +6,10 @@ use Rattle.std.proofs.Common.{sym, ◌∙◌, ap, subst, inl, inr, arith}
 use Rattle.std.proofs.Math.Logic.{⊎_elim}
 use Rattle.std.proofs.Math.Decide.{ℕ_discrete, dec_lt}
 use Rattle.integers.specs.Integer.{◌⩽◌}
-use Rattle.integers.specs.Linear.{ints}
+use Rattle.integers.proofs.Linear.{ints}
 use Rattle.lines.specs.Line.{Assignment}
-use Rattle.steps.specs.Point.{point, opposite, value, value_plus, value_minus, opposite_twice}
+use Rattle.steps.specs.Point.{point, opposite, value, opposite_twice}
+use Rattle.steps.proofs.PointLaws.{value_plus, value_minus}
 use Rattle.theory_walks.specs.Distance.{Distance, none, some, ◌⊑◌, ◌⊞◌, half_d, Up, up, Below, up_le, up_mono, up_at, up_some, up_eq, up_inv, up_of_le, le_of_up, up_plus, eq_of_up, half_double, not_none, le_antisym}
 use Rattle.theory_bounds.specs.Points.{variable_of, variable_below, plus_below, minus_below, opposite_below, opposite_differs, value_cong}
 use Rattle.theory_bounds.specs.Tight.{Table, Closed, Strong, Obeys, halves, tight, tight_strong, obeys_tight, tighter}

@@ -3,7 +3,7 @@
 use Rattle.std.specs.Prelude.{◌≡◌, refl, ◌⊎◌, ℕ, ℤ, pos, neg_ℤ, ◌+ℤ◌}
 use Rattle.std.proofs.Common.{sym, ap, inl, inr, ⊎_elim, arith}
 use Rattle.integers.specs.Integer.{◌⩽◌, half}
-use Rattle.integers.specs.Linear.{ints}
+use Rattle.integers.proofs.Linear.{ints}
 use Rattle.lines.specs.Line.{Assignment}
 use Rattle.steps.specs.Point.{opposite, value, value_opposite, opposite_twice}
 use Rattle.theory_walks.specs.Distance.{Distance, some, min_d, ◌⊞◌, half_d, Up, up, up_le, up_mono, up_eq, up_plus, up_plus_e, up_min_l, up_min_r, up_min_e, half_double, double_half, eq_of_up}

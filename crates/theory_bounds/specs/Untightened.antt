@@ -3,7 +3,7 @@
 use Rattle.std.specs.Prelude.{◌≡◌, refl, ◌⊎◌, List, ℕ, ℤ, neg_ℤ, ◌+ℤ◌}
 use Rattle.std.proofs.Common.{inl, inr, arith}
 use Rattle.integers.specs.Integer.{◌⩽◌}
-use Rattle.integers.specs.Linear.{ints}
+use Rattle.integers.proofs.Linear.{ints}
 use Rattle.lines.specs.Line.{Assignment}
 use Rattle.steps.specs.Point.{opposite, value, value_opposite}
 use Rattle.theory_walks.specs.Distance.{Up, Below, up_mono, eq_of_up}

@@ -3,7 +3,7 @@
 use Rattle.std.specs.Prelude.{◌≡◌, refl, true, List, [], ◌∷◌, ℕ, ℤ, pos, ◌+ℤ◌}
 use Rattle.std.proofs.Common.{arith}
 use Rattle.integers.specs.Integer.{◌⩽◌}
-use Rattle.integers.specs.Linear.{ints}
+use Rattle.integers.proofs.Linear.{ints}
 use Rattle.steps.specs.declared.Step.{Step}
 use Rattle.steps.specs.Walk.{total}
 use Rattle.theory_walks.specs.Distance.{Distance, none, some, ◌⊑◌, some_le, le_none}

@@ -8,7 +8,7 @@ use Rattle.std.proofs.Math.IntN.{pos}
 use Rattle.std.proofs.Math.ListN.{length-replicate}
 use Rattle.std.proofs.lemmas.List.{get_or-replicate}
 use Rattle.integers.specs.Integer.{◌⩽◌, ◌⋖◌, Within}
-use Rattle.integers.specs.Linear.{ints}
+use Rattle.integers.proofs.Linear.{ints}
 use Rattle.steps.specs.declared.Step.{Step}
 use Rattle.steps.specs.Walk.{total}
 use Rattle.theory_walks.specs.Distance.{Distance, some, ◌⊑◌, ◌⊕◌, ⊑_trans, ⊑_of_eq, ⊑_anti, some_le, le_some, le_or, up_at, up_inv, up_of_le}

@@ -2,9 +2,10 @@
 use Rattle.std.specs.Prelude.{◌≡◌, ◌⊎◌, true, ℕ, zero, suc, ◌≤◌, ◌<◌, ℤ, pos, neg_ℤ, ◌+ℤ◌, ◌-ℤ◌}
 use Rattle.std.proofs.Common.{inl, inr, ⊎_elim, arith}
 use Rattle.integers.specs.Integer.{◌⩽◌, half}
-use Rattle.integers.specs.Linear.{ints}
+use Rattle.integers.proofs.Linear.{ints}
 use Rattle.lines.specs.Line.{Assignment}
-use Rattle.steps.specs.Point.{opposite, value, value_plus, value_minus}
+use Rattle.steps.specs.Point.{opposite, value}
+use Rattle.steps.proofs.PointLaws.{value_plus, value_minus}
 use Rattle.theory_walks.specs.Distance.{Distance, none, some, Up, Below, ◌⊑◌, min_d, ◌⊕◌, ◌⊞◌, half_d, up_le, up_at, up_plus, up_of_le, up_min_e, up_min_l, up_min_r, not_none, half_double}
 use Rattle.theory_walks.specs.Negative.{not_below0, is_not_below}
 use Rattle.theory_bounds.specs.Near.{Gap}

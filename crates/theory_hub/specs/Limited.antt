@@ -5,7 +5,7 @@ use Rattle.std.proofs.Common.{sym, arith, le-ltb}
 use Rattle.std.proofs.Math.Path.{subst}
 use Prim.Native.Nat.{ℕ, zero, suc, ◌+◌, ◌*◌, ◌≤◌, ◌<◌}
 use Rattle.integers.specs.Integer.{◌⩽◌}
-use Rattle.integers.specs.Linear.{ints}
+use Rattle.integers.proofs.Linear.{ints}
 use Rattle.lines.specs.Line.{Assignment}
 use Rattle.steps.specs.Point.{opposite, value, value_opposite}
 use Rattle.theory_walks.specs.Distance.{Distance, Below, min_d, ◌⊕◌, ◌⊞◌, half_d, up_plus_e, half_double}

@@ -6,9 +6,10 @@ use Rattle.std.proofs.Math.Bool.{true, false, cond}
 use Prim.Native.Nat.{ℕ, zero, suc, ◌+◌, ◌*◌, ◌≤◌, ◌<◌}
 use Rattle.std.proofs.Math.Decide.{ℕ_discrete}
 use Rattle.integers.specs.Integer.{◌⩽◌}
-use Rattle.integers.specs.Linear.{ints}
+use Rattle.integers.proofs.Linear.{ints}
 use Rattle.lines.specs.Line.{Assignment}
-use Rattle.steps.specs.Point.{point, opposite, opposite_twice, value, value_plus, value_minus, value_opposite}
+use Rattle.steps.specs.Point.{point, opposite, opposite_twice, value, value_opposite}
+use Rattle.steps.proofs.PointLaws.{value_plus, value_minus}
 use Rattle.theory_walks.specs.Distance.{Distance, some, Below, ◌⊑◌, min_d, ◌⊕◌, ◌⊞◌, half_d, ⊑_refl, min_left, min_right, up_at, up_le, up_plus}
 use Rattle.theory_bounds.specs.Near.{Gap, near, near_high, near_low}
 use Rattle.theory_bounds.specs.Points.{variable_of, which, opposite_plus, opposite_differs, opposite_below}

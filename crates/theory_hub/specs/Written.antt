@@ -6,14 +6,15 @@ use Rattle.std.proofs.Math.Bool.{cond}
 use native.Mathlib.Omega.{arith}
 use Rattle.std.specs.Int.Signed.{le_z}
 use Rattle.integers.specs.Integer.{◌⩽◌}
-use Rattle.integers.specs.Linear.{ints}
+use Rattle.integers.proofs.Linear.{ints}
 use Rattle.integers.specs.Laws.{never, and_true}
 use Rattle.integers.specs.Sequence.{tabulate, length_tabulate, get_d_tabulate}
 use Rattle.integers.specs.Table.{below_at}
 use Rattle.lines.specs.declared.Line.{Line}
 use Rattle.lines.specs.Line.{Assignment, assignment_of, lines_of, Solves}
 use Rattle.lines.specs.Valid.{AllOk, Workable}
-use Rattle.steps.specs.Point.{point, opposite, signed, value, value_plus, value_minus}
+use Rattle.steps.specs.Point.{point, opposite, signed, value}
+use Rattle.steps.proofs.PointLaws.{value_plus, value_minus}
 use Rattle.theory_walks.specs.Distance.{Distance, none, some, Up, Below, ◌⊞◌, up_at, up_le, up_dec, up_plus, not_none, le_antisym}
 use Rattle.theory_walks.specs.Negative.{not_below0}
 use Rattle.theory_bounds.specs.Near.{Gap, near, near_high, near_low, near_least}

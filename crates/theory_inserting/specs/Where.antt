@@ -4,7 +4,7 @@ use Rattle.std.specs.Prelude.{◌≡◌, refl, Bool, true, false, cond, ◌||◌
 use Rattle.std.proofs.Common.{sym, ap₂, ◌∙◌, ⊎_elim, arith}
 use Rattle.std.specs.Int.Signed.{le_z}
 use Rattle.integers.specs.Integer.{◌⩽◌}
-use Rattle.integers.specs.Linear.{ints}
+use Rattle.integers.proofs.Linear.{ints}
 use Rattle.integers.specs.Laws.{never}
 use Rattle.steps.specs.declared.Step.{Step}
 use Rattle.theory_walks.specs.Distance.{Distance, none, some, ◌⊑◌, ◌⊕◌, Up, some_le, le_none, min_left, ⊑_anti, up_mono, up_plus, up_of_le, up_min_e, le_of_up}

@@ -4,7 +4,7 @@ use Rattle.std.specs.Prelude.{◌≡◌, refl, Bool, true, false, ℕ, ℤ, pos,
 use Rattle.std.proofs.Common.{arith}
 use Rattle.std.specs.Int.Signed.{le_z}
 use Rattle.integers.specs.Integer.{◌⩽◌, half}
-use Rattle.integers.specs.Linear.{ints}
+use Rattle.integers.proofs.Linear.{ints}
 use Rattle.steps.specs.Point.{opposite}
 use Rattle.theory_walks.specs.Distance.{Distance, none, some, ◌⊞◌, half_d, Up, up, up_some, not_none}
 use Rattle.theory_walks.specs.Negative.{not_below0}

@@ -9,7 +9,7 @@ use borrow.Author.Tests.{lt-ltb, ltb-true}
 use Rattle.std.proofs.Math.Dec.{ltb}
 use Rattle.std.specs.Int.Signed.{lt_z}
 use Rattle.integers.specs.Integer.{◌⩽◌, Within}
-use Rattle.integers.specs.Linear.{ints}
+use Rattle.integers.proofs.Linear.{ints}
 use Rattle.integers.specs.Laws.{never, both_true}
 use Rattle.integers.specs.Sequence.{tabulate}
 use Rattle.lines.specs.declared.Line.{Line}
@@ -20,8 +20,9 @@ use Rattle.steps.specs.declared.NamedStep.{NamedStep}
 use Rattle.steps.specs.declared.NamedStep.TheVariants.{Found, Nothing}
 use Rattle.steps.specs.Step.{max_weight, step_of, step_numbered_lem, steps_of, named, Says, Holds}
 use Rattle.steps.specs.Laws.{line_weight}
-use Rattle.steps.specs.Mirror.{LineStep, line_step_known}
-use Rattle.steps.specs.Meaning.{meets_holds, line_steps}
+use Rattle.steps.specs.Mirror.{LineStep}
+use Rattle.steps.proofs.Mirror.{line_step_known}
+use Rattle.steps.proofs.Meaning.{meets_holds, line_steps}
 use Rattle.steps.specs.Walk.{Names}
 use Rattle.theory_walks.specs.Row.{In, WithinPoints}
 use Rattle.theory_walks.specs.Reach.{Steps}

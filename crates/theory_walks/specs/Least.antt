@@ -4,7 +4,7 @@ use Rattle.std.specs.Prelude.{◌≡◌, refl, List, [], ◌∷◌, ◌++◌, �
 use Rattle.std.proofs.Common.{◌∙◌, ap, arith, length-append}
 use Rattle.std.proofs.Math.Decide.{dec_le}
 use Rattle.integers.specs.Integer.{◌⩽◌}
-use Rattle.integers.specs.Linear.{ints}
+use Rattle.integers.proofs.Linear.{ints}
 use Rattle.steps.specs.declared.Step.{Step}
 use Rattle.steps.specs.Walk.{total, total_append}
 use Rattle.theory_walks.specs.Distance.{Distance, none, some, ◌⊑◌, ◌⊞◌, ⊑_trans, ⊑_of_eq, ⊑_anti, le_some, some_le, le_none, le_refl, le_trans}

@@ -1,7 +1,7 @@
 -- Where with each step its mirror image is there, the distance from i to j is that from the opposite of j to the opposite of i.
 use Rattle.std.specs.Prelude.{◌≡◌, refl, List, [], ◌∷◌, ◌++◌, ℕ, ◌%◌, ◌<◌, ℤ, pos, ◌+ℤ◌, length}
 use Rattle.std.proofs.Common.{sym, ◌∙◌, ap, arith, length-append}
-use Rattle.integers.specs.Linear.{ints}
+use Rattle.integers.proofs.Linear.{ints}
 use Rattle.steps.specs.declared.Step.{Step}
 use Rattle.steps.specs.Point.{opposite, opposite_twice}
 use Rattle.steps.specs.Walk.{Path, total, total_append, path_append}

@@ -3,7 +3,7 @@ use Rattle.std.specs.Prelude.{◌≡◌, refl, Bool, true, false, ◌&&◌, List
 use Rattle.std.proofs.Common.{arith}
 use Rattle.std.specs.Int.Signed.{le_z}
 use Rattle.integers.specs.Integer.{◌⩽◌, ◌⋖◌}
-use Rattle.integers.specs.Linear.{ints}
+use Rattle.integers.proofs.Linear.{ints}
 use Rattle.integers.specs.Laws.{never}
 use Rattle.integers.specs.Table.{all_below, below_at}
 use Rattle.steps.specs.declared.Step.{Step}

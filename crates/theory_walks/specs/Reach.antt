@@ -2,7 +2,7 @@
 -- And the early stop: once a row is equal to its relaxed row, all later rows are equal to it.
 use Rattle.std.specs.Prelude.{◌≡◌, refl, ◌⊎◌, List, [], ◌∷◌, ◌++◌, ℕ, zero, suc, ◌+◌, ◌-◌, ◌≤◌, ◌<◌, ℤ, pos, ◌+ℤ◌, length}
 use Rattle.std.proofs.Common.{sym, ◌∙◌, ap, inl, inr, suc-le-suc, arith}
-use Rattle.integers.specs.Linear.{ints}
+use Rattle.integers.proofs.Linear.{ints}
 use Rattle.steps.specs.declared.Step.{Step}
 use Rattle.steps.specs.Walk.{Path, total, path_append}
 use Rattle.theory_walks.specs.Distance.{Distance, some, ◌⊑◌, ◌⊕◌, ⊑_refl, ⊑_trans, ⊑_of_eq, ⊕_mono, ⊕_assoc, ⊕_zero, ⊕_some}

@@ -2,7 +2,7 @@
 use Rattle.std.specs.Prelude.{◌≡◌, List, [], ◌∷◌, ℕ, ◌+◌, ◌*◌, ◌≤◌, ℤ, pos, neg_ℤ, ◌+ℤ◌, length}
 use Rattle.std.proofs.Common.{arith, mul-le-mul_right}
 use Rattle.integers.specs.Integer.{◌⩽◌, Within}
-use Rattle.integers.specs.Linear.{ints}
+use Rattle.integers.proofs.Linear.{ints}
 use Rattle.steps.specs.declared.Step.{Step}
 use Rattle.steps.specs.Walk.{total}
 use Rattle.theory_walks.specs.Distance.{some}

@@ -1,7 +1,7 @@
 -- The model of a choice is small: each of its values lies within n times the limit on d, as of any valid list.
 use Rattle.std.specs.Prelude.{◌≡◌, true, List, ℕ, ◌*◌, ◌<◌, ℤ}
 use Rattle.integers.specs.Integer.{Within}
-use Rattle.integers.specs.Laws.{abs_within}
+use Rattle.integers.proofs.Halving.{abs_within}
 use Rattle.lines.specs.declared.Validity.TheVariants.{Valid}
 use Rattle.lines.specs.Limits.{max_constant}
 use Rattle.lines.specs.Line.{lines_of, assignment_of}

@@ -7,8 +7,8 @@ use lib.IntN.{ℤ, pos, neg_ℤ, ◌-ℤ◌}
 use mir.Syntax.{w64}
 use mir.Val.{SFits, to_z, of_z}
 use mir.Facts.{to_z-of_z, to_z_pos}
-use Rattle.integers.specs.Linear.{ints}
-use Rattle.integers.specs.Bits.{kept}
+use Rattle.integers.proofs.Linear.{ints}
+use Rattle.integers.proofs.Bits.{kept}
 use Rattle.lines.specs.declared.Refusal.TheVariants.{BrokenLength}
 use Rattle.c_codes.specs.Codes.{refusal_unit, refusal_code_lem}
 use Rattle.c_check_shown.specs.Calls.{broken_line_lem}

@@ -4,7 +4,7 @@ use native.Mathlib.Omega.{arith}
 use Prim.Native.Nat.{◌<◌}
 use mir.Syntax.{w64}
 use mir.Facts.{to_z_pos}
-use Rattle.integers.specs.Bits.{kept}
+use Rattle.integers.proofs.Bits.{kept}
 use Rattle.check_answers.specs.Answer.{Below}
 use Rattle.c_codes.specs.Codes.{refusal_unit}
 use Rattle.c_codes.specs.CheckCode.{check_code_lem}

@@ -5,7 +5,7 @@ use native.Mathlib.Omega.{arith}
 use lib.IntN.{pos, neg_ℤ}
 use mir.Syntax.{w64}
 use mir.Facts.{to_z_pos}
-use Rattle.integers.specs.Bits.{minus_fits, minus_is}
+use Rattle.integers.proofs.Bits.{minus_fits, minus_is}
 use Rattle.lines.specs.Refusal.{number_of, place_of}
 use Rattle.lines.specs.Numbers.{number_small}
 use Rattle.c_codes.specs.Codes.{refusal_unit, refusal_code_lem}

@@ -2,7 +2,7 @@
 use mathlib.Core.Path.{sym, ap, subst, ◌∙◌}
 use native.Mathlib.Omega.{arith}
 use mir.Syntax.{w64}
-use Rattle.integers.specs.Bits.{kept}
+use Rattle.integers.proofs.Bits.{kept}
 use Rattle.decide.specs.Places.{Below}
 use Rattle.c_codes.specs.Codes.{refusal_unit}
 use Rattle.c_deciding.specs.Calls.{decide_code_lem}

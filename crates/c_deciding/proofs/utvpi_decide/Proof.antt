@@ -2,7 +2,7 @@
 use mathlib.Core.Path.{◌∙◌}
 use native.Mathlib.Omega.{arith}
 use mir.Syntax.{w64}
-use Rattle.integers.specs.Bits.{kept}
+use Rattle.integers.proofs.Bits.{kept}
 use Rattle.c_deciding.specs.Laws.{decided_below, decide_returns}
 use Rattle.c_deciding.proofs.utvpi_decide.Statement.{statement}
 use Rattle.c_deciding.proofs.utvpi_decide.Tie as tie

@@ -2,7 +2,7 @@
 use mathlib.Core.Path.{◌∙◌}
 use native.Mathlib.Omega.{arith}
 use mir.Syntax.{w64}
-use Rattle.integers.specs.Bits.{kept}
+use Rattle.integers.proofs.Bits.{kept}
 use Rattle.c_differences.specs.Laws.{plain_below, differences_return}
 use Rattle.c_differences.proofs.utvpi_decide_differences.Statement.{statement}
 use Rattle.c_differences.proofs.utvpi_decide_differences.Tie as tie

@@ -2,7 +2,7 @@
 use mathlib.Core.Path.{◌∙◌}
 use borrow.Author.Rules.{rules}
 use mir.Syntax.{w64}
-use Rattle.integers.specs.Bits.{kept}
+use Rattle.integers.proofs.Bits.{kept}
 use Rattle.c_implied.specs.Laws.{outcome_below, pair_returned_law}
 use Rattle.c_implied.proofs.utvpi_implied_pair.Statement.{statement}
 use Rattle.c_implied.proofs.utvpi_implied_pair.Tie as tie

@@ -2,7 +2,7 @@
 use mathlib.Core.Path.{◌∙◌}
 use borrow.Author.Rules.{rules}
 use mir.Syntax.{w64}
-use Rattle.integers.specs.Bits.{kept}
+use Rattle.integers.proofs.Bits.{kept}
 use Rattle.c_implied_line.specs.Laws.{promised_below, line_returns}
 use Rattle.c_implied_line.proofs.utvpi_implied_line.Statement.{statement}
 use Rattle.c_implied_line.proofs.utvpi_implied_line.Tie as tie

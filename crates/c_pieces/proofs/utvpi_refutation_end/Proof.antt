@@ -3,7 +3,7 @@ use mathlib.Core.Path.{ap, ◌∙◌}
 use native.Mathlib.Omega.{arith}
 use borrow.Author.Rules.{rules}
 use mir.Syntax.{w64}
-use Rattle.integers.specs.Bits.{kept}
+use Rattle.integers.proofs.Bits.{kept}
 use Rattle.check_pieces.specs.Taken.{end_answer}
 use Rattle.c_codes.specs.CheckCode.{check_code_lem}
 use Rattle.c_pieces.specs.Laws.{end_below}

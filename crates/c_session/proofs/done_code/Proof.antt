@@ -2,7 +2,7 @@
 use mathlib.Core.Path.{sym, ap, subst, ◌∙◌}
 use native.Mathlib.Omega.{arith}
 use mir.Syntax.{w64}
-use Rattle.integers.specs.Bits.{kept}
+use Rattle.integers.proofs.Bits.{kept}
 use Rattle.lines.specs.Places.{Placed, place_at}
 use Rattle.c_codes.specs.Codes.{refusal_unit}
 use Rattle.c_session.specs.Calls.{done_code_lem}

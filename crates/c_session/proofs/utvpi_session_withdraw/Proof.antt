@@ -2,7 +2,7 @@
 use mathlib.Core.Path.{sym, subst, ◌∙◌}
 use borrow.Author.Rules.{rules}
 use mir.Syntax.{w64}
-use Rattle.integers.specs.Bits.{kept}
+use Rattle.integers.proofs.Bits.{kept}
 use Rattle.lines.specs.Places.{Placed}
 use Rattle.c_codes.specs.Codes.{refusal_unit}
 use Rattle.c_session.specs.Laws.{withdraw_placed, withdraw_returns}

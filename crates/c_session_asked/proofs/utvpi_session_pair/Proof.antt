@@ -3,7 +3,7 @@ use mathlib.Core.Path.{sym, ap, subst, ◌∙◌}
 use borrow.Author.Rules.{rules}
 use lib.IntN.{ℤ}
 use mir.Syntax.{w64}
-use Rattle.integers.specs.Bits.{kept}
+use Rattle.integers.proofs.Bits.{kept}
 use Rattle.implied_pair.specs.declared.PairAnswer.{PairAnswer}
 use Rattle.implied_pair.specs.Places.{Below}
 use Rattle.c_codes.specs.Codes.{refusal_unit}

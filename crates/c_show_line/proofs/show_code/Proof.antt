@@ -2,7 +2,7 @@
 use mathlib.Core.Path.{sym, ap, subst, ◌∙◌}
 use borrow.Author.Rules.{rules}
 use mir.Syntax.{w64}
-use Rattle.integers.specs.Bits.{kept}
+use Rattle.integers.proofs.Bits.{kept}
 use Rattle.show_line.specs.Places.{Below}
 use Rattle.c_codes.specs.Codes.{refusal_unit}
 use Rattle.c_show_line.specs.Calls.{show_code_lem}

@@ -2,7 +2,7 @@
 use mathlib.Core.Path.{◌∙◌}
 use borrow.Author.Rules.{rules}
 use mir.Syntax.{w64}
-use Rattle.integers.specs.Bits.{kept}
+use Rattle.integers.proofs.Bits.{kept}
 use Rattle.c_show_line.specs.Laws.{promised_below, show_returns}
 use Rattle.c_show_line.proofs.utvpi_show_line.Statement.{statement}
 use Rattle.c_show_line.proofs.utvpi_show_line.Tie as tie

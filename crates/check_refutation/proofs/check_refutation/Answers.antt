@@ -43,11 +43,12 @@ returns-in-Refused c =
 
 -- the list is valid
 module _ (c : In_default) where
-  ok : ListOk ((c.args.n)) ((c.args.list.now))
-  ok = valid_list ((c.args.n)) ((c.args.list.now)) (sym c.list_validity-found.ensures ∙ c.in_default.is)
+  ok : let n : ℕ = c.args.n in let L : List ℤ = c.args.list.now in ListOk (n) (L)
+  ok = let n : ℕ = c.args.n in let L : List ℤ = c.args.list.now in valid_list (n) (L) (sym c.list_validity-found.ensures ∙ c.in_default.is)
 
-  valid : answer_after c Valid ≡ refutation_answer ((c.args.n)) ((c.args.list.now)) ((c.args.refutation.now))
-  valid = ap (answer_after c) (sym c.in_default.is) ∙ (let it : answer_after c.list_validity-found.result ≡ refutation_answer (c.args.n) (c.args.list.now) (c.args.refutation.now) = ap answer_after c.list_validity-found.ensures in it)
+  valid : let L : List ℤ = c.args.list.now in let R : List ℕ = c.args.refutation.now in let answer_after : Validity → CheckAnswer = λ v. unless_refused (v or_else refuse_if (ltb max_refutation (length R)) LongRefutation) (verdict (run L start R)) in let n : ℕ = c.args.n in answer_after Valid ≡ refutation_answer (n) (L) (R)
+  unfolding refutation_answer refutation_validity
+  valid = let L : List ℤ = c.args.list.now in let R : List ℕ = c.args.refutation.now in let answer_after : Validity → CheckAnswer = λ v. unless_refused (v or_else refuse_if (ltb max_refutation (length R)) LongRefutation) (verdict (run L start R)) in let n : ℕ = c.args.n in let answered : answer_after c.list_validity-found.result ≡ refutation_answer n L R = ap answer_after c.list_validity-found.ensures in ap (answer_after) (sym c.in_default.is) ∙ answered
 
 pub returns-then-refutation-gt-MAX_REFUTATION : goal.returns-then-refutation-gt-MAX_REFUTATION
 returns-then-refutation-gt-MAX_REFUTATION c = rw (lt-ltb max_refutation _ c.if-refutation-gt-MAX_REFUTATION.true) at (valid (goal.at.returns-then-refutation-gt-MAX_REFUTATION c).In_default)

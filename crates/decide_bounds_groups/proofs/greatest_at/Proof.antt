@@ -4,7 +4,7 @@ use Prim.Native.Nat.{ℕ, ◌*◌}
 use native.Mathlib.Omega.{arith}
 use borrow.Author.Rules.{rules}
 use mir.Syntax.{w64}
-use Rattle.integers.specs.Bits.{kept}
+use Rattle.integers.proofs.Bits.{kept}
 use Rattle.steps.specs.Point.{point}
 use Rattle.theory_bounds.specs.Tight.{halves}
 use Rattle.theory_bounds.specs.Answers.{greatest_of}

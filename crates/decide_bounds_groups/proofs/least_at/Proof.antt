@@ -7,7 +7,7 @@ use lib.IntN.{pos, ◌-ℤ◌}
 use mir.Syntax.{w64}
 use mir.Val.{SFits, to_z, of_z}
 use mir.Facts.{to_z-of_z}
-use Rattle.integers.specs.Bits.{kept}
+use Rattle.integers.proofs.Bits.{kept}
 use Rattle.steps.specs.Point.{point}
 use Rattle.theory_walks.specs.Distance.{Distance}
 use Rattle.theory_bounds.specs.Tight.{halves}

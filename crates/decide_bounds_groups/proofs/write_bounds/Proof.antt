@@ -8,7 +8,7 @@ use lib.IntN.{ℤ}
 use lib.ListN.{length, set}
 use mir.Syntax.{w64}
 use mir.Val.{to_z, of_z}
-use Rattle.integers.specs.Bits.{kept}
+use Rattle.integers.proofs.Bits.{kept}
 use Rattle.theory_bounds.specs.Answers.{bound_at}
 use Rattle.decide_stored_table.specs.Table.{table_of}
 use Rattle.integers.specs.Fill.{filled, filled_none, filled_more}

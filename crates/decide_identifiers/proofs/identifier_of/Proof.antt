@@ -7,8 +7,8 @@ use lib.IntN.{ℤ, nat_abs}
 use lib.Signed.{yes_non_neg}
 use mir.Syntax.{w32}
 use mir.Val.{to_z, of_z}
-use Rattle.integers.specs.Bits.{kept}
-use Rattle.integers.specs.Linear.{ints, given₂}
+use Rattle.integers.proofs.Bits.{kept}
+use Rattle.integers.proofs.Linear.{ints, given₂}
 use Rattle.lines.specs.declared.Line.{Line}
 use Rattle.lines.specs.Line.{line_at}
 use Rattle.lines.specs.Valid.{IdentifierOk}

@@ -5,7 +5,7 @@ use lib.IntN.{ℤ, pos, neg_ℤ, ◌-ℤ◌}
 use mir.Syntax.{w64}
 use mir.Val.{SFits, to_z, of_z}
 use mir.Facts.{to_z-of_z}
-use Rattle.integers.specs.Bits.{kept}
+use Rattle.integers.proofs.Bits.{kept}
 use Rattle.theory_walks.specs.Distance.{min_d}
 use Rattle.theory_bounds.specs.Near.{at_most}
 use Rattle.decide_rows.specs.Stored.{stored}

@@ -8,7 +8,7 @@ use lib.IntN.{ℤ}
 use lib.ListN.{length}
 use mir.Syntax.{w64}
 use mir.Val.{to_z, of_z}
-use Rattle.integers.specs.Bits.{kept}
+use Rattle.integers.proofs.Bits.{kept}
 use Rattle.steps.specs.Point.{point}
 use Rattle.theory_bounds.specs.Tight.{Table}
 use Rattle.decide_rows.specs.Stored.{stored}

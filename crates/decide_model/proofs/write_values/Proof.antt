@@ -9,7 +9,7 @@ use lib.ListN.{length, take, drop, length-set}
 use mir.Syntax.{w32, w64}
 use mir.Val.{SFits, to_z, of_z}
 use mir.Facts.{to_z-of_z}
-use Rattle.integers.specs.Bits.{kept}
+use Rattle.integers.proofs.Bits.{kept}
 use Rattle.theory_bounds.specs.Tight.{Table}
 use Rattle.decide_stored_table.specs.Table.{by_rows}
 use Rattle.decide_model.specs.Limit.{value_fits}

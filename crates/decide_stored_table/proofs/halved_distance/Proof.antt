@@ -5,7 +5,7 @@ use mir.Syntax.{w64}
 use mir.Val.{to_z, of_z}
 use mir.Facts.{to_z-of_z}
 use Rattle.integers.specs.Integer.{half}
-use Rattle.integers.specs.Bits.{kept}
+use Rattle.integers.proofs.Bits.{kept}
 use Rattle.decide_stored_table.specs.Sum.{half_none, half_some}
 use Rattle.decide_stored_table.proofs.halved_distance.Statement.{statement}
 use Rattle.decide_stored_table.proofs.halved_distance.Tie as tie

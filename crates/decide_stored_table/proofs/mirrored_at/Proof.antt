@@ -4,7 +4,7 @@ use Prim.Native.Nat.{◌*◌}
 use native.Mathlib.Omega.{arith}
 use borrow.Author.Rules.{rules}
 use mir.Syntax.{w64}
-use Rattle.integers.specs.Bits.{kept}
+use Rattle.integers.proofs.Bits.{kept}
 use Rattle.theory_bounds.specs.Points.{opposite_below}
 use Rattle.decide_stored_table.specs.Table.{mirrored_entry}
 use Rattle.decide_stored_table.proofs.mirrored_at.Statement.{statement}

@@ -10,7 +10,7 @@ use lib.ListN.{set}
 use mir.Syntax.{w64}
 use mir.Val.{SFits, of_z}
 use mir.Facts.{to_z-of_z, to_z_pos}
-use Rattle.integers.specs.Bits.{eq_of_bits}
+use Rattle.integers.proofs.Bits.{eq_of_bits}
 use Rattle.lines.specs.Limits.{max_variables}
 use Rattle.lines.specs.Valid.{lines_more}
 use Rattle.decide_walkback.specs.Makes.{entry}

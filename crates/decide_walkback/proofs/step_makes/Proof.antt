@@ -5,7 +5,7 @@ use lib.IntN.{ℤ, ◌+ℤ◌}
 use mir.Syntax.{w64}
 use mir.Val.{SFits, to_z, of_z}
 use mir.Facts.{to_z-of_z}
-use Rattle.integers.specs.Bits.{eqb_bits}
+use Rattle.integers.proofs.Bits.{eqb_bits}
 use Rattle.lines.specs.Limits.{absent_greatest}
 use Rattle.decide_walkback.specs.Makes.{entry, ends_elsewhere, starts_nowhere, sums, weight_fits, sum_fits}
 use Rattle.decide_walkback.proofs.step_makes.Statement.{statement}

@@ -8,7 +8,7 @@ use lib.IntN.{ℤ, pos, nat_abs}
 use lib.ListN.{length, set, length-set}
 use mir.Syntax.{w64}
 use mir.Val.{of_z, to_z}
-use Rattle.integers.specs.Bits.{kept}
+use Rattle.integers.proofs.Bits.{kept}
 use Rattle.lines.specs.Limits.{work_lines}
 use Rattle.lines.specs.Line.{number}
 use Rattle.decide_written_walks.specs.Copy.{copied_to, copied_none, copied_more}

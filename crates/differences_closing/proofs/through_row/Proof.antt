@@ -4,8 +4,8 @@ use borrow.Author.Rules.{rules}
 use lib.IntN.{ℤ}
 use mir.Syntax.{w64}
 use mir.Val.{to_z, of_z}
-use Rattle.integers.specs.Bits.{kept}
-use Rattle.integers.specs.Laws.{test_no}
+use Rattle.integers.proofs.Bits.{kept}
+use Rattle.integers.proofs.Halving.{test_no}
 use Rattle.differences_closing.specs.Entries.{entry_in}
 use Rattle.differences_closing.specs.Closed.{lower_ready, row_through, row_far}
 use Rattle.differences_closing.proofs.through_row.Statement.{statement}

@@ -2,7 +2,7 @@
 use mathlib.Core.Path.{◌≡◌, ap, ap₂, ◌∙◌}
 use borrow.Author.Rules.{rules}
 use mir.Syntax.{w32}
-use Rattle.integers.specs.Bits.{kept}
+use Rattle.integers.proofs.Bits.{kept}
 use Rattle.lines.specs.declared.Line.{Line}
 use Rattle.theory_differences.specs.Plain.{one_each_lem, is_difference_lem}
 use Rattle.differences_lines.proofs.is_difference.Statement.{statement}

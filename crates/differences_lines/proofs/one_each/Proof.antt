@@ -4,7 +4,7 @@ use native.Mathlib.Omega.{arith}
 use lib.IntN.{pos, negsuc}
 use mir.Syntax.{w32}
 use mir.Val.{of_z}
-use Rattle.integers.specs.Bits.{eq_of_bits, eqb_bits}
+use Rattle.integers.proofs.Bits.{eq_of_bits, eqb_bits}
 use Rattle.theory_differences.specs.Plain.{one_first, one_second, one_neither}
 use Rattle.differences_lines.proofs.one_each.Statement.{statement}
 use Rattle.differences_lines.proofs.one_each.Tie as tie

@@ -6,7 +6,7 @@ use borrow.Author.Rules.{rules}
 use lib.IntN.{pos}
 use mir.Syntax.{w32}
 use mir.Val.{of_z}
-use Rattle.integers.specs.Bits.{eq_of_bits}
+use Rattle.integers.proofs.Bits.{eq_of_bits}
 use Rattle.lines.specs.declared.Line.{Line}
 use Rattle.lines.specs.Line.{line_at}
 use Rattle.theory_differences.specs.Plain.{plain_side, plain_forward, plain_backward}

@@ -5,7 +5,7 @@ use borrow.Author.Rules.{rules}
 use lib.IntN.{pos, nat_abs}
 use mir.Syntax.{w32}
 use mir.Val.{to_z, of_z}
-use Rattle.integers.specs.Bits.{kept, eq_of_bits}
+use Rattle.integers.proofs.Bits.{kept, eq_of_bits}
 use Rattle.lines.specs.declared.Line.{Line}
 use Rattle.lines.specs.Limits.{max_variables}
 use Rattle.lines.specs.Line.{line_at}

@@ -5,7 +5,7 @@ use lib.IntN.{nat_abs}
 use lib.Signed.{yes_non_neg}
 use mir.Syntax.{w32}
 use mir.Facts.{to_z-of_z}
-use Rattle.integers.specs.Bits.{widens, widened}
+use Rattle.integers.proofs.Bits.{widens, widened}
 use Rattle.lines.specs.Limits.{max_variables}
 use Rattle.lines.specs.Valid.{variable_lt}
 use Rattle.differences_lines.proofs.step_between.Statement.{statement}

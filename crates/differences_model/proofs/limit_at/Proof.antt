@@ -7,7 +7,7 @@ use lib.IntN.{ℤ}
 use lib.ListN.{length}
 use mir.Syntax.{w32, w64}
 use mir.Val.{SFits, to_z, of_z}
-use Rattle.integers.specs.Bits.{kept, widens, widened}
+use Rattle.integers.proofs.Bits.{kept, widens, widened}
 use Rattle.integers.specs.Integer.{Within}
 use Rattle.lines.specs.Line.{number, assignment_of}
 use Rattle.decide_rows.specs.Stored.{stored}

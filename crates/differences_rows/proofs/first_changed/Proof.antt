@@ -6,7 +6,7 @@ use native.Mathlib.Omega.{arith}
 use borrow.Author.Rules.{rules}
 use mir.Syntax.{w64}
 use mir.Val.{of_z}
-use Rattle.integers.specs.Bits.{eq_of_bits}
+use Rattle.integers.proofs.Bits.{eq_of_bits}
 use Rattle.integers.specs.Laws.{eq_eq_z, ne_eq_z}
 use Rattle.integers.specs.Lowest.{Searched, searched_none, searched_more, searched_found, searched_all}
 use Rattle.lines.specs.Line.{number}

@@ -5,7 +5,7 @@ use borrow.Author.Rules.{rules}
 use lib.IntN.{ℤ}
 use mir.Syntax.{w64}
 use mir.Val.{to_z, of_z}
-use Rattle.integers.specs.Bits.{kept}
+use Rattle.integers.proofs.Bits.{kept}
 use Rattle.lines.specs.Line.{line_at}
 use Rattle.steps.specs.declared.Step.{Step}
 use Rattle.theory_differences.specs.Plain.{plain_step_lem}

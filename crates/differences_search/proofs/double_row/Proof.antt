@@ -8,7 +8,7 @@ use lib.ListN.{length}
 use mir.Syntax.{w64}
 use mir.Val.{SFits, to_z, of_z}
 use mir.Facts.{to_z-of_z}
-use Rattle.integers.specs.Bits.{kept}
+use Rattle.integers.proofs.Bits.{kept}
 use Rattle.lines.specs.Line.{number}
 use Rattle.differences_search.specs.Double.{Doubled, double_fits, doubled_start, still, doubled_more}
 use Rattle.differences_search.proofs.double_row.Statement.{statement}

@@ -9,9 +9,9 @@ use lib.IntN.{ℤ, ◌+ℤ◌, ◌-ℤ◌}
 use mir.Syntax.{w64}
 use mir.Val.{SFits, to_z, of_z}
 use mir.Facts.{to_z-of_z}
-use Rattle.integers.specs.Bits.{kept}
+use Rattle.integers.proofs.Bits.{kept}
 use Rattle.integers.specs.Integer.{Within}
-use Rattle.integers.specs.Laws.{test_yes, test_no}
+use Rattle.integers.proofs.Halving.{test_yes, test_no}
 use Rattle.lines.specs.Line.{number, line_at}
 use Rattle.steps.specs.declared.Step.{Step}
 use Rattle.steps.specs.Step.{max_weight}

@@ -6,7 +6,7 @@ use borrow.Author.Rules.{rules}
 use lib.ListN.{length}
 use mir.Syntax.{w64}
 use mir.Val.{of_z}
-use Rattle.integers.specs.Bits.{eq_of_bits}
+use Rattle.integers.proofs.Bits.{eq_of_bits}
 use Rattle.lines.specs.Line.{number}
 use Rattle.differences_walk.specs.Again.{NoneBetween, between_start, between_more}
 use Rattle.differences_walk.proofs.next_same.Statement.{statement}

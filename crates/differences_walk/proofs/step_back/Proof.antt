@@ -9,7 +9,7 @@ use lib.ListN.{set, length-set}
 use mir.Syntax.{w64}
 use mir.Val.{to_z, of_z}
 use mir.Facts.{to_z_pos}
-use Rattle.integers.specs.Bits.{kept}
+use Rattle.integers.proofs.Bits.{kept}
 use Rattle.lines.specs.Line.{number, line_at, line_count}
 use Rattle.steps.specs.declared.Step.{Step}
 use Rattle.theory_differences.specs.Plain.{plain_step_lem}

@@ -5,7 +5,7 @@ use lib.IntN.{ℤ, pos}
 use lib.Signed.{le_z}
 use mir.Syntax.{w64}
 use mir.Val.{to_z, of_z}
-use Rattle.integers.specs.Bits.{kept}
+use Rattle.integers.proofs.Bits.{kept}
 use Rattle.theory_bounds.specs.Tight.{Table}
 use Rattle.decide_rows.specs.Stored.{stored}
 use Rattle.decide_stored_table.specs.Table.{table_of}

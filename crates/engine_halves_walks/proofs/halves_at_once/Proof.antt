@@ -7,7 +7,7 @@ use mir.Syntax.{w64}
 use mir.Val.{SFits, to_z, of_z}
 use mir.Facts.{to_z-of_z}
 use Rattle.integers.specs.Integer.{◌⋖◌, half}
-use Rattle.integers.specs.Laws.{test_yes}
+use Rattle.integers.proofs.Halving.{test_yes}
 use Rattle.engine_packed_steps.specs.Scratch.{Scratch}
 use Rattle.engine_packed_steps.specs.Layout.{places_at}
 use Rattle.engine_closed_walk.specs.Follow.{small_fits}

@@ -10,7 +10,7 @@ use mir.Syntax.{w64}
 use mir.Val.{to_z, of_z}
 use mir.Facts.{to_z-of_z}
 use Rattle.lines.specs.Line.{number}
-use Rattle.integers.specs.Laws.{test_yes, test_no}
+use Rattle.integers.proofs.Halving.{test_yes, test_no}
 use Rattle.engine_merged_steps.specs.Keep.{Keeping, keeping_start, keeping_none, keeping_more}
 use Rattle.engine_merged_steps.proofs.keep_steps.Statement.{statement}
 use Rattle.engine_merged_steps.proofs.keep_steps.Tie as tie

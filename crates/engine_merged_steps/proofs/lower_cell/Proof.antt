@@ -6,7 +6,7 @@ use mir.Syntax.{w64}
 use mir.Val.{to_z, of_z}
 use mir.Facts.{to_z-of_z}
 use Rattle.lines.specs.Line.{number}
-use Rattle.integers.specs.Laws.{test_yes, test_no}
+use Rattle.integers.proofs.Halving.{test_yes, test_no}
 use Rattle.engine_merged_steps.specs.Cells.{lowered_set, lowered_none}
 use Rattle.engine_merged_steps.proofs.lower_cell.Statement.{statement}
 use Rattle.engine_merged_steps.proofs.lower_cell.Tie as tie

@@ -6,7 +6,7 @@ use lib.IntN.{ℤ, pos, neg_ℤ}
 use lib.Signed.{lt_z}
 use mir.Facts.{to_z-of_z}
 use Rattle.integers.specs.Integer.{◌⩽◌}
-use Rattle.integers.specs.Linear.{ints}
+use Rattle.integers.proofs.Linear.{ints}
 use Rattle.engine_reduced_start.specs.Start.{max_read}
 use borrow.Author.Rules.{rules}
 use Rattle.engine_reduced_start.proofs.not_large.Statement.{statement}

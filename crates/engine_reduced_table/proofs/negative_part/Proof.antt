@@ -7,7 +7,7 @@ use mir.Facts.{to_z-of_z}
 use lib.IntN.{ℤ, pos}
 use lib.Signed.{lt_z}
 use Rattle.integers.specs.Integer.{◌⩽◌, ◌⋖◌}
-use Rattle.integers.specs.Linear.{ints}
+use Rattle.integers.proofs.Linear.{ints}
 use Rattle.engine_reduced_table.proofs.negative_part.Statement.{statement}
 use Rattle.engine_reduced_table.proofs.negative_part.Tie as tie
 

@@ -4,7 +4,7 @@ use lib.IntN.{◌+ℤ◌}
 use mir.Syntax.{w64}
 use mir.Val.{SFits, to_z, of_z}
 use mir.Facts.{to_z-of_z}
-use Rattle.integers.specs.Laws.{test_yes}
+use Rattle.integers.proofs.Halving.{test_yes}
 use Rattle.engine_reduced_table.specs.Reduced.{other_asked, own_fits, between_ready}
 use borrow.Author.Rules.{rules}
 use Rattle.engine_restoring.proofs.lower_own.Statement.{statement}

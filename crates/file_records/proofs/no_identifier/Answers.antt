@@ -6,7 +6,7 @@ use borrow.Author.Tests.{eq-eqb, ne_eqb}
 use lib.IntN.{ℤ, pos}
 use mir.Syntax.{w32}
 use Rattle.integers.specs.Integer.{eq_z}
-use Rattle.integers.specs.Bits.{eqb_bits}
+use Rattle.integers.proofs.Bits.{eqb_bits}
 use Rattle.lines.specs.Limits.{line_size}
 use Rattle.file_records.specs.Table.{header_size, record_size_lem}
 use Rattle.file_records.specs.Places.{identified_record}

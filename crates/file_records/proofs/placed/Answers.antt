@@ -55,8 +55,8 @@ module _ (f : Else-no_identifier) where
   room = f.args.room
 
   last : (t : Bool) → no_room_lem room c kind ≡ t → cond t (Refused (NoRoom c.at)) (taken b c kind size) ≡ sized b room c kind (Known size)
-  last t q =
-      rw (eq-eqb _ _ (right (goal.at.no_room-requires f).After-struct_known-1), le-ltb _ _ f.if-bytes-cursor.false, sym f.out_of_place.ensures ∙ f.if-out_of_place.false, sym f.no_identifier.ensures ∙ f.if-no_identifier.false, q)
+  last t q = let right : le16 f.args.bytes.now f.args.cursor.at ≡ f.args.size = sym f.u16_at.ensures.0 ∙ f.if-u16_at-size.false in
+      rw (eq-eqb _ _ (right), le-ltb _ _ f.if-bytes-cursor.false, sym f.out_of_place.ensures ∙ f.if-out_of_place.false, sym f.no_identifier.ensures ∙ f.if-no_identifier.false, q)
 
 pub returns-then-no_room : goal.returns-then-no_room
 returns-then-no_room c = last (goal.at.returns-then-no_room c).Else-no_identifier true (sym c.no_room.ensures ∙ c.if-no_room.true)

@@ -1,9 +1,10 @@
 -- `file_records::scan` meets its contract. The invariant: reading on from the cursor leads where all of the reading leads.
 use mathlib.Core.Path.{refl, sym, ◌∙◌}
-use Prim.Native.Nat.{◌-◌, ◌<◌}
+use Prim.Native.Nat.{◌<◌}
 use native.Mathlib.Omega.{arith}
 use Rattle.file_records.specs.declared.Cursor.{Cursor}
-use Rattle.file_records.specs.Laws.{Running, reached_in, begins, goes_on, stops}
+use Rattle.file_records.specs.Laws.{Running, reached_in}
+use Rattle.file_records.proofs.Reading.{begins, goes_on, stops}
 use Rattle.file_records.proofs.scan.Goals.{In-More}
 use Rattle.file_records.proofs.scan.Goals as goal
 

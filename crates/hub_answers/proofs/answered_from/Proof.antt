@@ -10,7 +10,7 @@ use lib.IntN.{ℤ, pos}
 use lib.Signed.{le_z}
 use mir.Syntax.{w64}
 use mir.Val.{to_z, of_z}
-use Rattle.integers.specs.Bits.{kept}
+use Rattle.integers.proofs.Bits.{kept}
 use Rattle.theory_walks.specs.Distance.{◌⊞◌}
 use Rattle.theory_walks.specs.Negative.{not_below0}
 use Rattle.theory_bounds.specs.Near.{near}

@@ -9,7 +9,7 @@ use lib.ListN.{length, set, length-set}
 use mir.Syntax.{w32, w64}
 use mir.Val.{SFits, to_z, of_z}
 use mir.Facts.{to_z-of_z}
-use Rattle.integers.specs.Bits.{kept}
+use Rattle.integers.proofs.Bits.{kept}
 use Rattle.integers.specs.Fill.{filled, filled_none, filled_more}
 use Rattle.theory_hub.specs.Hub.{hub_model}
 use Rattle.hub_weights.specs.Weights.{weights_in}

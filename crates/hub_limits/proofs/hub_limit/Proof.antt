@@ -5,7 +5,7 @@ use native.Mathlib.Omega.{arith}
 use borrow.Author.Rules.{rules}
 use mir.Syntax.{w64}
 use mir.Val.{to_z, of_z}
-use Rattle.integers.specs.Bits.{kept}
+use Rattle.integers.proofs.Bits.{kept}
 use Rattle.theory_hub.specs.Hub.{Weights, hub_points, leaves, limit_by_lem, others}
 use Rattle.decide_rows.specs.Stored.{stored}
 use Rattle.hub_weights.specs.Weights.{weights_in}

@@ -6,8 +6,8 @@ use lib.IntN.{ℤ}
 use mir.Syntax.{w64}
 use mir.Val.{to_z, of_z}
 use mir.Facts.{to_z-of_z}
-use Rattle.integers.specs.Bits.{kept}
-use Rattle.integers.specs.Laws.{test_yes, test_no}
+use Rattle.integers.proofs.Bits.{kept}
+use Rattle.integers.proofs.Halving.{test_yes, test_no}
 use Rattle.lines.specs.Line.{number}
 use Rattle.hub_weights.specs.Lowered.{lowered_stays, lowered_set}
 use Rattle.hub_weights.proofs.lower.Statement.{statement}

@@ -6,7 +6,7 @@ use native.Mathlib.Omega.{arith}
 use borrow.Author.Rules.{rules}
 use lib.IntN.{ℤ}
 use mir.Syntax.{w64}
-use Rattle.integers.specs.Bits.{kept}
+use Rattle.integers.proofs.Bits.{kept}
 use Rattle.steps.specs.Point.{point, opposite}
 use Rattle.theory_bounds.specs.Tight.{tight}
 use Rattle.decide_rows.specs.Stored.{stored}

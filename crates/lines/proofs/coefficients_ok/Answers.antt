@@ -2,7 +2,7 @@
 use mathlib.Core.Path.{◌≡◌, sym, ap, ◌∙◌}
 use mathlib.Core.Bool.{Bool, ◌&&◌}
 use mir.Syntax.{w32}
-use Rattle.integers.specs.Bits.{kept}
+use Rattle.integers.proofs.Bits.{kept}
 use Rattle.integers.specs.Integer.{is_within_lem}
 use Rattle.lines.specs.declared.Line.{Line}
 use Rattle.lines.specs.Refusal.{coefficients_ok_lem}

@@ -6,8 +6,8 @@ use mir.Syntax.{w32, w64}
 use mir.Val.{SFits, to_z, of_z}
 use mir.Facts.{to_z-of_z}
 use Rattle.integers.specs.Integer.{is_between}
-use Rattle.integers.specs.Linear.{ints, given₂}
-use Rattle.integers.specs.Bits.{kept}
+use Rattle.integers.proofs.Linear.{ints, given₂}
+use Rattle.integers.proofs.Bits.{kept}
 use Rattle.lines.specs.Refusal.{constant_ok_lem}
 use Rattle.lines.proofs.constant_ok.Goals.{Start}
 use Rattle.lines.proofs.constant_ok.Goals as goal

@@ -2,7 +2,7 @@
 use mathlib.Core.Path.{◌∙◌, ap}
 use lib.IntN.{pos}
 use mir.Syntax.{w32}
-use Rattle.integers.specs.Bits.{kept}
+use Rattle.integers.proofs.Bits.{kept}
 use Rattle.integers.specs.Integer.{is_between}
 use Rattle.lines.specs.Limits.{max_identifier}
 use Rattle.lines.specs.Refusal.{identifier_ok_lem}

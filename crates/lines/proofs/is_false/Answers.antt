@@ -6,7 +6,7 @@ use mir.Syntax.{w32}
 use mir.Val.{of_z}
 use Rattle.integers.specs.Integer.{eq_z}
 use Rattle.integers.specs.Laws.{eq_eq_z, ne_eq_z}
-use Rattle.integers.specs.Bits.{kept, zero_of_bits}
+use Rattle.integers.proofs.Bits.{kept, zero_of_bits}
 use Rattle.lines.specs.Line.{is_false_lem}
 use Rattle.lines.proofs.is_false.Goals.{Else-line-ne0, Else-line-ne0-2}
 use Rattle.lines.proofs.is_false.Goals as goal

@@ -1,6 +1,6 @@
 -- `lines::line_numbers` meets its contract.
 use mir.Syntax.{w32}
-use Rattle.integers.specs.Bits.{kept}
+use Rattle.integers.proofs.Bits.{kept}
 use Rattle.lines.specs.Line.{line_numbers_lem}
 use Rattle.lines.proofs.line_numbers.Goals as goal
 

@@ -5,7 +5,7 @@ use mir.Syntax.{w32}
 use mir.Val.{of_z}
 use native.Mathlib.Omega.{arith}
 use Rattle.integers.specs.Laws.{eq_eq_z, ne_eq_z}
-use Rattle.integers.specs.Bits.{zero_of_bits, eqb_bits}
+use Rattle.integers.proofs.Bits.{zero_of_bits, eqb_bits}
 use Rattle.lines.specs.Refusal.{lone_ok_lem}
 use Rattle.lines.proofs.lone_ok.Goals as goal
 

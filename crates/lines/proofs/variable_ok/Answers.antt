@@ -8,7 +8,7 @@ use mir.Val.{of_z}
 use mir.Facts.{to_z-of_z, to_z_pos}
 use native.Mathlib.Omega.{arith}
 use Rattle.integers.specs.Laws.{eq_eq_z, ne_eq_z}
-use Rattle.integers.specs.Bits.{zero_of_bits, eqb_bits}
+use Rattle.integers.proofs.Bits.{zero_of_bits, eqb_bits}
 use Rattle.lines.specs.Refusal.{variable_ok_lem}
 use Rattle.lines.proofs.variable_ok.Goals as goal
 

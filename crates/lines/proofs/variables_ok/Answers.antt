@@ -3,7 +3,7 @@ use mathlib.Core.Path.{◌≡◌, sym, ap, ap₂, ◌∙◌}
 use mathlib.Core.Bool.{Bool, ◌&&◌}
 use Prim.Native.Nat.{ℕ}
 use mir.Syntax.{w32}
-use Rattle.integers.specs.Bits.{kept}
+use Rattle.integers.proofs.Bits.{kept}
 use Rattle.lines.specs.declared.Line.{Line}
 use Rattle.lines.specs.Refusal.{variable_ok_lem, variables_ok_lem}
 use Rattle.lines.proofs.variables_ok.Goals.{After-variable_ok, After-variable_ok-then-variable_ok}

@@ -8,7 +8,7 @@ use lib.IntN.{ℤ}
 use lib.ListN.{set}
 use mir.Syntax.{w32}
 use mir.Val.{to_z, of_z}
-use Rattle.integers.specs.Bits.{kept}
+use Rattle.integers.proofs.Bits.{kept}
 use Rattle.integers.specs.Fill.{filled_more}
 use Rattle.lines.specs.Line.{number}
 use Rattle.longer_list.specs.Written.{filled_all}

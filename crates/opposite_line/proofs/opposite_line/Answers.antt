@@ -7,8 +7,8 @@ use mir.Syntax.{w32}
 use mir.Val.{SFits, to_z, of_z}
 use mir.Facts.{to_z-of_z}
 use Rattle.integers.specs.Integer.{Within}
-use Rattle.integers.specs.Linear.{ints, given₂}
-use Rattle.integers.specs.Bits.{kept}
+use Rattle.integers.proofs.Linear.{ints, given₂}
+use Rattle.integers.proofs.Bits.{kept}
 use Rattle.lines.specs.Limits.{max_variables, shown_constant_lem}
 use Rattle.opposite_line.specs.Opposite.{opposite}
 use Rattle.opposite_line.proofs.opposite_line.Goals.{After-struct_told-3-1}

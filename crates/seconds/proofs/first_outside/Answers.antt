@@ -7,7 +7,7 @@ use native.Mathlib.Omega.{arith}
 use lib.IntN.{ℤ, pos}
 use lib.ListN.{length, get_or}
 use mir.Syntax.{w64}
-use Rattle.integers.specs.Bits.{kept}
+use Rattle.integers.proofs.Bits.{kept}
 use Rattle.integers.specs.Lowest.{searched_none, searched_more, searched_found, searched_all}
 use Rattle.seconds.specs.Clock.{is_count}
 use mathlib.Core.Bool.{not}

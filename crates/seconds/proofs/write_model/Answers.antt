@@ -9,7 +9,7 @@ use lib.Ieee.{Float}
 use lib.IntN.{ℤ, pos}
 use lib.ListN.{length, get_or, set}
 use mir.Syntax.{w64}
-use Rattle.integers.specs.Bits.{kept}
+use Rattle.integers.proofs.Bits.{kept}
 use Rattle.integers.specs.Fill.{filled, filled_none, filled_more}
 use Rattle.seconds.specs.Clock.{is_count, seconds_of_lem}
 use Rattle.seconds.specs.Promise.{count_at, model_value}

@@ -6,7 +6,7 @@ use native.Mathlib.Omega.{arith}
 use borrow.Author.Rules.{rules}
 use lib.ListN.{length}
 use mir.Syntax.{w64}
-use Rattle.integers.specs.Bits.{kept}
+use Rattle.integers.proofs.Bits.{kept}
 use Rattle.integers.specs.Lowest.{Searched, searched_none, searched_more, searched_found, searched_all}
 use Rattle.lines.specs.Line.{number}
 use Rattle.session_distances.specs.Distances.{is_distance_lem, distance_at}

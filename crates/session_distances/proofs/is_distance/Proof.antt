@@ -5,7 +5,7 @@ use lib.IntN.{ℤ}
 use mir.Syntax.{w64}
 use mir.Facts.{to_z-of_z}
 use Rattle.integers.specs.Integer.{eq_z}
-use Rattle.integers.specs.Bits.{eqb_bits}
+use Rattle.integers.proofs.Bits.{eqb_bits}
 use Rattle.decide_rows.specs.Stored.{stored}
 use Rattle.session_step.specs.Read.{small_of}
 use Rattle.session_distances.proofs.is_distance.Statement.{statement}

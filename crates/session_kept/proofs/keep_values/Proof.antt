@@ -8,7 +8,7 @@ use lib.IntN.{ℤ, pos}
 use lib.ListN.{length, set, drop}
 use mir.Syntax.{w32, w64}
 use mir.Val.{SFits, to_z, of_z}
-use Rattle.integers.specs.Bits.{widens, widened}
+use Rattle.integers.proofs.Bits.{widens, widened}
 use Rattle.integers.specs.Sequence.{tabulate_get_d}
 use Rattle.integers.specs.Fill.{filled, filled_more}
 use Rattle.lines.specs.Line.{number}

@@ -8,7 +8,7 @@ use lib.IntN.{ℤ}
 use lib.ListN.{length, set}
 use mir.Syntax.{w64}
 use mir.Val.{to_z, of_z}
-use Rattle.integers.specs.Bits.{kept}
+use Rattle.integers.proofs.Bits.{kept}
 use Rattle.integers.specs.Fill.{filled, filled_more}
 use Rattle.lines.specs.Line.{number}
 use Rattle.decide_model.specs.Values.{small_value_lem}

@@ -3,7 +3,7 @@ use mathlib.Core.Path.{◌≡◌, sym, ◌∙◌}
 use Prim.Native.Nat.{◌*◌}
 use borrow.Author.Rules.{rules}
 use mir.Syntax.{w64}
-use Rattle.integers.specs.Bits.{kept}
+use Rattle.integers.proofs.Bits.{kept}
 use Rattle.lines.specs.Limits.{max_variables}
 use Rattle.lines.specs.Valid.{lines_more}
 use Rattle.steps.specs.declared.Step.{Step}

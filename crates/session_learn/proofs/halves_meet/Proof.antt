@@ -7,7 +7,7 @@ use mir.Syntax.{w64}
 use mir.Val.{SFits, to_z, of_z}
 use mir.Facts.{to_z-of_z}
 use Rattle.integers.specs.Integer.{half}
-use Rattle.integers.specs.Bits.{kept}
+use Rattle.integers.proofs.Bits.{kept}
 use Rattle.session_learn.specs.With.{meet_none_there, meet_none_back, meet_is, halves_fit}
 use Rattle.session_learn.proofs.halves_meet.Statement.{statement}
 use Rattle.session_learn.proofs.halves_meet.Tie as tie

@@ -5,7 +5,7 @@ use lib.IntN.{◌+ℤ◌}
 use mir.Syntax.{w64}
 use mir.Val.{SFits, to_z, of_z}
 use mir.Facts.{to_z-of_z}
-use Rattle.integers.specs.Bits.{kept}
+use Rattle.integers.proofs.Bits.{kept}
 use Rattle.decide_rows.specs.Read.{no_walk_lem}
 use Rattle.session_learn.specs.With.{way_none_before, way_none_after, first_fits, sum_fits, way_is}
 use Rattle.session_learn.proofs.way_with.Statement.{statement}

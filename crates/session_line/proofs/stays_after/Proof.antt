@@ -8,7 +8,7 @@ use lib.Signed.{le_z}
 use mir.Syntax.{w64}
 use mir.Val.{to_z, of_z}
 use mir.Facts.{to_z-of_z}
-use Rattle.integers.specs.Bits.{kept}
+use Rattle.integers.proofs.Bits.{kept}
 use Rattle.steps.specs.declared.Step.{Step}
 use Rattle.theory_walks.specs.Distance.{◌⊞◌}
 use Rattle.theory_bounds.specs.Tight.{Table}

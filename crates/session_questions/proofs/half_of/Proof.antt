@@ -5,7 +5,7 @@ use borrow.Author.Rules.{rules}
 use mir.Syntax.{w64}
 use mir.Val.{to_z, of_z}
 use Rattle.integers.specs.Integer.{half}
-use Rattle.integers.specs.Bits.{kept}
+use Rattle.integers.proofs.Bits.{kept}
 use Rattle.steps.specs.Point.{opposite}
 use Rattle.theory_bounds.specs.Points.{opposite_below}
 use Rattle.decide_rows.specs.Stored.{stored}

@@ -6,7 +6,7 @@ use lib.Signed.{le_z}
 use mir.Syntax.{w64}
 use mir.Val.{to_z, of_z}
 use mir.Facts.{to_z-of_z}
-use Rattle.integers.specs.Bits.{kept}
+use Rattle.integers.proofs.Bits.{kept}
 use Rattle.lines.specs.Limits.{max_variables}
 use Rattle.lines.specs.Valid.{lines_more}
 use Rattle.steps.specs.declared.Step.{Step}

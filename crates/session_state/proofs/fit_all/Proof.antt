@@ -9,7 +9,7 @@ use borrow.Author.Tests.{not-true, not-false}
 use lib.IntN.{ℤ}
 use lib.ListN.{length, drop}
 use mir.Syntax.{w64}
-use Rattle.integers.specs.Bits.{kept}
+use Rattle.integers.proofs.Bits.{kept}
 use Rattle.lines.specs.Line.{number}
 use Rattle.session_state.specs.State.{fits32, fit_all_lem}
 use Rattle.session_state.specs.Laws.{fit_from, fit_past}

@@ -9,7 +9,7 @@ use lib.IntN.{ℤ, pos}
 use lib.ListN.{length}
 use mir.Syntax.{w64}
 use Rattle.integers.specs.Integer.{is_between}
-use Rattle.integers.specs.Bits.{kept}
+use Rattle.integers.proofs.Bits.{kept}
 use Rattle.lines.specs.Limits.{max_variables, max_lines}
 use Rattle.lines.specs.Line.{number}
 use Rattle.session_state.specs.State.{head_size, head_ok_lem}

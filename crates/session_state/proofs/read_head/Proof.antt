@@ -3,7 +3,7 @@ use mathlib.Core.List.{List}
 use native.Mathlib.Omega.{arith}
 use lib.IntN.{ℤ, pos}
 use mir.Syntax.{w64}
-use Rattle.integers.specs.Bits.{kept, eqb_bits}
+use Rattle.integers.proofs.Bits.{kept, eqb_bits}
 use Rattle.lines.specs.Line.{number}
 use Rattle.session_state.specs.Laws.{HeadOk, head_ok}
 use Rattle.session_state.proofs.read_head.Statement.{statement}

@@ -9,7 +9,7 @@ use lib.ListN.{length, set}
 use mir.Syntax.{w32, w64}
 use mir.Val.{SFits, to_z, of_z}
 use mir.Facts.{to_z-of_z, sfits_widen}
-use Rattle.integers.specs.Bits.{kept}
+use Rattle.integers.proofs.Bits.{kept}
 use Rattle.integers.specs.Fill.{filled, filled_more}
 use Rattle.lines.specs.Line.{number}
 use Rattle.longer_list.specs.Written.{filled_all}

@@ -10,7 +10,7 @@ use lib.ListN.{length, length-set}
 use lib.Signed.{le_z}
 use mir.Syntax.{w64}
 use mir.Val.{to_z, of_z}
-use Rattle.integers.specs.Bits.{kept}
+use Rattle.integers.proofs.Bits.{kept}
 use Rattle.lines.specs.Line.{number}
 use Rattle.theory_bounds.specs.Tight.{Table}
 use Rattle.theory_inserting.specs.Where.{end_as_near}

@@ -8,7 +8,7 @@ use lib.ListN.{length, set, get_or, drop}
 use mir.Syntax.{w64}
 use mir.Val.{to_z, of_z}
 use mir.Facts.{to_z-of_z}
-use Rattle.integers.specs.Bits.{kept}
+use Rattle.integers.proofs.Bits.{kept}
 use Rattle.lines.specs.Line.{number}
 use Rattle.decide_rows.specs.Read.{distance_of, Short}
 use Rattle.decide_stored_table.specs.Sum.{max_tight}

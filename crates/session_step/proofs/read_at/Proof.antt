@@ -6,7 +6,7 @@ use borrow.Author.Rules.{rules}
 use lib.IntN.{ℤ}
 use lib.ListN.{length}
 use mir.Syntax.{w64}
-use Rattle.integers.specs.Bits.{kept}
+use Rattle.integers.proofs.Bits.{kept}
 use Rattle.lines.specs.Limits.{max_variables}
 use Rattle.lines.specs.Line.{number}
 use Rattle.decide_rows.specs.Stored.{stored}

@@ -4,7 +4,7 @@ use borrow.Author.Rules.{rules}
 use lib.IntN.{pos}
 use lib.Signed.{le_z}
 use mir.Syntax.{w64}
-use Rattle.integers.specs.Bits.{kept}
+use Rattle.integers.proofs.Bits.{kept}
 use Rattle.session_step.specs.Done.{stays_is}
 use Rattle.session_step.proofs.stays.Statement.{statement}
 use Rattle.session_step.proofs.stays.Tie as tie

@@ -7,7 +7,7 @@ use lib.IntN.{ℤ}
 use mir.Syntax.{w64}
 use mir.Val.{to_z, of_z}
 use mir.Facts.{to_z-of_z}
-use Rattle.integers.specs.Bits.{kept}
+use Rattle.integers.proofs.Bits.{kept}
 use Rattle.lines.specs.Line.{number}
 use Rattle.decide_rows.specs.Read.{distance_of, short_more, weight_fits}
 use Rattle.session_step.specs.Read.{small_of, small_short, small_back}

@@ -11,7 +11,7 @@ use lib.Signed.{lt_z}
 use mir.Syntax.{w32}
 use mir.Val.{of_z}
 use mir.Facts.{to_z-of_z}
-use Rattle.integers.specs.Bits.{zero_of_bits}
+use Rattle.integers.proofs.Bits.{zero_of_bits}
 use Rattle.steps.specs.Table.{digit}
 use Rattle.steps.proofs.digit_of.Goals as goal
 

@@ -5,7 +5,7 @@ use native.Mathlib.Omega.{arith}
 use borrow.Author.Tests.{lt-ltb, le-ltb}
 use lib.IntN.{ℤ, nat_abs}
 use mir.Syntax.{w32}
-use Rattle.integers.specs.Bits.{kept}
+use Rattle.integers.proofs.Bits.{kept}
 use Rattle.lines.specs.Limits.{max_variables}
 use Rattle.lines.specs.Valid.{VariableOk}
 use Rattle.steps.specs.Point.{point}

@@ -6,8 +6,8 @@ use lib.IntN.{ℤ, pos, ◌+ℤ◌, ◌*ℤ◌}
 use mir.Syntax.{w32, w64}
 use mir.Val.{SFits}
 use mir.Facts.{to_z-of_z}
-use Rattle.integers.specs.Linear.{ints, zs}
-use Rattle.integers.specs.Bits.{widens, widened}
+use Rattle.integers.proofs.Linear.{ints, zs}
+use Rattle.integers.proofs.Bits.{widens, widened}
 use Rattle.steps.proofs.weight_of.Goals.{Start}
 use Rattle.steps.proofs.weight_of.Goals as goal
 

@@ -6,8 +6,8 @@ use mir.Syntax.{w64}
 use mir.Val.{SFits, to_z, of_z}
 use mir.Facts.{to_z-of_z}
 use Rattle.integers.specs.Integer.{half}
-use Rattle.integers.specs.Linear.{ints, zs}
-use Rattle.integers.specs.Bits.{kept}
+use Rattle.integers.proofs.Linear.{ints, zs}
+use Rattle.integers.proofs.Bits.{kept}
 use Rattle.steps.specs.Step.{max_weight}
 use Rattle.check_refutation.specs.declared.Progress.{Progress}
 use Rattle.check_refutation.specs.Progress.{closes}

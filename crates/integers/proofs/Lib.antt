@@ -1,0 +1,4 @@
+pub mod Linear
+pub mod Halving
+pub mod Bits
+pub mod Products

@@ -1,0 +1,2 @@
+pub mod BadHalves
+pub mod AgreeHalves
