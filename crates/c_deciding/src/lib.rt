@@ -23,7 +23,6 @@ pub fn decide_code(a: Answer) -> i64
 }
 
 // Are there whole numbers that meet every line of this list of n variables? The lent buffers take what shows it.
-#[unsafe(no_mangle)]
 pub extern "C" fn utvpi_decide(
     n: u64,
     list: &[i32],
@@ -35,8 +34,8 @@ pub extern "C" fn utvpi_decide(
     work: &mut [i64],
 ) -> i64
     ensures { DecideReturns n list.now result
-        (record { model = model.entry.now; bounds = bounds.old; groups = groups.old; refutation = refutation.old; identifiers = identifiers.old; work = work.old })
-        (record { model = model.exit.now; bounds = bounds.new; groups = groups.new; refutation = refutation.new; identifiers = identifiers.new; work = work.new }) }
+        (record { model = model.old; bounds = bounds.old; groups = groups.old; refutation = refutation.old; identifiers = identifiers.old; work = work.old })
+        (record { model = model.new; bounds = bounds.new; groups = groups.new; refutation = refutation.new; identifiers = identifiers.new; work = work.new }) }
 {
     decide_code(decide(
         n as usize,

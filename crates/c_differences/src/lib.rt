@@ -10,7 +10,6 @@ use differences::decide_differences;
 
 // Are there whole numbers that meet every line of this list of differences of n variables? The lent buffers take what
 // shows it.
-#[unsafe(no_mangle)]
 pub extern "C" fn utvpi_decide_differences(
     n: u64,
     list: &[i32],
@@ -22,8 +21,8 @@ pub extern "C" fn utvpi_decide_differences(
     work: &mut [i64],
 ) -> i64
     ensures { DifferencesReturn n list.now result
-        (record { model = model.entry.now; bounds = bounds.old; groups = groups.old; refutation = refutation.old; identifiers = identifiers.old; work = work.old })
-        (record { model = model.exit.now; bounds = bounds.new; groups = groups.new; refutation = refutation.new; identifiers = identifiers.new; work = work.new }) }
+        (record { model = model.old; bounds = bounds.old; groups = groups.old; refutation = refutation.old; identifiers = identifiers.old; work = work.old })
+        (record { model = model.new; bounds = bounds.new; groups = groups.new; refutation = refutation.new; identifiers = identifiers.new; work = work.new }) }
 {
     decide_code(decide_differences(
         n as usize,

@@ -72,7 +72,6 @@ fn write_result(a: WriteAnswer) -> FileWritten
 }
 
 // Reads the list of a file into the front of a buffer.
-#[unsafe(no_mangle)]
 pub extern "C" fn utvpi_read_list(bytes: &[u8], numbers: &mut [i32]) -> FileRead
     ensures { ReadReturns bytes.now result numbers.old numbers.new }
 {
@@ -80,7 +79,6 @@ pub extern "C" fn utvpi_read_list(bytes: &[u8], numbers: &mut [i32]) -> FileRead
 }
 
 // Writes the one file of a list into the front of a buffer.
-#[unsafe(no_mangle)]
 pub extern "C" fn utvpi_write_list(n: u64, list: &[i32], out: &mut [u8]) -> FileWritten
     ensures { WriteReturns n list.now result out.old out.new }
 {

@@ -26,7 +26,6 @@ pub fn line_code(a: LineAnswer) -> i64
 
 // Does this line hold of all whole numbers that meet every line of this list of n variables? If not, the model takes
 // numbers that meet the list and not the line.
-#[unsafe(no_mangle)]
 pub extern "C" fn utvpi_implied_line(
     n: u64,
     list: &[i32],
@@ -35,8 +34,8 @@ pub extern "C" fn utvpi_implied_line(
     work: &mut [i64],
 ) -> i64
     ensures { LineReturns n list.now line result
-        (record { model = model.entry.now; work = work.old })
-        (record { model = model.exit.now; work = work.new }) }
+        (record { model = model.old; work = work.old })
+        (record { model = model.new; work = work.new }) }
 {
     line_code(implied_line(n as usize, list, line, model, work))
 }

@@ -71,7 +71,6 @@ fn kept_of(progress: Progress) -> Kept
 }
 
 // Begins the check of a refutation that arrives in pieces.
-#[unsafe(no_mangle)]
 pub extern "C" fn utvpi_refutation_begin() -> Kept
     ensures { result ≡ refutation_begin }
 {
@@ -79,7 +78,6 @@ pub extern "C" fn utvpi_refutation_begin() -> Kept
 }
 
 // Takes one number more. It is lent the list and that number alone.
-#[unsafe(no_mangle)]
 pub extern "C" fn utvpi_refutation_take(kept: Kept, list: &[i32], number: u32) -> Kept
     ensures { result ≡ refutation_take list.now kept number }
 {
@@ -87,7 +85,6 @@ pub extern "C" fn utvpi_refutation_take(kept: Kept, list: &[i32], number: u32) -
 }
 
 // Do the numbers taken show that no whole numbers meet this list of n variables?
-#[unsafe(no_mangle)]
 pub extern "C" fn utvpi_refutation_end(kept: Kept, n: u64, list: &[i32]) -> i64
     ensures { result ≡ refutation_end n list.now kept }
 {

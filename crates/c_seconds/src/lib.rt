@@ -35,7 +35,6 @@ fn seconds_result(a: SecondsAnswer) -> SecondsWritten
 }
 
 // Writes the counts of one clock in seconds: form 0 is seconds per tick, form 1 is ticks per second.
-#[unsafe(no_mangle)]
 pub extern "C" fn utvpi_model_seconds(
     form: u32,
     rate: f64,
@@ -48,7 +47,6 @@ pub extern "C" fn utvpi_model_seconds(
 }
 
 // Writes the counts of events in seconds, each by the clock of its recorder in a table.
-#[unsafe(no_mangle)]
 pub extern "C" fn utvpi_events_seconds(
     forms: &[u32],
     rates: &[f64],

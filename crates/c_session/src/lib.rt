@@ -25,7 +25,6 @@ fn done_code(v: Validity) -> i64
 }
 
 // Starts a session of n variables in a lent state.
-#[unsafe(no_mangle)]
 pub extern "C" fn utvpi_session_start(n: u64, state: &mut [i64]) -> i64
     ensures { StartReturns n state.old result state.new }
 {
@@ -33,7 +32,6 @@ pub extern "C" fn utvpi_session_start(n: u64, state: &mut [i64]) -> i64
 }
 
 // Are there whole numbers that meet every line so far and this one? The lent buffers take what shows it.
-#[unsafe(no_mangle)]
 pub extern "C" fn utvpi_session_add(
     state: &mut [i64],
     line: Line,
@@ -45,9 +43,9 @@ pub extern "C" fn utvpi_session_add(
     work: &mut [i64],
 ) -> i64
     ensures { AddReturns state.old line result
-        (record { model = model.entry.now; bounds = bounds.old; groups = groups.old; refutation = refutation.old; identifiers = identifiers.old; work = work.old })
+        (record { model = model.old; bounds = bounds.old; groups = groups.old; refutation = refutation.old; identifiers = identifiers.old; work = work.old })
         state.new
-        (record { model = model.exit.now; bounds = bounds.new; groups = groups.new; refutation = refutation.new; identifiers = identifiers.new; work = work.new }) }
+        (record { model = model.new; bounds = bounds.new; groups = groups.new; refutation = refutation.new; identifiers = identifiers.new; work = work.new }) }
 {
     decide_code(add(
         state,
@@ -62,7 +60,6 @@ pub extern "C" fn utvpi_session_add(
 }
 
 // Withdraws the last line.
-#[unsafe(no_mangle)]
 pub extern "C" fn utvpi_session_withdraw(state: &mut [i64]) -> i64
     ensures { WithdrawReturns state.old result state.new }
 {

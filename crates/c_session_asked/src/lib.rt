@@ -12,7 +12,6 @@ use lines::Line;
 use session_asked::{session_implied, session_pair};
 
 // Does this line hold of all whole numbers that meet every line so far?
-#[unsafe(no_mangle)]
 pub extern "C" fn utvpi_session_implied(state: &[i64], line: Line) -> i64
     ensures { result ≡ line_returned state.now line }
 {
@@ -21,7 +20,6 @@ pub extern "C" fn utvpi_session_implied(state: &[i64], line: Line) -> i64
 
 // The greatest values, over all whole numbers that meet every line so far, of the sums and differences of the variables x
 // and y.
-#[unsafe(no_mangle)]
 pub extern "C" fn utvpi_session_pair(state: &[i64], x: u64, y: u64) -> CPair
     ensures { result ≡ pair_returned state.now x y }
 {

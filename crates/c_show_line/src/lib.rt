@@ -25,7 +25,6 @@ fn show_code(a: ShowAnswer) -> i64
 
 // Does this line hold of all whole numbers that meet every line of this list of n variables? If so, a showing of it is
 // written.
-#[unsafe(no_mangle)]
 pub extern "C" fn utvpi_show_line(
     n: u64,
     list: &[i32],
@@ -35,8 +34,8 @@ pub extern "C" fn utvpi_show_line(
     work: &mut [i64],
 ) -> i64
     ensures { ShowReturns n list.now line result
-        (record { refutation = refutation.entry.now; identifiers = identifiers.old; work = work.old })
-        (record { refutation = refutation.exit.now; identifiers = identifiers.new; work = work.new }) }
+        (record { refutation = refutation.old; identifiers = identifiers.old; work = work.old })
+        (record { refutation = refutation.new; identifiers = identifiers.new; work = work.new }) }
 {
     show_code(show_line(n as usize, list, line, refutation, identifiers, work))
 }

@@ -53,7 +53,6 @@ fn choice_result(asked: u64, answer: TreeAnswer) -> CChoice
 
 // The first choice, of a tree over the lines of this list of n variables, that whole numbers meet: its number, and such
 // numbers in the model.
-#[unsafe(no_mangle)]
 pub extern "C" fn utvpi_tree_first(
     n: u64,
     list: &[i32],
@@ -62,14 +61,13 @@ pub extern "C" fn utvpi_tree_first(
     work: &mut [i64],
 ) -> CChoice
     ensures { FirstReturns n list.now tree.now result
-        (record { model = model.entry.now; work = work.old })
-        (record { model = model.exit.now; work = work.new }) }
+        (record { model = model.old; work = work.old })
+        (record { model = model.new; work = work.new }) }
 {
     choice_result(0, first_choice(n as usize, list, tree, model, work))
 }
 
 // Decides the choice with this number, of a tree over the lines of this list of n variables.
-#[unsafe(no_mangle)]
 pub extern "C" fn utvpi_tree_decide(
     n: u64,
     list: &[i32],
@@ -83,8 +81,8 @@ pub extern "C" fn utvpi_tree_decide(
     work: &mut [i64],
 ) -> CChoice
     ensures { ChoiceReturns n list.now tree.now choice result
-        (record { model = model.entry.now; bounds = bounds.old; groups = groups.old; refutation = refutation.old; identifiers = identifiers.old; work = work.old })
-        (record { model = model.exit.now; bounds = bounds.new; groups = groups.new; refutation = refutation.new; identifiers = identifiers.new; work = work.new }) }
+        (record { model = model.old; bounds = bounds.old; groups = groups.old; refutation = refutation.old; identifiers = identifiers.old; work = work.old })
+        (record { model = model.new; bounds = bounds.new; groups = groups.new; refutation = refutation.new; identifiers = identifiers.new; work = work.new }) }
 {
     let answer = decide_choice(
         n as usize,

@@ -138,8 +138,8 @@ fn decide_by_table(
     requires { validity_for n list.now
         (record { model = model.now; bounds = bounds.old; groups = groups.old; refutation = refutation.old; identifiers = identifiers.old; work = work.old }) ≡ Valid }
     ensures { Decided n list.now result
-        (record { model = model.entry.now; bounds = bounds.old; groups = groups.old; refutation = refutation.old; identifiers = identifiers.old; work = work.old })
-        (record { model = model.exit.now; bounds = bounds.new; groups = groups.new; refutation = refutation.new; identifiers = identifiers.new; work = work.new }) }
+        (record { model = model.old; bounds = bounds.old; groups = groups.old; refutation = refutation.old; identifiers = identifiers.old; work = work.old })
+        (record { model = model.new; bounds = bounds.new; groups = groups.new; refutation = refutation.new; identifiers = identifiers.new; work = work.new }) }
 {
     let room = work_room(n);
     if refuted(list, n, refutation, work) {
@@ -166,8 +166,8 @@ pub fn decide(
     work: &mut [i64],
 ) -> Answer
     ensures { Decided n list.now result
-        (record { model = model.entry.now; bounds = bounds.old; groups = groups.old; refutation = refutation.old; identifiers = identifiers.old; work = work.old })
-        (record { model = model.exit.now; bounds = bounds.new; groups = groups.new; refutation = refutation.new; identifiers = identifiers.new; work = work.new }) }
+        (record { model = model.old; bounds = bounds.old; groups = groups.old; refutation = refutation.old; identifiers = identifiers.old; work = work.old })
+        (record { model = model.new; bounds = bounds.new; groups = groups.new; refutation = refutation.new; identifiers = identifiers.new; work = work.new }) }
 {
     let found = decide_validity(
         n,

@@ -74,8 +74,8 @@ pub fn implied_line(
     work: &mut [i64],
 ) -> LineAnswer
     ensures { AnswersLine n list.now line result
-        (record { model = model.entry.now; work = work.old })
-        (record { model = model.exit.now; work = work.new }) }
+        (record { model = model.old; work = work.old })
+        (record { model = model.new; work = work.new }) }
 {
     let found = question_validity(n, list, line, model.len(), work.len());
     if let Validity::Refused(r) = found {

@@ -47,9 +47,9 @@ pub fn add_to(
 ) -> Answer
     requires { (is_state_lem state.old ≡ true) × (refused_in state.old ≡ false) }
     ensures { Adds state.old line result
-        (record { model = model.entry.now; bounds = bounds.old; groups = groups.old; refutation = refutation.old; identifiers = identifiers.old; work = work.old })
+        (record { model = model.old; bounds = bounds.old; groups = groups.old; refutation = refutation.old; identifiers = identifiers.old; work = work.old })
         state.new
-        (record { model = model.exit.now; bounds = bounds.new; groups = groups.new; refutation = refutation.new; identifiers = identifiers.new; work = work.new }) }
+        (record { model = model.new; bounds = bounds.new; groups = groups.new; refutation = refutation.new; identifiers = identifiers.new; work = work.new }) }
 {
     let mut list = [0i32; MOST_NUMBERS];
     copy_with(state, line, &mut list);

@@ -95,8 +95,8 @@ pub fn show_line(
     work: &mut [i64],
 ) -> ShowAnswer
     ensures { ShowsLine n list.now line result
-        (record { refutation = refutation.entry.now; identifiers = identifiers.old; work = work.old })
-        (record { refutation = refutation.exit.now; identifiers = identifiers.new; work = work.new }) }
+        (record { refutation = refutation.old; identifiers = identifiers.old; work = work.old })
+        (record { refutation = refutation.new; identifiers = identifiers.new; work = work.new }) }
 {
     let found = show_validity(
         n,

@@ -69,8 +69,8 @@ fn decide_listed(
 ) -> TreeAnswer
     requires { ListOk n list.now }
     ensures { DecidesListed n (numbered_list tree.now list.now total choice) choice result
-        (record { model = model.entry.now; bounds = bounds.old; groups = groups.old; refutation = refutation.old; identifiers = identifiers.old; work = work.old })
-        (record { model = model.exit.now; bounds = bounds.new; groups = groups.new; refutation = refutation.new; identifiers = identifiers.new; work = work.new }) }
+        (record { model = model.old; bounds = bounds.old; groups = groups.old; refutation = refutation.old; identifiers = identifiers.old; work = work.old })
+        (record { model = model.new; bounds = bounds.new; groups = groups.new; refutation = refutation.new; identifiers = identifiers.new; work = work.new }) }
 {
     let mut chosen = [0i32; MOST_NUMBERS];
     write_choice(list, tree, total, choice, &mut chosen);
@@ -101,8 +101,8 @@ pub fn decide_choice(
     work: &mut [i64],
 ) -> TreeAnswer
     ensures { DecidesChoice n list.now tree.now choice result
-        (record { model = model.entry.now; bounds = bounds.old; groups = groups.old; refutation = refutation.old; identifiers = identifiers.old; work = work.old })
-        (record { model = model.exit.now; bounds = bounds.new; groups = groups.new; refutation = refutation.new; identifiers = identifiers.new; work = work.new }) }
+        (record { model = model.old; bounds = bounds.old; groups = groups.old; refutation = refutation.old; identifiers = identifiers.old; work = work.old })
+        (record { model = model.new; bounds = bounds.new; groups = groups.new; refutation = refutation.new; identifiers = identifiers.new; work = work.new }) }
 {
     let found = list_validity(n, list);
     if let Validity::Refused(r) = found {

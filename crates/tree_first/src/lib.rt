@@ -64,8 +64,8 @@ pub fn first_choice(
     work: &mut [i64],
 ) -> TreeAnswer
     ensures { AnswersFirst n list.now tree.now result
-        (record { model = model.entry.now; work = work.old })
-        (record { model = model.exit.now; work = work.new }) }
+        (record { model = model.old; work = work.old })
+        (record { model = model.new; work = work.new }) }
 {
     let found = list_validity(n, list);
     if let Validity::Refused(r) = found {

@@ -45,8 +45,7 @@ returns-in-Refused c = answered (goal.at.returns-in-Refused c).After-list_validi
 -- the list is valid
 module _ (c : In_default) where
   valid : let kept : Progress = c.args.kept in let answer_after : Validity → CheckAnswer = λ v. unless_refused (v or_else refuse_if (ltb max_refutation kept.read) LongRefutation) (cond (is_small_lem kept) (verdict kept) (No 0)) in let n : ℕ = c.args.n in let L : List ℤ = c.args.list.now in answer_after Valid ≡ end_answer (n) (L) (kept)
-  unfolding end_answer
-  valid = let n : ℕ = c.args.n in let L : List ℤ = c.args.list.now in let kept : Progress = c.args.kept in let answer_after : Validity → CheckAnswer = λ v. unless_refused (v or_else refuse_if (ltb max_refutation kept.read) LongRefutation) (cond (is_small_lem kept) (verdict kept) (No 0)) in let answered : (v : Validity) → c.list_validity-found.result ≡ v → answer_after v ≡ end_answer n L kept = λ v e. ap answer_after (sym e ∙ c.list_validity-found.ensures) in answered Valid c.in_default.is
+  valid = let n : ℕ = c.args.n in let L : List ℤ = c.args.list.now in let kept : Progress = c.args.kept in let answer_after : Validity → CheckAnswer = λ v. unless_refused (v or_else refuse_if (ltb max_refutation kept.read) LongRefutation) (cond (is_small_lem kept) (verdict kept) (No 0)) in let answered : (v : Validity) → c.list_validity-found.result ≡ v → answer_after v ≡ end_answer n L kept = unfold end_answer in (λ v e. ap answer_after (sym e ∙ c.list_validity-found.ensures)) in answered Valid c.in_default.is
 
 pub returns-then-kept-gt-MAX_REFUTATION : goal.returns-then-kept-gt-MAX_REFUTATION
 returns-then-kept-gt-MAX_REFUTATION c = rw (lt-ltb _ _ c.if-kept-gt-MAX_REFUTATION.true) at (valid (goal.at.returns-then-kept-gt-MAX_REFUTATION c).In_default)
@@ -54,8 +53,7 @@ returns-then-kept-gt-MAX_REFUTATION c = rw (lt-ltb _ _ c.if-kept-gt-MAX_REFUTATI
 -- it is not too long either
 module _ (c : After-is_small) where
   judged : let kept : Progress = c.args.kept in let n : ℕ = c.args.n in let L : List ℤ = c.args.list.now in (b : Bool) → c.is_small.result ≡ b → cond b (verdict (kept)) (No 0) ≡ end_answer (n) (L) (kept)
-  unfolding end_answer
-  judged b e = let kept : Progress = c.args.kept in let answer_after : Validity → CheckAnswer = λ v. unless_refused (v or_else refuse_if (ltb max_refutation kept.read) LongRefutation) (cond (is_small_lem kept) (verdict kept) (No 0)) in let n : ℕ = c.args.n in let L : List ℤ = c.args.list.now in let answered : (v : Validity) → c.list_validity-found.result ≡ v → answer_after v ≡ end_answer n L kept = λ v e. ap answer_after (sym e ∙ c.list_validity-found.ensures) in let valid : answer_after Valid ≡ end_answer (n) (L) (kept) = answered Valid c.in_default.is in
+  judged b e = let kept : Progress = c.args.kept in let answer_after : Validity → CheckAnswer = λ v. unless_refused (v or_else refuse_if (ltb max_refutation kept.read) LongRefutation) (cond (is_small_lem kept) (verdict kept) (No 0)) in let n : ℕ = c.args.n in let L : List ℤ = c.args.list.now in let answered : (v : Validity) → c.list_validity-found.result ≡ v → answer_after v ≡ end_answer n L kept = unfold end_answer in (λ v e. ap answer_after (sym e ∙ c.list_validity-found.ensures)) in let valid : answer_after Valid ≡ end_answer (n) (L) (kept) = answered Valid c.in_default.is in
       ap (λ (t : Bool). cond t (verdict (kept)) (No 0)) (sym e ∙ c.is_small.ensures)
       ∙ (rw (le-ltb _ _ c.if-kept-gt-MAX_REFUTATION.false) at (valid))
 

@@ -45,8 +45,7 @@ module _ (c : In_default) where
   valid = let n : ℕ = c.args.n in let L : List ℤ = c.args.list.now in let l : Line = c.args.line in let R : List ℕ = c.args.showing.now in asked (n) (L) (l) (length (R)) (sym c.showing_validity-found.ensures ∙ c.in_default.is)
 
   answers : let L : List ℤ = c.args.list.now in let l : Line = c.args.line in let R : List ℕ = c.args.showing.now in let n : ℕ = c.args.n in verdict (run (against (L) (l)) start (R)) ≡ shown_answer (n) (L) (l) (R)
-  unfolding shown_answer
-  answers = let L : List ℤ = c.args.list.now in let l : Line = c.args.line in let R : List ℕ = c.args.showing.now in let n : ℕ = c.args.n in let answered : unless_refused c.showing_validity-found.result (verdict (run (against L l) start R)) ≡ shown_answer n L l R = ap (λ (v : Validity). unless_refused v (verdict (run (against L l) start R))) c.showing_validity-found.ensures in ap (λ (v : Validity). unless_refused v (verdict (run (against (L) (l)) start (R)))) (sym c.in_default.is) ∙ answered
+  answers = let L : List ℤ = c.args.list.now in let l : Line = c.args.line in let R : List ℕ = c.args.showing.now in let n : ℕ = c.args.n in let answered : unless_refused c.showing_validity-found.result (verdict (run (against L l) start R)) ≡ shown_answer n L l R = unfold shown_answer in (ap (λ (v : Validity). unless_refused v (verdict (run (against L l) start R))) c.showing_validity-found.ensures) in ap (λ (v : Validity). unless_refused v (verdict (run (against (L) (l)) start (R)))) (sym c.in_default.is) ∙ answered
 
   -- for each variable number that the limits allow
   lines_work : let L : List ℤ = c.args.list.now in let l : Line = c.args.line in LinesOk max_variables (against (L) (l))

@@ -23,7 +23,7 @@ module _ (c : After-distance-1) where
   entry = number rows c.args.from
 
   read : to_z w64 (of_z w64 entry) ≡ entry
-  read = to_z-of_z (record { sfits = c.distance-1.given })
+  read = to_z-of_z {w = w64} (record { sfits = c.distance-1.given })
 
 -- where it is a number: the sum
 module _ (c : Else-distance-eq-NO_WALK) where

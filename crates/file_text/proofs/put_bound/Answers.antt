@@ -20,7 +20,7 @@ returns-then-z-absent c =
 
 pub returns : goal.returns
 returns c =
-    let e = ne_eq_z c.args.z c.args.absent (λ c. c.if-z-absent.false (ap (of_z w64) c)) in
+    let e = ne_eq_z c.args.z c.args.absent (λ q'. c.if-z-absent.false (ap (of_z w64) q')) in
     same
     (ap signed_text (to_z-of_z c.ranges.z) ∙ ap (λ (b : Bool). cond b dot (signed_text c.args.z)) (sym e))
     c.put_signed.ensures

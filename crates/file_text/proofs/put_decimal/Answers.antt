@@ -12,10 +12,10 @@ use Rattle.file_text.proofs.put_decimal.Goals as goal
 -- what `decimal` wrote
 module _ (c : After-decimal-count) where
   is : take c.decimal-count.result c.decimal-count.new.out ≡ decimal_of c.args.n
-  is = c.decimal-count.ensures.1.1 ∙ decimal_is c.args.n c.decimal-count.result c.decimal-count.ensures.1.0
+  is = c.decimal-count.ensures.digits ∙ decimal_is c.args.n c.decimal-count.result c.decimal-count.ensures.len
 
   short : length (take c.decimal-count.result c.decimal-count.new.out) ≤ 20
-  short = simp length-take (omega (arith, few c.args.n c.decimal-count.result c.ranges.n.fits c.decimal-count.ensures.1.0))
+  short = simp length-take (omega (arith, few c.args.n c.decimal-count.result c.ranges.n.fits c.decimal-count.ensures.len))
 
 pub put_text-requires : goal.put_text-requires
 put_text-requires c = omega (arith, short (goal.at.put_text-requires c).After-decimal-count)
