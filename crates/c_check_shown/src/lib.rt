@@ -77,7 +77,7 @@ fn broken_line(count: usize) -> i64
 }
 
 // Do these bytes show that every solution of this list of n variables meets this line?
-pub extern "C" fn utvpi_check_shown(n: u64, list: &[u8], line: &[u8], showing: &[u8]) -> i64
+pub fn utvpi_check_shown(n: u64, list: &[u8], line: &[u8], showing: &[u8]) -> i64
     ensures { result ≡ check_shown_lem n list.now line.now showing.now }
 {
     let variables = n as usize;

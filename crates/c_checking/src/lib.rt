@@ -64,7 +64,7 @@ fn refutation_of_numbers(n: usize, list: &[i32], refutation: &[u8]) -> CheckAnsw
 }
 
 // Does this model meet every line of this list of n variables?
-pub extern "C" fn utvpi_check_model(n: u64, list: &[u8], model: &[u8]) -> i64
+pub fn utvpi_check_model(n: u64, list: &[u8], model: &[u8]) -> i64
     ensures { result ≡ check_model_lem n list.now model.now }
 {
     let variables = n as usize;
@@ -78,7 +78,7 @@ pub extern "C" fn utvpi_check_model(n: u64, list: &[u8], model: &[u8]) -> i64
 }
 
 // Does this refutation show that no whole numbers meet this list of n variables?
-pub extern "C" fn utvpi_check_refutation(n: u64, list: &[u8], refutation: &[u8]) -> i64
+pub fn utvpi_check_refutation(n: u64, list: &[u8], refutation: &[u8]) -> i64
     ensures { result ≡ check_refutation_lem n list.now refutation.now }
 {
     let variables = n as usize;

@@ -23,7 +23,7 @@ pub fn decide_code(a: Answer) -> i64
 }
 
 // Are there whole numbers that meet every line of this list of n variables? The lent buffers take what shows it.
-pub extern "C" fn utvpi_decide(
+pub fn utvpi_decide(
     n: u64,
     list: &[i32],
     model: &mut [i32],

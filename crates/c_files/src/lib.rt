@@ -72,14 +72,14 @@ fn write_result(a: WriteAnswer) -> FileWritten
 }
 
 // Reads the list of a file into the front of a buffer.
-pub extern "C" fn utvpi_read_list(bytes: &[u8], numbers: &mut [i32]) -> FileRead
+pub fn utvpi_read_list(bytes: &[u8], numbers: &mut [i32]) -> FileRead
     ensures { ReadReturns bytes.now result numbers.old numbers.new }
 {
     read_result(read_list(bytes, numbers))
 }
 
 // Writes the one file of a list into the front of a buffer.
-pub extern "C" fn utvpi_write_list(n: u64, list: &[i32], out: &mut [u8]) -> FileWritten
+pub fn utvpi_write_list(n: u64, list: &[i32], out: &mut [u8]) -> FileWritten
     ensures { WriteReturns n list.now result out.old out.new }
 {
     write_result(write_list(n as usize, list, out))

@@ -33,7 +33,7 @@ pub fn outcome_code(outcome: PairOutcome) -> i64
 
 // The greatest values, over all whole numbers that meet every line of this list of n variables, of the sums and
 // differences of the variables x and y.
-pub extern "C" fn utvpi_implied_pair(
+pub fn utvpi_implied_pair(
     n: u64,
     list: &[i32],
     x: u64,

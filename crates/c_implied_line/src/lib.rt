@@ -26,7 +26,7 @@ pub fn line_code(a: LineAnswer) -> i64
 
 // Does this line hold of all whole numbers that meet every line of this list of n variables? If not, the model takes
 // numbers that meet the list and not the line.
-pub extern "C" fn utvpi_implied_line(
+pub fn utvpi_implied_line(
     n: u64,
     list: &[i32],
     line: Line,

@@ -71,21 +71,21 @@ fn kept_of(progress: Progress) -> Kept
 }
 
 // Begins the check of a refutation that arrives in pieces.
-pub extern "C" fn utvpi_refutation_begin() -> Kept
+pub fn utvpi_refutation_begin() -> Kept
     ensures { result ≡ refutation_begin }
 {
     kept_of(begin())
 }
 
 // Takes one number more. It is lent the list and that number alone.
-pub extern "C" fn utvpi_refutation_take(kept: Kept, list: &[i32], number: u32) -> Kept
+pub fn utvpi_refutation_take(kept: Kept, list: &[i32], number: u32) -> Kept
     ensures { result ≡ refutation_take list.now kept number }
 {
     kept_of(take_on(progress_of(kept), list, number))
 }
 
 // Do the numbers taken show that no whole numbers meet this list of n variables?
-pub extern "C" fn utvpi_refutation_end(kept: Kept, n: u64, list: &[i32]) -> i64
+pub fn utvpi_refutation_end(kept: Kept, n: u64, list: &[i32]) -> i64
     ensures { result ≡ refutation_end n list.now kept }
 {
     check_code(end(progress_of(kept), n as usize, list))

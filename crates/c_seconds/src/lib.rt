@@ -35,7 +35,7 @@ fn seconds_result(a: SecondsAnswer) -> SecondsWritten
 }
 
 // Writes the counts of one clock in seconds: form 0 is seconds per tick, form 1 is ticks per second.
-pub extern "C" fn utvpi_model_seconds(
+pub fn utvpi_model_seconds(
     form: u32,
     rate: f64,
     counts: &[i64],
@@ -47,7 +47,7 @@ pub extern "C" fn utvpi_model_seconds(
 }
 
 // Writes the counts of events in seconds, each by the clock of its recorder in a table.
-pub extern "C" fn utvpi_events_seconds(
+pub fn utvpi_events_seconds(
     forms: &[u32],
     rates: &[f64],
     recorders: &[u32],

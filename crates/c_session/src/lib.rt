@@ -25,14 +25,14 @@ fn done_code(v: Validity) -> i64
 }
 
 // Starts a session of n variables in a lent state.
-pub extern "C" fn utvpi_session_start(n: u64, state: &mut [i64]) -> i64
+pub fn utvpi_session_start(n: u64, state: &mut [i64]) -> i64
     ensures { StartReturns n state.old result state.new }
 {
     done_code(start(n as usize, state))
 }
 
 // Are there whole numbers that meet every line so far and this one? The lent buffers take what shows it.
-pub extern "C" fn utvpi_session_add(
+pub fn utvpi_session_add(
     state: &mut [i64],
     line: Line,
     model: &mut [i32],
@@ -60,7 +60,7 @@ pub extern "C" fn utvpi_session_add(
 }
 
 // Withdraws the last line.
-pub extern "C" fn utvpi_session_withdraw(state: &mut [i64]) -> i64
+pub fn utvpi_session_withdraw(state: &mut [i64]) -> i64
     ensures { WithdrawReturns state.old result state.new }
 {
     done_code(withdraw(state))

@@ -12,7 +12,7 @@ use lines::Line;
 use session_asked::{session_implied, session_pair};
 
 // Does this line hold of all whole numbers that meet every line so far?
-pub extern "C" fn utvpi_session_implied(state: &[i64], line: Line) -> i64
+pub fn utvpi_session_implied(state: &[i64], line: Line) -> i64
     ensures { result ≡ line_returned state.now line }
 {
     line_code(session_implied(state, line))
@@ -20,7 +20,7 @@ pub extern "C" fn utvpi_session_implied(state: &[i64], line: Line) -> i64
 
 // The greatest values, over all whole numbers that meet every line so far, of the sums and differences of the variables x
 // and y.
-pub extern "C" fn utvpi_session_pair(state: &[i64], x: u64, y: u64) -> CPair
+pub fn utvpi_session_pair(state: &[i64], x: u64, y: u64) -> CPair
     ensures { result ≡ pair_returned state.now x y }
 {
     let answer = session_pair(state, x as usize, y as usize);

@@ -44,7 +44,7 @@ fn part_result(part: Part) -> CPart
 }
 
 // Which of these two refutations of this list of n variables is accepted, and which of two that are is the shorter?
-pub extern "C" fn utvpi_shorter(n: u64, list: &[i32], first: &[u32], second: &[u32]) -> CPart
+pub fn utvpi_shorter(n: u64, list: &[i32], first: &[u32], second: &[u32]) -> CPart
     ensures { result ≡ shorter_returned n list.now first.now second.now }
 {
     part_result(shorter_part(n as usize, list, first, second))

@@ -25,7 +25,7 @@ fn show_code(a: ShowAnswer) -> i64
 
 // Does this line hold of all whole numbers that meet every line of this list of n variables? If so, a showing of it is
 // written.
-pub extern "C" fn utvpi_show_line(
+pub fn utvpi_show_line(
     n: u64,
     list: &[i32],
     line: Line,

@@ -53,7 +53,7 @@ fn choice_result(asked: u64, answer: TreeAnswer) -> CChoice
 
 // The first choice, of a tree over the lines of this list of n variables, that whole numbers meet: its number, and such
 // numbers in the model.
-pub extern "C" fn utvpi_tree_first(
+pub fn utvpi_tree_first(
     n: u64,
     list: &[i32],
     tree: &[u32],
@@ -68,7 +68,7 @@ pub extern "C" fn utvpi_tree_first(
 }
 
 // Decides the choice with this number, of a tree over the lines of this list of n variables.
-pub extern "C" fn utvpi_tree_decide(
+pub fn utvpi_tree_decide(
     n: u64,
     list: &[i32],
     tree: &[u32],

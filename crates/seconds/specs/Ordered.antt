@@ -2,7 +2,7 @@
 --
 -- Rounding keeps the order of what is not negative (the toolchain's `round_mono`), and a negative one's rounding is the mirror image: the sign goes through
 -- `round` untouched, and comparison turns round with it.
-use Rattle.std.specs.Prelude.{◌≡◌, Bool, true, false, cond, ◌&&◌, ◌||◌, ℤ, pos, negsuc, nat_abs, ◌≤ℤ◌, T, eqb, ltb, leb, Float}
+use Rattle.std.specs.Prelude.{◌≡◌, Bool, true, false, cond, ◌&&◌, ◌||◌, ℤ, pos, negsuc, nat_abs, T, eqb, ltb, Float}
 use Rattle.std.proofs.Math.Path.{refl}
 use Rattle.std.proofs.Common.{sym, subst, ap₂, ◌∙◌, true≢false, mul-le-mul_right, arith, leb→le, lt→ltb, eqb→eq}
 use Rattle.std.proofs.lemmas.Bool.{false≢true}

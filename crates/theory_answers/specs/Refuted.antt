@@ -13,7 +13,6 @@ use Rattle.steps.specs.Point.{opposite}
 use Rattle.steps.specs.Step.{steps_of}
 use Rattle.steps.specs.Walk.{Path}
 use Rattle.decide_buffers.specs.Room.{refutation_room_lem}
-use Rattle.theory_walks.specs.Distance.{some}
 use Rattle.theory_walks.specs.Least.{best_attained}
 use Rattle.theory_walks.specs.Negative.{no_negative, negative_point, negative_walk}
 use Rattle.check_soundness.specs.Head.{kind_of, steps_in}

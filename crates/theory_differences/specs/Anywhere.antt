@@ -1,6 +1,6 @@
 -- Rows that begin with 0 everywhere: an entry of row k is the least sum of the walks to its point, from anywhere, with at most k steps. A row that a round
 -- does not change is a potential. An entry that round k changed is made by a walk of exactly k steps, and every closed part of that walk is negative.
-use Rattle.std.specs.Prelude.{◌≡◌, ◌⊎◌, true, ℕ, zero, suc, ◌*◌, ◌≤◌, ◌<◌, ℤ, ◌+ℤ◌, length, replicate}
+use Rattle.std.specs.Prelude.{◌≡◌, ◌⊎◌, true, ℕ, zero, suc, ◌*◌, ◌<◌, ℤ, ◌+ℤ◌, length, replicate}
 use Rattle.std.proofs.Math.Path.{refl}
 use Rattle.std.proofs.Common.{sym, ap, ◌∙◌, inl, inr, mul-le-mul_right, arith}
 use mathlib.Core.List.{List, ◌++◌}

@@ -8,7 +8,7 @@ use Rattle.integers.proofs.Linear.{ints}
 use Rattle.steps.specs.declared.Step.{Step}
 use Rattle.steps.specs.Walk.{total, total_append}
 use Rattle.theory_walks.specs.Row.{In, WithinPoints}
-use Rattle.theory_walks.specs.Reach.{Walk, walk_none, walk_one, walk_rest}
+use Rattle.theory_walks.specs.Reach.{Walk, walk_rest}
 
 -- all points between the first and the last are below k
 abbrev pub Inner : ℕ → List Step → Type 0

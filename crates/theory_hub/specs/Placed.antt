@@ -1,9 +1,9 @@
 -- Solutions made from the hub's value: every other variable takes the value nearest zero that its caps leave. With a cap made tighter at one point, they
 -- reach each point's greatest value, or pass every number where it has none, and give one variable another value while the rest keep theirs.
-use Rattle.std.specs.Prelude.{◌≡◌, refl, ◌⊎◌, Bool, eqb, ℤ, pos, neg_ℤ, ◌+ℤ◌, ◌-ℤ◌}
+use Rattle.std.specs.Prelude.{◌≡◌, refl, Bool, eqb, ℤ, pos, neg_ℤ, ◌+ℤ◌, ◌-ℤ◌}
 use Rattle.std.proofs.Common.{sym, ap, subst, ◌∙◌, ⊎_elim, arith, le-ltb, eq-eqb, ne_eqb}
 use Rattle.std.proofs.Math.Bool.{true, false, cond}
-use Prim.Native.Nat.{ℕ, zero, suc, ◌+◌, ◌*◌, ◌≤◌, ◌<◌}
+use Prim.Native.Nat.{ℕ, zero, suc, ◌*◌, ◌≤◌, ◌<◌}
 use Rattle.std.proofs.Math.Decide.{ℕ_discrete}
 use Rattle.integers.specs.Integer.{◌⩽◌}
 use Rattle.integers.proofs.Linear.{ints}

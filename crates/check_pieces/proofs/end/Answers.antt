@@ -44,18 +44,18 @@ returns-in-Refused c = answered (goal.at.returns-in-Refused c).After-list_validi
 
 -- the list is valid
 module _ (c : In_default) where
-  valid : let kept : Progress = c.args.kept in let answer_after : Validity → CheckAnswer = λ v. unless_refused (v or_else refuse_if (ltb max_refutation kept.read) LongRefutation) (cond (is_small_lem kept) (verdict kept) (No 0)) in let n : ℕ = c.args.n in let L : List ℤ = c.args.list.now in answer_after Valid ≡ end_answer (n) (L) (kept)
-  valid = let n : ℕ = c.args.n in let L : List ℤ = c.args.list.now in let kept : Progress = c.args.kept in let answer_after : Validity → CheckAnswer = λ v. unless_refused (v or_else refuse_if (ltb max_refutation kept.read) LongRefutation) (cond (is_small_lem kept) (verdict kept) (No 0)) in let answered : (v : Validity) → c.list_validity-found.result ≡ v → answer_after v ≡ end_answer n L kept = unfold end_answer in (λ v e. ap answer_after (sym e ∙ c.list_validity-found.ensures)) in answered Valid c.in_default.is
+  valid : answer_after (goal.at.In_default c).After-list_validity-found Valid ≡ end_answer (n (goal.at.In_default c).After-list_validity-found) (L (goal.at.In_default c).After-list_validity-found) (kept (goal.at.In_default c).After-list_validity-found)
+  valid = answered (goal.at.In_default c).After-list_validity-found Valid c.in_default.is
 
 pub returns-then-kept-gt-MAX_REFUTATION : goal.returns-then-kept-gt-MAX_REFUTATION
 returns-then-kept-gt-MAX_REFUTATION c = rw (lt-ltb _ _ c.if-kept-gt-MAX_REFUTATION.true) at (valid (goal.at.returns-then-kept-gt-MAX_REFUTATION c).In_default)
 
 -- it is not too long either
 module _ (c : After-is_small) where
-  judged : let kept : Progress = c.args.kept in let n : ℕ = c.args.n in let L : List ℤ = c.args.list.now in (b : Bool) → c.is_small.result ≡ b → cond b (verdict (kept)) (No 0) ≡ end_answer (n) (L) (kept)
-  judged b e = let kept : Progress = c.args.kept in let answer_after : Validity → CheckAnswer = λ v. unless_refused (v or_else refuse_if (ltb max_refutation kept.read) LongRefutation) (cond (is_small_lem kept) (verdict kept) (No 0)) in let n : ℕ = c.args.n in let L : List ℤ = c.args.list.now in let answered : (v : Validity) → c.list_validity-found.result ≡ v → answer_after v ≡ end_answer n L kept = unfold end_answer in (λ v e. ap answer_after (sym e ∙ c.list_validity-found.ensures)) in let valid : answer_after Valid ≡ end_answer (n) (L) (kept) = answered Valid c.in_default.is in
-      ap (λ (t : Bool). cond t (verdict (kept)) (No 0)) (sym e ∙ c.is_small.ensures)
-      ∙ (rw (le-ltb _ _ c.if-kept-gt-MAX_REFUTATION.false) at (valid))
+  judged : (b : Bool) → c.is_small.result ≡ b → cond b (verdict (kept (goal.at.After-is_small c).After-list_validity-found)) (No 0) ≡ end_answer (n (goal.at.After-is_small c).After-list_validity-found) (L (goal.at.After-is_small c).After-list_validity-found) (kept (goal.at.After-is_small c).After-list_validity-found)
+  judged b e =
+      ap (λ (t : Bool). cond t (verdict (kept (goal.at.After-is_small c).After-list_validity-found)) (No 0)) (sym e ∙ c.is_small.ensures)
+      ∙ (rw (le-ltb _ _ c.if-kept-gt-MAX_REFUTATION.false) at (valid (goal.at.After-is_small c).In_default))
 
 pub returns-then-not-is_small : goal.returns-then-not-is_small
 returns-then-not-is_small c = judged (goal.at.returns-then-not-is_small c).After-is_small false (not-true _ (ap not c.if-not-is_small.true))

@@ -43,12 +43,11 @@ returns-in-Refused c =
 
 -- the list is valid
 module _ (c : In_default) where
-  ok : let n : ℕ = c.args.n in let L : List ℤ = c.args.list.now in ListOk (n) (L)
-  ok = let n : ℕ = c.args.n in let L : List ℤ = c.args.list.now in valid_list (n) (L) (sym c.list_validity-found.ensures ∙ c.in_default.is)
+  ok : ListOk (n (goal.at.In_default c).After-list_validity-found) (L (goal.at.In_default c).After-list_validity-found)
+  ok = valid_list (n (goal.at.In_default c).After-list_validity-found) (L (goal.at.In_default c).After-list_validity-found) (sym c.list_validity-found.ensures ∙ c.in_default.is)
 
-  valid : let L : List ℤ = c.args.list.now in let R : List ℕ = c.args.refutation.now in let answer_after : Validity → CheckAnswer = λ v. unless_refused (v or_else refuse_if (ltb max_refutation (length R)) LongRefutation) (verdict (run L start R)) in let n : ℕ = c.args.n in answer_after Valid ≡ refutation_answer (n) (L) (R)
-  unfolding refutation_answer refutation_validity
-  valid = let L : List ℤ = c.args.list.now in let R : List ℕ = c.args.refutation.now in let answer_after : Validity → CheckAnswer = λ v. unless_refused (v or_else refuse_if (ltb max_refutation (length R)) LongRefutation) (verdict (run L start R)) in let n : ℕ = c.args.n in let answered : answer_after c.list_validity-found.result ≡ refutation_answer n L R = ap answer_after c.list_validity-found.ensures in ap (answer_after) (sym c.in_default.is) ∙ answered
+  valid : answer_after (goal.at.In_default c).After-list_validity-found Valid ≡ refutation_answer (n (goal.at.In_default c).After-list_validity-found) (L (goal.at.In_default c).After-list_validity-found) (R (goal.at.In_default c).After-list_validity-found)
+  valid = ap (answer_after (goal.at.In_default c).After-list_validity-found) (sym c.in_default.is) ∙ answered (goal.at.In_default c).After-list_validity-found
 
 pub returns-then-refutation-gt-MAX_REFUTATION : goal.returns-then-refutation-gt-MAX_REFUTATION
 returns-then-refutation-gt-MAX_REFUTATION c = rw (lt-ltb max_refutation _ c.if-refutation-gt-MAX_REFUTATION.true) at (valid (goal.at.returns-then-refutation-gt-MAX_REFUTATION c).In_default)

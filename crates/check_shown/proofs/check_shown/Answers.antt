@@ -41,24 +41,24 @@ returns-in-Refused c =
 
 -- nothing is refused
 module _ (c : In_default) where
-  valid : let n : ℕ = c.args.n in let L : List ℤ = c.args.list.now in let l : Line = c.args.line in let R : List ℕ = c.args.showing.now in ShowingAsked (n) (L) (l) (length (R))
-  valid = let n : ℕ = c.args.n in let L : List ℤ = c.args.list.now in let l : Line = c.args.line in let R : List ℕ = c.args.showing.now in asked (n) (L) (l) (length (R)) (sym c.showing_validity-found.ensures ∙ c.in_default.is)
+  valid : ShowingAsked (n (goal.at.In_default c).After-showing_validity-found) (L (goal.at.In_default c).After-showing_validity-found) (l (goal.at.In_default c).After-showing_validity-found) (length (R (goal.at.In_default c).After-showing_validity-found))
+  valid = asked (n (goal.at.In_default c).After-showing_validity-found) (L (goal.at.In_default c).After-showing_validity-found) (l (goal.at.In_default c).After-showing_validity-found) (length (R (goal.at.In_default c).After-showing_validity-found)) (sym c.showing_validity-found.ensures ∙ c.in_default.is)
 
-  answers : let L : List ℤ = c.args.list.now in let l : Line = c.args.line in let R : List ℕ = c.args.showing.now in let n : ℕ = c.args.n in verdict (run (against (L) (l)) start (R)) ≡ shown_answer (n) (L) (l) (R)
-  answers = let L : List ℤ = c.args.list.now in let l : Line = c.args.line in let R : List ℕ = c.args.showing.now in let n : ℕ = c.args.n in let answered : unless_refused c.showing_validity-found.result (verdict (run (against L l) start R)) ≡ shown_answer n L l R = unfold shown_answer in (ap (λ (v : Validity). unless_refused v (verdict (run (against L l) start R))) c.showing_validity-found.ensures) in ap (λ (v : Validity). unless_refused v (verdict (run (against (L) (l)) start (R)))) (sym c.in_default.is) ∙ answered
+  answers : verdict (run (against (L (goal.at.In_default c).After-showing_validity-found) (l (goal.at.In_default c).After-showing_validity-found)) start (R (goal.at.In_default c).After-showing_validity-found)) ≡ shown_answer (n (goal.at.In_default c).After-showing_validity-found) (L (goal.at.In_default c).After-showing_validity-found) (l (goal.at.In_default c).After-showing_validity-found) (R (goal.at.In_default c).After-showing_validity-found)
+  answers = ap (λ (v : Validity). unless_refused v (verdict (run (against (L (goal.at.In_default c).After-showing_validity-found) (l (goal.at.In_default c).After-showing_validity-found)) start (R (goal.at.In_default c).After-showing_validity-found)))) (sym c.in_default.is) ∙ answered (goal.at.In_default c).After-showing_validity-found
 
   -- for each variable number that the limits allow
-  lines_work : let L : List ℤ = c.args.list.now in let l : Line = c.args.line in LinesOk max_variables (against (L) (l))
-  lines_work = let n : ℕ = c.args.n in let L : List ℤ = c.args.list.now in let l : Line = c.args.line in
+  lines_work : LinesOk max_variables (against (L (goal.at.In_default c).After-showing_validity-found) (l (goal.at.In_default c).After-showing_validity-found))
+  lines_work =
       let a = valid.asked in
-      lines_more (n) max_variables _ (list_ok (n) (L) (l) a).variables (works (n) (L) (l) a).lines
+      lines_more (n (goal.at.In_default c).After-showing_validity-found) max_variables _ (list_ok (n (goal.at.In_default c).After-showing_validity-found) (L (goal.at.In_default c).After-showing_validity-found) (l (goal.at.In_default c).After-showing_validity-found) a).variables (works (n (goal.at.In_default c).After-showing_validity-found) (L (goal.at.In_default c).After-showing_validity-found) (l (goal.at.In_default c).After-showing_validity-found) a).lines
 
 pub write_against-requires : goal.write_against-requires
 write_against-requires c = against_ready (n (goal.at.write_against-requires c).After-showing_validity-found) (L (goal.at.write_against-requires c).After-showing_validity-found) (l (goal.at.write_against-requires c).After-showing_validity-found) (valid (goal.at.write_against-requires c).In_default).asked _ refl
 
 -- the list against the line is written
 module _ (c : After-write_against) where
-  written : let L : List ℤ = c.args.list.now in let l : Line = c.args.line in c.write_against.new.out ≡ against (L) (l)
+  written : c.write_against.new.out ≡ against (L (goal.at.After-write_against c).After-showing_validity-found) (l (goal.at.After-write_against c).After-showing_validity-found)
   written = c.write_against.ensures
 
 pub read_all-requires : goal.read_all-requires

@@ -14,5 +14,5 @@ relax_row-requires c =
 pub returns : goal.returns
 returns c =
     let r = c.relax_row in
-    row_done (2 * c.args.n * c.args.width) c.args.from (c.args.from + 2 * (2 * c.args.n * c.args.width) - c.args.from) (wide c.args.width (steps_of (lines_of c.args.list.now))) c.args.work.now r.new.1.1.1.0
+    row_done (2 * c.args.n * c.args.width) c.args.from (c.args.from + 2 * (2 * c.args.n * c.args.width) - c.args.from) (wide c.args.width (steps_of (lines_of c.args.list.now))) c.args.work.now r.new.rows
     (omega arith) c.requires.room r.ensures c.settled.result c.settled.ensures

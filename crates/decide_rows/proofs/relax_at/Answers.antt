@@ -27,17 +27,17 @@ module _ (c : After-distance-1) where
 
 -- where it is a number: the sum
 module _ (c : Else-distance-eq-NO_WALK) where
-  walk : entry (goal.at.overflow_add-sum c).After-distance-1 ≡ no_walk_lem → ⊥
+  walk : entry (goal.at.Else-distance-eq-NO_WALK c).After-distance-1 ≡ no_walk_lem → ⊥
   walk e = c.if-distance-eq-NO_WALK.false (ap (of_z w64) e)
 
-  small : Within max_distance (entry (goal.at.overflow_add-sum c).After-distance-1)
-  small = entry_small (rows (goal.at.overflow_add-sum c).After-distance-1) c.args.from c.requires.4 walk
+  small : Within max_distance (entry (goal.at.Else-distance-eq-NO_WALK c).After-distance-1)
+  small = entry_small (rows (goal.at.Else-distance-eq-NO_WALK c).After-distance-1) c.args.from c.requires.4 walk
 
-  fits : SFits w64 (entry (goal.at.overflow_add-sum c).After-distance-1 +ℤ c.args.weight)
+  fits : SFits w64 (entry (goal.at.Else-distance-eq-NO_WALK c).After-distance-1 +ℤ c.args.weight)
   fits = sum_fits _ _ small c.requires.3
 
-  sum_is : to_z w64 (of_z w64 (to_z w64 (of_z w64 (entry (goal.at.overflow_add-sum c).After-distance-1)) +ℤ to_z w64 (of_z w64 c.args.weight))) ≡ entry (goal.at.overflow_add-sum c).After-distance-1 +ℤ c.args.weight
-  sum_is = rw (read (goal.at.overflow_add-sum c).After-distance-1, to_z-of_z c.ranges.weight) (to_z-of_z fits)
+  sum_is : to_z w64 (of_z w64 (to_z w64 (of_z w64 (entry (goal.at.Else-distance-eq-NO_WALK c).After-distance-1)) +ℤ to_z w64 (of_z w64 c.args.weight))) ≡ entry (goal.at.Else-distance-eq-NO_WALK c).After-distance-1 +ℤ c.args.weight
+  sum_is = rw (read (goal.at.Else-distance-eq-NO_WALK c).After-distance-1, to_z-of_z c.ranges.weight) (to_z-of_z fits)
 
 pub returns-then-distance-eq-NO_WALK : goal.returns-then-distance-eq-NO_WALK
 returns-then-distance-eq-NO_WALK c = none_way _ _ _ _ _ (sym (read (goal.at.returns-then-distance-eq-NO_WALK c).After-distance-1) ∙ ap (to_z w64) c.if-distance-eq-NO_WALK.true)

@@ -1,6 +1,5 @@
 -- `decide_rows::relax_columns` meets its contract. The invariant: the step was gone in the columns 0 to j - 1.
 use mathlib.Core.Path.{◌≡◌, refl, ◌∙◌}
-use Prim.Native.Nat.{◌-◌}
 use native.Mathlib.Omega.{arith}
 use mir.Syntax.{w64}
 use mir.Val.{to_z, of_z}
@@ -42,8 +41,8 @@ relax_at-requires c =
 pub loop-j-preserved : goal.loop-j-preserved
 loop-j-preserved c =
     let r = c.relax_at in (
-      r.auto.0 ∙ c.loop-j.invariant.0,
-      across_more c.args.size c.args.width c.args.step c.args.rows.now c.requires c.loop-j.rows c.loop-j.j c.loop-j.invariant.1 c.loop-j-test.true r.new.0 (rw (weight_is (goal.at.loop-j-preserved c).Start) at r.ensures),
+      r.auto.rows ∙ c.loop-j.invariant.0,
+      across_more c.args.size c.args.width c.args.step c.args.rows.now c.requires c.loop-j.rows c.loop-j.j c.loop-j.invariant.1 c.loop-j-test.true r.new.rows (rw (weight_is (goal.at.loop-j-preserved c).Start) at r.ensures),
     )
 
 pub returns : goal.returns

@@ -2,7 +2,7 @@
 use mathlib.Core.Path.{◌≡◌, refl, ◌∙◌}
 use mathlib.Core.Logic.{inl}
 use mathlib.Core.List.{List}
-use Prim.Native.Nat.{ℕ, ◌*◌, ◌-◌}
+use Prim.Native.Nat.{ℕ, ◌*◌}
 use native.Mathlib.Omega.{arith}
 use lib.IntN.{ℤ}
 use Rattle.lines.specs.Line.{line_count}
@@ -40,8 +40,8 @@ relax_one-requires c =
 pub loop-number-preserved : goal.loop-number-preserved
 loop-number-preserved c =
     let r = c.relax_one in (
-      r.auto.1.1.1.0 ∙ c.loop-number.invariant.0,
-      round_more (n (goal.at.loop-number-preserved c).After-copy_row) (width (goal.at.loop-number-preserved c).After-copy_row) (L (goal.at.loop-number-preserved c).After-copy_row) (twice (goal.at.loop-number-preserved c).After-copy_row) (ready (goal.at.loop-number-preserved c).After-copy_row) c.loop-number.rows c.loop-number.number c.loop-number.invariant.1 (omega (arith, c.loop-number-test.true)) r.new.1.1.1.0 r.ensures,
+      r.auto.rows ∙ c.loop-number.invariant.0,
+      round_more (n (goal.at.loop-number-preserved c).After-copy_row) (width (goal.at.loop-number-preserved c).After-copy_row) (L (goal.at.loop-number-preserved c).After-copy_row) (twice (goal.at.loop-number-preserved c).After-copy_row) (ready (goal.at.loop-number-preserved c).After-copy_row) c.loop-number.rows c.loop-number.number c.loop-number.invariant.1 (omega (arith, c.loop-number-test.true)) r.new.rows r.ensures,
     )
 
 pub returns : goal.returns

@@ -1,7 +1,7 @@
 -- `decide_rows::rows` meets its contract. The invariant: rows 0 to k stand one behind the other, and `from` is where row k begins.
 use mathlib.Core.Path.{◌≡◌, refl, ap, ◌∙◌}
 use mathlib.Core.List.{List}
-use Prim.Native.Nat.{ℕ, suc, ◌+◌, ◌*◌, ◌-◌, ◌<◌, ◌≤◌}
+use Prim.Native.Nat.{ℕ, suc, ◌+◌, ◌*◌, ◌<◌, ◌≤◌}
 use native.Mathlib.Omega.{arith}
 use lib.IntN.{ℤ}
 use lib.ListN.{length}
@@ -50,51 +50,50 @@ next_row-same-requires c =
     let k : c.loop-k.k < 2 * n (goal.at.next_row-same-requires c).After-start_row = omega (arith, c.loop-k-test.true) in
     let Short-row = turn_short (E (goal.at.next_row-same-requires c).After-start_row) (2 * n (goal.at.next_row-same-requires c).After-start_row) (u (goal.at.next_row-same-requires c).After-start_row) (w₁ (goal.at.next_row-same-requires c).After-start_row) (w₀ (goal.at.next_row-same-requires c).After-start_row) c.start_row.ensures c.loop-k.work c.loop-k.k c.loop-k.from c.loop-k.invariant.1 (short (goal.at.next_row-same-requires c).After-start_row c.loop-k.k (omega (arith, k))) in
     single_ready (n (goal.at.next_row-same-requires c).After-start_row) c.args.list.now c.loop-k.work c.loop-k.from c.requires.few c.requires.valid
-    (omega (arith, c.loop-k.invariant.0, c.loop-k.invariant.1.place, c.start_row.auto.0, c.requires.room, rows_fit c.loop-k.k (2 * n (goal.at.next_row-same-requires c).After-start_row) k)) Short-row
+    (omega (arith, c.loop-k.invariant.0, c.loop-k.invariant.1.place, c.start_row.auto.work, c.requires.room, rows_fit c.loop-k.k (2 * n (goal.at.next_row-same-requires c).After-start_row) k)) Short-row
 
 -- after one more row
 module _ (r : After-next_row-same) where
   abbrev w₂ : List ℤ
   w₂ = r.next_row-same.new.work
 
-  low : let n : ℕ = r.args.n in r.loop-k.k < 2 * n
+  low : r.loop-k.k < 2 * n (goal.at.After-next_row-same r).After-start_row
   low = omega (arith, r.loop-k-test.true)
 
-  done : let n : ℕ = r.args.n in let E : List Step = steps_of (lines_of r.args.list.now) in RowDone (2 * n) (E) r.loop-k.work r.loop-k.from w₂ r.next_row-same.result
-  done = let n : ℕ = r.args.n in let E : List Step = steps_of (lines_of r.args.list.now) in single_done (2 * n) (E) r.loop-k.work r.loop-k.from w₂ r.next_row-same.result r.next_row-same.ensures
+  done : RowDone (2 * n (goal.at.After-next_row-same r).After-start_row) (E (goal.at.After-next_row-same r).After-start_row) r.loop-k.work r.loop-k.from w₂ r.next_row-same.result
+  done = single_done (2 * n (goal.at.After-next_row-same r).After-start_row) (E (goal.at.After-next_row-same r).After-start_row) r.loop-k.work r.loop-k.from w₂ r.next_row-same.result r.next_row-same.ensures
 
-  more : let E : List Step = steps_of (lines_of r.args.list.now) in let n : ℕ = r.args.n in let u : ℕ = r.args.u in let w₀ : List ℤ = r.start_row.new.work in Turn (E) (2 * n) (u) (w₀) w₂ (r.loop-k.k + 1) (r.loop-k.from + 2 * n)
-  more = let E : List Step = steps_of (lines_of r.args.list.now) in let n : ℕ = r.args.n in let u : ℕ = r.args.u in let w₁ : List ℤ = r.args.work.now in let w₀ : List ℤ = r.start_row.new.work in let short : (k : ℕ) → k ≤ 2 * n → AllShort max_distance (row_at E (2 * n) u k) = λ k h. rows_short n r.args.list.now r.requires.few r.requires.valid u k h in
-      turn_more (E) (2 * n) (u) (w₁) (w₀) r.start_row.ensures r.loop-k.work r.loop-k.k r.loop-k.from r.loop-k.invariant.1
-      (short r.loop-k.k (omega (arith, low))) w₂ r.next_row-same.result done low
+  more : Turn (E (goal.at.After-next_row-same r).After-start_row) (2 * n (goal.at.After-next_row-same r).After-start_row) (u (goal.at.After-next_row-same r).After-start_row) (w₀ (goal.at.After-next_row-same r).After-start_row) w₂ (r.loop-k.k + 1) (r.loop-k.from + 2 * n (goal.at.After-next_row-same r).After-start_row)
+  more =
+      turn_more (E (goal.at.After-next_row-same r).After-start_row) (2 * n (goal.at.After-next_row-same r).After-start_row) (u (goal.at.After-next_row-same r).After-start_row) (w₁ (goal.at.After-next_row-same r).After-start_row) (w₀ (goal.at.After-next_row-same r).After-start_row) r.start_row.ensures r.loop-k.work r.loop-k.k r.loop-k.from r.loop-k.invariant.1
+      (short (goal.at.After-next_row-same r).After-start_row r.loop-k.k (omega (arith, low))) w₂ r.next_row-same.result done low
 
 pub overflow_add-from : goal.overflow_add-from
 overflow_add-from c =
-    record { fits = omega (arith, c.loop-k.invariant.1.place, c.requires.room, c.good.1.1.1.0.0, rows_fit c.loop-k.k (2 * n (goal.at.overflow_add-from c).After-start_row) (low (goal.at.overflow_add-from c).After-next_row-same)) }
+    record { fits = omega (arith, c.loop-k.invariant.1.place, c.requires.room, c.well_formed.1.1.1.0.0, rows_fit c.loop-k.k (2 * n (goal.at.overflow_add-from c).After-start_row) (low (goal.at.overflow_add-from c).After-next_row-same)) }
 
 pub returns-then-same : goal.returns-then-same
 returns-then-same c =
     let i = c.loop-k in
     let h = low (goal.at.returns-then-same c).After-next_row-same in
     turn_end (E (goal.at.returns-then-same c).After-start_row) (2 * n (goal.at.returns-then-same c).After-start_row) (u (goal.at.returns-then-same c).After-start_row) (w₁ (goal.at.returns-then-same c).After-start_row) (w₀ (goal.at.returns-then-same c).After-start_row) c.start_row.ensures (w₂ (goal.at.returns-then-same c).After-next_row-same) (i.k + 1) (i.from + 2 * n (goal.at.returns-then-same c).After-start_row) (more (goal.at.returns-then-same c).After-next_row-same)
-    (settled (turn_same (E (goal.at.returns-then-same c).After-start_row) (2 * n (goal.at.returns-then-same c).After-start_row) (u (goal.at.returns-then-same c).After-start_row) (w₁ (goal.at.returns-then-same c).After-start_row) (w₀ (goal.at.returns-then-same c).After-start_row) c.start_row.ensures i.work i.k i.from i.inv.1 (short (goal.at.returns-then-same c).After-start_row i.k (omega (arith, h)))
+    (settled (turn_same (E (goal.at.returns-then-same c).After-start_row) (2 * n (goal.at.returns-then-same c).After-start_row) (u (goal.at.returns-then-same c).After-start_row) (w₁ (goal.at.returns-then-same c).After-start_row) (w₀ (goal.at.returns-then-same c).After-start_row) c.start_row.ensures i.work i.k i.from i.invariant.1 (short (goal.at.returns-then-same c).After-start_row i.k (omega (arith, h)))
     (w₂ (goal.at.returns-then-same c).After-next_row-same) c.next_row-same.result (done (goal.at.returns-then-same c).After-next_row-same) (short (goal.at.returns-then-same c).After-start_row (suc i.k) h) h c.if-same.true))
 
 -- the source's own entry stands in the work area
 module _ (c : Else-same) where
-  same_room : length (w₂ (goal.at.overflow_add-from-in-loop-k c).After-next_row-same) ≡ length (w₁ (goal.at.overflow_add-from-in-loop-k c).After-start_row)
-  same_room = omega (arith, c.next_row-same.kept.1.1.1.0, c.loop-k.invariant.0, c.start_row.kept.0)
+  same_room : length (w₂ (goal.at.Else-same c).After-next_row-same) ≡ length (w₁ (goal.at.Else-same c).After-start_row)
+  same_room = omega (arith, c.next_row-same.auto.work, c.loop-k.invariant.0, c.start_row.auto.work)
 
-  entry_in : c.loop-k.from + 2 * n (goal.at.overflow_add-from-in-loop-k c).After-start_row + u (goal.at.overflow_add-from-in-loop-k c).After-start_row < length (w₂ (goal.at.overflow_add-from-in-loop-k c).After-next_row-same)
+  entry_in : c.loop-k.from + 2 * n (goal.at.Else-same c).After-start_row + u (goal.at.Else-same c).After-start_row < length (w₂ (goal.at.Else-same c).After-next_row-same)
   entry_in =
-      let s = c in
-      omega (arith, same_room, c.loop-k.invariant.1.place, s.pre.within, s.pre.room, rows_fit c.loop-k.k (2 * n (goal.at.overflow_add-from-in-loop-k c).After-start_row) (low (goal.at.overflow_add-from-in-loop-k c).After-next_row-same))
+      omega (arith, same_room, c.loop-k.invariant.1.place, c.requires.within, c.requires.room, rows_fit c.loop-k.k (2 * n (goal.at.Else-same c).After-start_row) (low (goal.at.Else-same c).After-next_row-same))
 
 pub overflow_add-from-in-loop-k : goal.overflow_add-from-in-loop-k
-overflow_add-from-in-loop-k c = record { fits = omega (arith, entry_in c, same_room c, c.good.1.1.1.0.0) }
+overflow_add-from-in-loop-k c = record { fits = omega (arith, entry_in c, same_room c, c.well_formed.1.1.1.0.0) }
 
 pub offset_bounds-work-from : goal.offset_bounds-work-from
-offset_bounds-work-from c = record { fits = omega (arith, entry_in c, same_room c, c.good.1.1.1.0.0) }
+offset_bounds-work-from c = record { fits = omega (arith, entry_in c, same_room c, c.well_formed.1.1.1.0.0) }
 
 pub slice_copy_out-t-18 : goal.slice_copy_out-t-18
 slice_copy_out-t-18 c = entry_in c
@@ -110,7 +109,7 @@ returns-then-work-from-lt0 c =
 
 pub loop-k-preserved : goal.loop-k-preserved
 loop-k-preserved c =
-    (c.next_row-same.auto.1.1.1.0 ∙ c.loop-k.invariant.0, more (goal.at.loop-k-preserved c).After-next_row-same)
+    (c.next_row-same.auto.work ∙ c.loop-k.invariant.0, more (goal.at.loop-k-preserved c).After-next_row-same)
 
 pub returns : goal.returns
 returns c =

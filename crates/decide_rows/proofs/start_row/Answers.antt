@@ -1,6 +1,5 @@
 -- `decide_rows::start_row` meets its contract. The invariant: the first i numbers stand for no walk.
 use mathlib.Core.Path.{◌≡◌, refl}
-use Prim.Native.Nat.{◌-◌}
 use native.Mathlib.Omega.{arith}
 use borrow.Author.Rules.{rules}
 use Rattle.decide_rows.specs.Start.{fill_start, fill_next, fill_end}

@@ -34,6 +34,9 @@ module _ (c : After-record_size) where
 pub overflow_add-end : goal.overflow_add-end
 overflow_add-end c = omega (arith, size_is c, named c, c.requires.0.whole.whole)
 
+pub slice_bounds-decode_i32-end : goal.slice_bounds-decode_i32-end
+slice_bounds-decode_i32-end c = omega (arith, size_is c, named c, c.requires.0.whole.whole)
+
 pub decode_i32-requires : goal.decode_i32-requires
 decode_i32-requires c =
     let line = c.args.line.now in

@@ -1,7 +1,6 @@
 -- `file_list::file_size` meets its contract. The invariant: the records of the first k lines end at `size`.
 use mathlib.Core.Path.{◌≡◌, sym, ap, ◌∙◌}
 use mathlib.Core.List.{List}
-use Prim.Native.Nat.{◌-◌}
 use native.Mathlib.Omega.{arith}
 use lib.IntN.{ℤ}
 use Rattle.lines.specs.Line.{line_at}

@@ -44,6 +44,10 @@ module _ (c : After-decode_lines) where
   decoded : take (line_size * k) c.decode_lines.new.numbers ≡ file_list_lem b k
   decoded = ap (take (line_size * k)) c.decode_lines.ensures ∙ take_at (file_list_lem b k) _ (line_size * k) (length_file_list b k)
 
+pub slice_bounds-list_validity-end : goal.slice_bounds-list_validity-end
+slice_bounds-list_validity-end c =
+    omega (arith, c.if-lines-gt-MAX_LINES.false, c.decode_lines.auto.numbers)
+
 pub returns : goal.returns
 unfolding list_validity_lem
 returns c =

@@ -42,9 +42,13 @@ pub put_header-requires : goal.put_header-requires
 put_header-requires c =
     omega (arith, kind_is (goal.at.put_header-requires c).After-record_size-size, size_is (goal.at.put_header-requires c).After-record_size-size, kind_small (l (goal.at.put_header-requires c).After-record_size-size), longest (kind_of (l (goal.at.put_header-requires c).After-record_size-size)), c.requires.1)
 
+pub slice_bounds-put_numbers-end : goal.slice_bounds-put_numbers-end
+slice_bounds-put_numbers-end c =
+    omega (arith, size_is (goal.at.slice_bounds-put_numbers-end c).After-record_size-size, longest (kind_of (l (goal.at.slice_bounds-put_numbers-end c).After-record_size-size)), c.requires.0)
+
 pub put_numbers-requires : goal.put_numbers-requires
 put_numbers-requires c =
-    omega (arith, size_is (goal.at.put_numbers-requires c).After-record_size-size, c.requires.1, c.put_header.auto.0, length-take (count (goal.at.put_numbers-requires c).After-record_size-size) (drop (line_size * c.args.k) (L (goal.at.put_numbers-requires c).After-record_size-size)))
+    omega (arith, size_is (goal.at.put_numbers-requires c).After-record_size-size, c.requires.1, c.put_header.auto.out, length-take (count (goal.at.put_numbers-requires c).After-record_size-size) (drop (line_size * c.args.k) (L (goal.at.put_numbers-requires c).After-record_size-size)))
 
 pub overflow_add-result : goal.overflow_add-result
 overflow_add-result c =

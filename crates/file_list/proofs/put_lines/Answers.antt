@@ -1,6 +1,5 @@
 -- `file_list::put_lines` meets its contract. The invariant: the records of the first k lines were put, and end at `at`.
 use mathlib.Core.Path.{refl, sym}
-use Prim.Native.Nat.{◌-◌}
 use native.Mathlib.Omega.{arith}
 use borrow.Author.Rules.{rules}
 use Rattle.file_records.specs.Places.{variables_record}

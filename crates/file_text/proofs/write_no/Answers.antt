@@ -1,6 +1,6 @@
 -- `file_text::write_no` meets its contract. The invariant: the first i numbers are put.
 use mathlib.Core.Path.{◌≡◌, ap, ◌∙◌}
-use Prim.Native.Nat.{ℕ, ◌-◌, ◌≤◌}
+use Prim.Native.Nat.{ℕ, ◌≤◌}
 use native.Mathlib.Omega.{arith}
 use lib.ListN.{length, take}
 use lib.Seq.{take-length}
@@ -14,13 +14,12 @@ unfolding spaced
 loop-i-init c = (omega arith, wider (omega arith) (nothing (omega arith)))
 
 pub loop-i-preserved : goal.loop-i-preserved
-loop-i-preserved c =
-    (
-      omega arith,
-      same
-          (spaced_more c.loop-i.i c.args.numbers.now (omega arith))
-          (wider (omega arith) (then (omega arith) c.loop-i.invariant.1 c.put_next-at.ensures)),
-    )
+loop-i-preserved c = (
+  omega arith,
+  same
+      (spaced_more c.loop-i.i c.args.numbers.now (omega arith))
+      (wider (omega arith) (then (omega arith) c.loop-i.invariant.1 c.put_next-at.ensures)),
+)
 
 pub returns : goal.returns
 unfolding no_text

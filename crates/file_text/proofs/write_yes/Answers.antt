@@ -1,6 +1,6 @@
 -- `file_text::write_yes` meets its contract. The invariant: the lines of the first x variables are put.
 use mathlib.Core.Path.{◌≡◌, ap}
-use Prim.Native.Nat.{ℕ, ◌-◌, ◌≤◌}
+use Prim.Native.Nat.{ℕ, ◌≤◌}
 use native.Mathlib.Omega.{arith}
 use lib.ListN.{length}
 use Rattle.file_text.specs.Text.{lines_text, yes_text}

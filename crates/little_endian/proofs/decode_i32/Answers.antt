@@ -1,6 +1,6 @@
 -- `decode_i32` writes the numbers of b. The loop's invariant: the first i numbers stand before what out held from i on.
 use mir.Syntax.{w32}
-use Prim.Native.Nat.{◌-◌, ◌/◌}
+use Prim.Native.Nat.{◌/◌}
 use mathlib.Core.Path.{◌≡◌, refl, ◌∙◌}
 use native.Mathlib.Omega.{arith}
 use lib.ListN.{length}

@@ -1,6 +1,6 @@
 -- `decode_i64` writes the numbers of b. The loop's invariant: the first i numbers stand before what out held from i on.
 use mir.Syntax.{w64}
-use Prim.Native.Nat.{◌-◌, ◌/◌}
+use Prim.Native.Nat.{◌/◌}
 use mathlib.Core.Path.{◌≡◌, refl, ◌∙◌}
 use native.Mathlib.Omega.{arith}
 use lib.ListN.{length}

@@ -22,10 +22,10 @@ unfolding broken_at_lem
 returns-then-self-kind_ok c = rw (sym (kind_told (goal.at.returns-then-self-kind_ok c).After-kind_ok) ∙ c.if-self-kind_ok.true)
 
 module _ (c : After-counts_ok) where
-  kind_is : (ltb ((c.args.self)).read head_size || not (kind_ok_lem ((c.args.self)).kind)) ≡ false
-  kind_is = sym ((let it : (ltb (c.args.self).read head_size || not c.kind_ok.result) ≡ (ltb (c.args.self).read head_size || not (kind_ok_lem (c.args.self).kind)) = ap (λ (b : Bool). ltb (c.args.self).read head_size || not b) c.kind_ok.ensures in it)) ∙ c.if-self-kind_ok.false
+  kind_is : (ltb (s (goal.at.After-counts_ok c).After-kind_ok).read head_size || not (kind_ok_lem (s (goal.at.After-counts_ok c).After-kind_ok).kind)) ≡ false
+  kind_is = sym (kind_told (goal.at.After-counts_ok c).After-kind_ok) ∙ c.if-self-kind_ok.false
 
-  counts_told : not c.counts_ok.result ≡ not (counts_ok_lem ((c.args.self)).kind ((c.args.self)).p ((c.args.self)).q)
+  counts_told : not c.counts_ok.result ≡ not (counts_ok_lem (s (goal.at.After-counts_ok c).After-kind_ok).kind (s (goal.at.After-counts_ok c).After-kind_ok).p (s (goal.at.After-counts_ok c).After-kind_ok).q)
   counts_told = ap not c.counts_ok.ensures
 
 pub returns-then-not-counts_ok : goal.returns-then-not-counts_ok

@@ -50,19 +50,19 @@ sum_fits z w h k = simp ints (omega zs)
 -- the first sum
 module _ (c : After-struct_told-2-1) where
   abbrev added : ℤ
-  added = cond (is_first (goal.at.overflow_add-next c).After-only_if-next) (t (goal.at.overflow_add-next c).After-only_if-next).weight (pos 0)
+  added = cond (is_first (goal.at.After-struct_told-2-1 c).After-only_if-next) (t (goal.at.After-struct_told-2-1 c).After-only_if-next).weight (pos 0)
 
-  first_is : to_z w64 (of_z w64 (s (goal.at.overflow_add-next c).After-only_if-next).first) ≡ (s (goal.at.overflow_add-next c).After-only_if-next).first
-  first_is = kept w64 (s (goal.at.overflow_add-next c).After-only_if-next).first c.struct_told-2-1.given.1.1.1.1.1.1.0.1
+  first_is : to_z w64 (of_z w64 (s (goal.at.After-struct_told-2-1 c).After-only_if-next).first) ≡ (s (goal.at.After-struct_told-2-1 c).After-only_if-next).first
+  first_is = kept w64 (s (goal.at.After-struct_told-2-1 c).After-only_if-next).first c.struct_told-2-1.given.1.1.1.1.1.1.0.1
 
   added_is : to_z w64 (of_z w64 c.choose_weight.result) ≡ added
   added_is =
       kept w64 c.choose_weight.result c.choose_weight.type_inv
       ∙ c.choose_weight.ensures
-      ∙ ap (λ (w : ℤ). cond (is_first (goal.at.overflow_add-next c).After-only_if-next) w (pos 0)) (kept w64 (t (goal.at.overflow_add-next c).After-only_if-next).weight c.struct_told-1.given.1.1.0.1)
+      ∙ ap (λ (w : ℤ). cond (is_first (goal.at.After-struct_told-2-1 c).After-only_if-next) w (pos 0)) (kept w64 (t (goal.at.After-struct_told-2-1 c).After-only_if-next).weight c.struct_told-1.given.1.1.0.1)
 
-  first_fits : SFits w64 ((s (goal.at.overflow_add-next c).After-only_if-next).first +ℤ added)
-  first_fits = sum_fits (s (goal.at.overflow_add-next c).After-only_if-next).first added (first_within max_weight (s (goal.at.overflow_add-next c).After-only_if-next) c.requires.0) (either (Within max_weight) (is_first (goal.at.overflow_add-next c).After-only_if-next) c.requires.2 (none_within max_weight))
+  first_fits : SFits w64 ((s (goal.at.After-struct_told-2-1 c).After-only_if-next).first +ℤ added)
+  first_fits = sum_fits (s (goal.at.After-struct_told-2-1 c).After-only_if-next).first added (first_within max_weight (s (goal.at.After-struct_told-2-1 c).After-only_if-next) c.requires.0) (either (Within max_weight) (is_first (goal.at.After-struct_told-2-1 c).After-only_if-next) c.requires.2 (none_within max_weight))
 
 pub overflow_add-next : goal.overflow_add-next
 overflow_add-next c = rw (first_is c, added_is c) (first_fits c)
@@ -70,19 +70,19 @@ overflow_add-next c = rw (first_is c, added_is c) (first_fits c)
 -- the second sum
 module _ (c : After-struct_told-4-1) where
   abbrev added2 : ℤ
-  added2 = cond (is_first (goal.at.overflow_add-next-2 c).After-only_if-next) (pos 0) (t (goal.at.overflow_add-next-2 c).After-only_if-next).weight
+  added2 = cond (is_first (goal.at.After-struct_told-4-1 c).After-only_if-next) (pos 0) (t (goal.at.After-struct_told-4-1 c).After-only_if-next).weight
 
-  second_is : to_z w64 (of_z w64 (s (goal.at.overflow_add-next-2 c).After-only_if-next).second) ≡ (s (goal.at.overflow_add-next-2 c).After-only_if-next).second
-  second_is = kept w64 (s (goal.at.overflow_add-next-2 c).After-only_if-next).second c.struct_told-4-1.given.1.1.1.1.1.1.1.0.1
+  second_is : to_z w64 (of_z w64 (s (goal.at.After-struct_told-4-1 c).After-only_if-next).second) ≡ (s (goal.at.After-struct_told-4-1 c).After-only_if-next).second
+  second_is = kept w64 (s (goal.at.After-struct_told-4-1 c).After-only_if-next).second c.struct_told-4-1.given.1.1.1.1.1.1.1.0.1
 
   added2_is : to_z w64 (of_z w64 c.choose_weight-2.result) ≡ added2
   added2_is =
       kept w64 c.choose_weight-2.result c.choose_weight-2.type_inv
       ∙ c.choose_weight-2.ensures
-      ∙ ap (λ (w : ℤ). cond (is_first (goal.at.overflow_add-next-2 c).After-only_if-next) (pos 0) w) (kept w64 (t (goal.at.overflow_add-next-2 c).After-only_if-next).weight c.struct_told-3-1.given.1.1.0.1)
+      ∙ ap (λ (w : ℤ). cond (is_first (goal.at.After-struct_told-4-1 c).After-only_if-next) (pos 0) w) (kept w64 (t (goal.at.After-struct_told-4-1 c).After-only_if-next).weight c.struct_told-3-1.given.1.1.0.1)
 
-  second_fits : SFits w64 ((s (goal.at.overflow_add-next-2 c).After-only_if-next).second +ℤ added2)
-  second_fits = sum_fits (s (goal.at.overflow_add-next-2 c).After-only_if-next).second added2 (second_within max_weight (s (goal.at.overflow_add-next-2 c).After-only_if-next) c.requires.0) (either (Within max_weight) (is_first (goal.at.overflow_add-next-2 c).After-only_if-next) (none_within max_weight) c.requires.2)
+  second_fits : SFits w64 ((s (goal.at.After-struct_told-4-1 c).After-only_if-next).second +ℤ added2)
+  second_fits = sum_fits (s (goal.at.After-struct_told-4-1 c).After-only_if-next).second added2 (second_within max_weight (s (goal.at.After-struct_told-4-1 c).After-only_if-next) c.requires.0) (either (Within max_weight) (is_first (goal.at.After-struct_told-4-1 c).After-only_if-next) (none_within max_weight) c.requires.2)
 
 pub overflow_add-next-2 : goal.overflow_add-next-2
 overflow_add-next-2 c = rw (second_is c, added2_is c) (second_fits c)
