@@ -1,6 +1,6 @@
 -- `decide_walkback::find_step` meets its contract. The invariant of both loops: no step tried so far makes the value.
 use mathlib.Core.Path.{◌≡◌, sym, ◌∙◌}
-use Prim.Native.Nat.{◌+◌, ◌*◌, ◌-◌}
+use Prim.Native.Nat.{◌+◌, ◌*◌}
 use native.Mathlib.Omega.{arith}
 use mir.Facts.{to_z-of_z}
 use Rattle.decide_walkback.specs.Makes.{none_fewer, none_more}

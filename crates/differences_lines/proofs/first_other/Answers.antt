@@ -1,7 +1,7 @@
 -- `differences_lines::first_other` meets its contract. The invariant: all lines before k are differences.
 use mathlib.Core.Path.{sym, ap, ◌∙◌}
 use mathlib.Core.Bool.{Bool, not}
-use Prim.Native.Nat.{ℕ, ◌-◌}
+use Prim.Native.Nat.{ℕ}
 use native.Mathlib.Omega.{arith}
 use Rattle.lines.specs.Line.{line_count}
 use Rattle.integers.specs.Lowest.{searched_none, searched_more, searched_found, searched_all}

@@ -1,7 +1,6 @@
 -- `session_state::narrow_to` meets its contract. The invariant: the first i numbers are copied, and the rest is as it was.
 use mathlib.Core.Path.{◌≡◌, refl, ap, subst, sym, ◌∙◌}
 use mathlib.Core.List.{List}
-use Prim.Native.Nat.{◌-◌}
 use native.Mathlib.Omega.{arith}
 use borrow.Author.Rules.{rules}
 use lib.IntN.{ℤ}

@@ -1,9 +1,7 @@
 -- `session_step::find_columns` meets its contract. The invariant: the points below u are gone through.
 use mathlib.Core.Path.{◌≡◌, refl, sym, subst, ◌∙◌}
-use mathlib.Core.Logic.{⊎_elim}
-use Prim.Native.Nat.{ℕ, ◌+◌, ◌*◌, ◌-◌}
+use Prim.Native.Nat.{ℕ, ◌+◌, ◌*◌}
 use native.Mathlib.Omega.{arith}
-use borrow.Author.Tests.{not-true, not-false}
 use lib.IntN.{ℤ}
 use lib.ListN.{length-set}
 use lib.Signed.{le_z}
@@ -16,7 +14,7 @@ use Rattle.theory_inserting.specs.Where.{end_as_near}
 use Rattle.session_step.specs.Read.{small_table}
 use Rattle.session_step.specs.Done.{as_near_is}
 use Rattle.session_step.specs.Columns.{Collected, sum_at, collected_none, collected_same, collected_more}
-use Rattle.session_step.proofs.find_columns.Goals.{After-read_at}
+use Rattle.session_step.proofs.find_columns.Goals.{After-read_at, then-not-near, else-not-near}
 use Rattle.session_step.proofs.find_columns.Goals as goal
 
 pub loop-u-init : goal.loop-u-init
@@ -52,17 +50,18 @@ pub loop-u-preserved : goal.loop-u-preserved
 loop-u-preserved c =
     let o = c.loop-u in
     let i = c.loop-u-test.true in
-    ⊎_elim
-    (λ w.
-    let far = sym (test_is (goal.at.loop-u-preserved c).After-read_at) ∙ not-true (le_z (own (goal.at.loop-u-preserved c).After-read_at) (way (goal.at.loop-u-preserved c).After-read_at)) w.0.taken in
-    let more = collected_more o.invariant.4 far (omega (arith, o.invariant.1, i, c.requires.2)) (omega (arith, o.invariant.1, i, c.requires.3)) (way (goal.at.loop-u-preserved c).After-read_at) (way_is (goal.at.loop-u-preserved c).After-read_at) in
-    let same-columns = length-set o.columns o.found (u (goal.at.loop-u-preserved c).After-read_at) ∙ o.invariant.2 in
-    let same-sums = length-set o.sums o.found (way (goal.at.loop-u-preserved c).After-read_at) ∙ o.invariant.3 in
-    rw (w.1, w.2, w.3) (omega arith, omega (arith, o.invariant.1), same-columns, same-sums, more))
-    (λ w.
-    let near = sym (test_is (goal.at.loop-u-preserved c).After-read_at) ∙ not-false (le_z (own (goal.at.loop-u-preserved c).After-read_at) (way (goal.at.loop-u-preserved c).After-read_at)) w.0.left in
-    rw (w.1, w.2, w.3) (omega arith, omega (arith, o.invariant.1), o.invariant.2, o.invariant.3, collected_same o.invariant.4 near))
-    c.if-not-near.branch
+    let at = (goal.at.loop-u-preserved c).After-read_at in
+    elim c.if-not-near.branch [
+      | then-not-near w ↦
+          let far = sym (test_is at) ∙ w.if-not-near.true in
+          let more = collected_more o.invariant.4 far (omega (arith, o.invariant.1, i, c.requires.2)) (omega (arith, o.invariant.1, i, c.requires.3)) (way at) (way_is at) in
+          let same-columns = length-set o.columns o.found (u at) ∙ o.invariant.2 in
+          let same-sums = length-set o.sums o.found (way at) ∙ o.invariant.3 in
+          rw (w.columns-is, w.sums-is, w.found-is) (omega arith, omega (arith, o.invariant.1), same-columns, same-sums, more)
+      | else-not-near w ↦
+          let near = sym (test_is at) ∙ w.if-not-near.false in
+          rw (w.columns-is, w.sums-is, w.found-is) (omega arith, omega (arith, o.invariant.1), o.invariant.2, o.invariant.3, collected_same o.invariant.4 near)
+    ]
 
 pub returns : goal.returns
 returns c =

@@ -2,8 +2,6 @@
 use mathlib.Core.Path.{◌≡◌}
 use Prim.Native.Nat.{◌-◌, ◌≤◌}
 use lib.ListN.{length, drop}
-use mir.Syntax.{w64}
-use mir.Val.{to_z}
 use Rattle.session_step.specs.Lower.{lower_all}
 use Rattle.session_step.proofs.lower_row.Given as goal
 
@@ -12,7 +10,7 @@ abbrev pub invariant-loop-k : goal.invariant-loop-k
 invariant-loop-k l =
     (l.k ≤ l.count)
     × (length l.row ≡ length l.initial.row)
-    × (lower_all (to_z w64 l.rest) (drop l.k l.columns) (drop l.k l.sums) l.row ≡ lower_all (to_z w64 l.rest) l.columns l.sums l.initial.row)
+    × (lower_all l.rest (drop l.k l.columns) (drop l.k l.sums) l.row ≡ lower_all l.rest l.columns l.sums l.initial.row)
 
 abbrev pub decreases-loop-k : goal.decreases-loop-k
 decreases-loop-k l = l.count - l.k
