@@ -12,7 +12,7 @@ use Rattle.theory_differences.specs.Numbers.{plain_before, before_more, before_a
 use Rattle.decide_rows.specs.Copy.{copied}
 use Rattle.decide_rows.specs.Read.{distance_of, row_of, Short, AllShort, max_distance}
 use Rattle.decide_rows.specs.Relax.{relax_in, relaxed_by, entry_short, one_step, no_step, relaxed_first, relaxed_length, relaxed_more, copy_long, copy_first, copy_end}
-use Rattle.decide_rows.specs.Next.{same_at, row_in, with_next, in_length, with_length, part_next, after_is}
+use Rattle.decide_rows.specs.Next.{same_at, row_in, with_next, in_length, part_next, after_is}
 use Rattle.engine_packed_steps.specs.Steps.{tabulate_all}
 use Rattle.differences_lines.specs.PlainList.{PlainList, plain_of, ends_within, weights_within, step_among}
 

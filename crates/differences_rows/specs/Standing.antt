@@ -1,12 +1,11 @@
 -- The rows 0 to k as they stand in the work area, number by number; one more row; and what it says that it differs from the one before, or does not.
-use Rattle.std.specs.Prelude.{◌≡◌, refl, Bool, true, false, List, ◌++◌, ℕ, zero, suc, ◌+◌, ◌*◌, ◌≤◌, ◌<◌, ℤ, pos, length, take, drop, replicate}
+use Rattle.std.specs.Prelude.{◌≡◌, refl, Bool, true, false, List, ◌++◌, ℕ, suc, ◌+◌, ◌*◌, ◌≤◌, ◌<◌, ℤ, pos, length, take, drop, replicate}
 use Rattle.std.proofs.Math.Path.{sym, ap}
-use Rattle.std.proofs.Common.{ap₂, subst, ◌∙◌, append_assoc, mul-le-mul_right, add-one, arith, length-append, length-drop, get_or-take, get_or-drop, get_or-append-add, ext_get_or, drop_at, take-add, length-take-le, drop-drop}
+use Rattle.std.proofs.Common.{ap₂, subst, ◌∙◌, append_assoc, mul-le-mul_right, arith, length-append, length-drop, get_or-take, get_or-drop, get_or-append-add, ext_get_or, drop_at, take-add, length-take-le}
 use Rattle.std.proofs.Math.Decide.{ℕ_discrete}
 use Rattle.std.proofs.lemmas.List.{length-map, length-replicate, get_or-replicate}
 use Rattle.std.proofs.Math.ListN.{get_or-append}
 use Rattle.std.proofs.Math.Seq.{take_at}
-use Rattle.integers.specs.Integer.{eq_z, Within}
 use Rattle.integers.specs.Laws.{never, eq_eq_z}
 use Rattle.integers.specs.Table.{all_below}
 use Rattle.integers.specs.Lowest.{first_failing_lem, none_fails, first_failing, lowest_at_most}
@@ -15,12 +14,12 @@ use Rattle.lines.specs.Line.{number}
 use Rattle.steps.specs.declared.Step.{Step}
 use Rattle.steps.specs.Step.{max_weight}
 use Rattle.theory_walks.specs.Distance.{Distance, some}
-use Rattle.theory_walks.specs.Row.{at, relax_row, some_is}
-use Rattle.theory_walks.specs.Size.{WithinWeights, within_more}
-use Rattle.theory_differences.specs.Anywhere.{zero_row, zero_at, Changed, zero_first, zero_next, zero_length, zero_some, zero_within}
+use Rattle.theory_walks.specs.Row.{at, relax_row}
+use Rattle.theory_walks.specs.Size.{within_more}
+use Rattle.theory_differences.specs.Anywhere.{zero_at, Changed, zero_first, zero_next, zero_length, zero_within}
 use Rattle.decide_rows.specs.Stored.{stored, stored_row, stored_at}
-use Rattle.decide_rows.specs.Read.{row_of, AllShort, max_distance, short_more, row_of_stored, stored_replicate}
-use Rattle.decide_rows.specs.Next.{same_rows, same_at, same_rows_law, row_in, with_next, in_length, with_length}
+use Rattle.decide_rows.specs.Read.{row_of, AllShort, max_distance, short_more, row_of_stored}
+use Rattle.decide_rows.specs.Next.{same_rows, same_at, same_rows_law, row_in, with_next, in_length}
 use Rattle.engine_packed_steps.specs.Scratch.{Scratch, scratch_at}
 use Rattle.differences_lines.specs.PlainList.{PlainList, plain_of, weights_within}
 use Rattle.differences_rows.specs.Layout.{row_before, walk_at_lem}

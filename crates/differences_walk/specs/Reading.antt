@@ -1,6 +1,6 @@
 -- The walk that makes a changed entry, read back from its last row: what is left of the way, and the walk that is written so far. Each entry on the way was
 -- changed by its round, so that each row has its step.
-use Rattle.std.specs.Prelude.{◌≡◌, refl, List, [], ◌∷◌, ℕ, zero, suc, ◌+◌, ◌*◌, ◌-◌, ◌<◌, ◌≤◌, ℤ, pos, ◌+ℤ◌, length, set, get_or, drop}
+use Rattle.std.specs.Prelude.{◌≡◌, refl, List, [], ◌∷◌, ℕ, zero, suc, ◌+◌, ◌*◌, ◌-◌, ◌<◌, ◌≤◌, ℤ, pos, ◌+ℤ◌, length, set, drop}
 use Rattle.std.proofs.Common.{sym, ap, subst, ◌∙◌, arith, length-set, get_or-set_same, get_or-set_other, get_or-take, get_or-drop}
 use Rattle.lines.specs.Line.{number, line_at, line_count}
 use Rattle.steps.specs.declared.Step.{Step}

@@ -1,12 +1,11 @@
 -- The refutation that the walk makes where it comes to a variable twice, and that it does where it has as many steps as there are variables.
-use Rattle.std.specs.Prelude.{◌≡◌, refl, Bool, true, false, List, [], ◌∷◌, ℕ, zero, suc, ◌+◌, ◌*◌, ◌-◌, ◌<◌, ◌≤◌, ℤ, pos, ◌+ℤ◌, length, get_or, take, drop}
+use Rattle.std.specs.Prelude.{◌≡◌, refl, Bool, true, false, List, ◌∷◌, ℕ, ◌+◌, ◌-◌, ◌<◌, ◌≤◌, ℤ, pos, ◌+ℤ◌, length, get_or, take, drop}
 use Rattle.std.proofs.Common.{sym, ap, subst, ◌∙◌, arith, length-take, length-drop, get_or-take, get_or-drop}
 use Rattle.std.proofs.Math.Decide.{dec_lt}
 use Rattle.integers.specs.Integer.{◌⋖◌}
 use Rattle.integers.proofs.Linear.{ints}
 use Rattle.integers.specs.Laws.{never}
 use Rattle.lines.specs.Line.{number}
-use Rattle.lines.specs.Limits.{work_lines}
 use Rattle.steps.specs.declared.Step.{Step}
 use Rattle.steps.specs.Point.{point}
 use Rattle.steps.specs.Walk.{total}
@@ -20,8 +19,8 @@ use Rattle.theory_differences.specs.Anywhere.{zero_at, zero_first, zero_entry, c
 use Rattle.check_refutation.specs.Progress.{head_size}
 use Rattle.engine_packed_steps.specs.Scratch.{Scratch}
 use Rattle.decide_written_walks.specs.Copy.{StepNumbers, copied_to}
-use Rattle.decide_written_walks.specs.Stretch.{Stand, Stretch, ClosedShown, closed_numbers, closed_shown}
-use Rattle.differences_lines.specs.PlainList.{PlainList, plain_of, ends_within}
+use Rattle.decide_written_walks.specs.Stretch.{Stretch, ClosedShown, closed_numbers, closed_shown}
+use Rattle.differences_lines.specs.PlainList.{plain_of, ends_within}
 use Rattle.differences_rows.specs.Layout.{walk_at_lem, points_at_lem, plain_end}
 use Rattle.differences_walk.specs.declared.Part.{Part}
 use Rattle.differences_walk.specs.Again.{MetAgain}

@@ -1,5 +1,5 @@
 -- The flags of a choice of the sample tree, whose second choice picks each of the three lines.
-use Rattle.std.specs.Prelude.{◌≡◌, refl, List, [], ◌∷◌}
+use Rattle.std.specs.Prelude.{◌≡◌, refl, [], ◌∷◌}
 use Rattle.tree_reading.specs.Tree.{all, tree_numbers, max_depth}
 use Rattle.tree_reading.specs.Reading.{line_head_lem, children_head_lem, head_of, children_of, node_of}
 use Rattle.tree_reading.specs.Examples.{sample}

@@ -1,5 +1,5 @@
 -- A tree read as a formula holds exactly if all lines of one of its choices do.
-use Rattle.std.specs.Prelude.{◌≡◌, refl, ◌↔◌, ◌⊎◌, List, [], ◌∷◌, ◌++◌, map, ℕ, zero, suc, ◌<◌, length, get_or}
+use Rattle.std.specs.Prelude.{◌⊎◌, List, [], ◌∷◌, ◌++◌, map, ℕ, zero, suc, ◌<◌, length, get_or}
 use Rattle.std.proofs.Common.{inl, inr, ⊎_elim, arith}
 use Rattle.tree_reading.specs.Tree.{Kind, all, any, Row, none, line, node}
 use Rattle.tree_reading.specs.Choices.{pairs, joined, choices}

@@ -1,16 +1,15 @@
 -- Marking the lines of a choice one child after the other: what the loops of both choosers keep.
-use Rattle.std.specs.Prelude.{◌≡◌, Bool, true, false, ltb, length, set}
+use Rattle.std.specs.Prelude.{◌≡◌, ltb, length, set}
 use Rattle.std.proofs.Math.Path.{refl, ap}
 use Rattle.std.proofs.Common.{sym, ◌∙◌, lt-ltb, le-ltb, length-set}
 use Rattle.std.proofs.Math.Bool.{cond}
-use mathlib.Core.List.{List, [], ◌∷◌, ◌++◌, append-nil}
+use mathlib.Core.List.{List, [], ◌∷◌, ◌++◌}
 use Prim.Native.Nat.{ℕ, zero, suc, ◌+◌, ◌-◌, ◌/◌, ◌%◌, ◌<◌, ◌≤◌}
 use native.Mathlib.Omega.{arith}
 use Rattle.std.proofs.Math.ListN.{get_or}
 use Rattle.tree_reading.specs.Tree.{Kind, all, any, other, code_of}
 use Rattle.tree_reading.specs.declared.TreeRefusal.{TreeRefusal}
 use Rattle.tree_reading.specs.declared.TreeRefusal.TheVariants.{TooDeep, NoSuchChoice}
-use Rattle.tree_reading.specs.declared.Head.{Head}
 use Rattle.tree_reading.specs.declared.Head.TheVariants.{Line, Children, Wrong}
 use Rattle.tree_reading.specs.declared.Node.{Node}
 use Rattle.tree_reading.specs.declared.Reading.{Reading}

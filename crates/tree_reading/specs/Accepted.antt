@@ -1,23 +1,23 @@
 -- The numbers that are read are those of one tree: reading the numbers of a tree gives that tree's end and its choices,
 -- and whatever is read are the numbers of a tree.
-use Rattle.std.specs.Prelude.{◌≡◌, Bool, true, false, cond, List, [], ◌∷◌, ◌++◌, ltb, eqb, get_or}
+use Rattle.std.specs.Prelude.{◌≡◌, Bool, true, false, cond, List, [], ◌∷◌, ltb, eqb, get_or}
 use Rattle.std.proofs.Math.Path.{refl, sym, ap}
 use Rattle.std.proofs.Common.{◌∙◌, arith, ltb-false, le-ltb, length-append}
 use Prim.Native.Nat.{ℕ, zero, suc, ◌+◌, ◌<◌, ◌≤◌}
 use Rattle.std.proofs.lemmas.Bool.{eqb-false}
 use Rattle.std.proofs.Math.ListN.{length}
 use Rattle.integers.specs.Laws.{never}
-use Rattle.tree_reading.specs.Tree.{Kind, all, any, Row, none, line, node, other, code_of, line_code_lem, size, numbers, tree_numbers, Fits, levels}
+use Rattle.tree_reading.specs.Tree.{Kind, all, Row, none, line, node, other, code_of, line_code_lem, size, numbers, tree_numbers, Fits, levels}
 use Rattle.tree_reading.specs.Choices.{unit_of}
 use Rattle.tree_reading.specs.declared.TreeRefusal.{TreeRefusal}
-use Rattle.tree_reading.specs.declared.TreeRefusal.TheVariants.{Malformed, TooDeep}
+use Rattle.tree_reading.specs.declared.TreeRefusal.TheVariants.{Malformed}
 use Rattle.tree_reading.specs.declared.Head.{Head}
 use Rattle.tree_reading.specs.declared.Head.TheVariants.{Line, Children, Wrong}
 use Rattle.tree_reading.specs.declared.Node.{Node}
 use Rattle.tree_reading.specs.declared.Reading.{Reading}
 use Rattle.tree_reading.specs.declared.Reading.TheVariants.{Read, Refused}
 use Rattle.tree_reading.specs.Reading.{head_of, begun, with_child, finished, onward, children_of, opened, node_of, root_is_line_lem, whole_tree_lem, tree_of}
-use Rattle.tree_reading.specs.Heads.{head_line, head_children, line_in, children_in, LineAt, NodeAt, stands}
+use Rattle.tree_reading.specs.Heads.{head_line, head_children, line_in, children_in, LineAt, NodeAt}
 use Rattle.tree_reading.specs.Running.{closed, node_line, node_wrong, line_at_law, node_at}
 use Rattle.tree_reading.specs.Whole.{tree_read}
 use Rattle.tree_reading.specs.Numbers.{Has, has_at, has_append, has_both, has_self, has_all, code_not_line}

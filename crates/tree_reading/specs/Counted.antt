@@ -1,13 +1,13 @@
 -- Counting up to one above the most is exact: a node's number of choices is its own or that for any higher one, and the
 -- node that is found is the first with more than the most.
-use Rattle.std.specs.Prelude.{◌≡◌, refl, Bool, true, false, cond, List, [], ◌∷◌, ◌++◌, map, ℕ, zero, suc, ◌+◌, ◌*◌, ◌<◌, ◌≤◌, min, ltb, length}
-use Rattle.std.proofs.Common.{sym, ap, ap₂, subst, ◌∙◌, mul_assoc, mul-one, one-mul, mul-zero, zero-mul, mul-le-mul, mul_comm, arith, ltb-true, ltb-false, lt-ltb, le-ltb, length-append}
+use Rattle.std.specs.Prelude.{◌≡◌, refl, Bool, true, false, List, [], ◌∷◌, ◌++◌, map, ℕ, zero, suc, ◌+◌, ◌*◌, ◌≤◌, ltb, length}
+use Rattle.std.proofs.Common.{sym, ap, ap₂, ◌∙◌, mul_assoc, mul-one, one-mul, mul-zero, zero-mul, mul-le-mul, arith, ltb-true, ltb-false, length-append}
 use Rattle.std.proofs.lemmas.List.{length-map}
-use Rattle.tree_reading.specs.Tree.{Kind, all, any, Row, none, line, node, numbers, tree_numbers}
+use Rattle.tree_reading.specs.Tree.{Kind, all, any, Row, none, line, node}
 use Rattle.tree_reading.specs.Choices.{max_choices, pairs, joined, choices, unit_of, with, count}
 use Rattle.tree_reading.specs.declared.Node.{Node}
 use Rattle.tree_reading.specs.Reading.{cap, begun, with_child, finished}
-use Rattle.tree_reading.specs.Accepted.{after, root_of, after_end}
+use Rattle.tree_reading.specs.Accepted.{after, root_of}
 
 -- ---- the count is the number of choices
 length_pairs : (xs ys : List (List ℕ)) → length (pairs xs ys) ≡ length xs * length ys

@@ -1,10 +1,10 @@
 -- The request's rules on short numbers, in a list of three lines.
-use Rattle.std.specs.Prelude.{◌≡◌, refl, List, [], ◌∷◌, ◌++◌, ℕ, length}
+use Rattle.std.specs.Prelude.{◌≡◌, refl, List, [], ◌∷◌, ◌++◌, ℕ}
 use Rattle.tree_reading.specs.Tree.{all, any, Row, none, line, node, tree_numbers}
 use Rattle.tree_reading.specs.Choices.{choices, count, overs_of}
 use Rattle.tree_reading.specs.declared.TreeRefusal.TheVariants.{TooManyChoices, Malformed, TooDeep}
 use Rattle.tree_reading.specs.declared.Reading.{Reading}
-use Rattle.tree_reading.specs.declared.Reading.TheVariants.{Read, Refused}
+use Rattle.tree_reading.specs.declared.Reading.TheVariants.{Refused}
 use Rattle.tree_reading.specs.Reading.{line_head_lem, children_head_lem, head_of, children_of, node_of, root_is_line_lem, tree_of, valid_tree_lem}
 
 -- line 0, and line 1 or both line 1 and line 2, and line 0 or line 2

@@ -4,13 +4,13 @@
 -- that node's faults. Later nodes begin behind it, so that their faults come later.
 use Rattle.std.specs.Prelude.{◌≡◌, ◌↔◌, ◌⊎◌, Bool, ◌&&◌, ◌||◌, replicate}
 use Rattle.std.proofs.Math.Path.{refl, ap}
-use Rattle.std.proofs.Common.{sym, ap₂, subst, ◌∙◌, inl, inr, ⊎_elim}
+use Rattle.std.proofs.Common.{sym, ap₂, subst, ◌∙◌, inl, inr}
 use Rattle.std.proofs.Math.Bool.{true, false, cond}
 use mathlib.Core.List.{List, [], ◌∷◌, ◌++◌}
 use Prim.Native.Nat.{ℕ, zero, suc, ◌+◌, ◌*◌, ◌<◌, ◌≤◌}
 use native.Mathlib.Omega.{arith}
 use Rattle.std.proofs.Math.Decide.{dec_lt}
-use borrow.Author.Tests.{lt-ltb, le-ltb, eq-eqb, ne_eqb, ltb-true, ltb-false, eqb-true, eqb-false}
+use borrow.Author.Tests.{lt-ltb, eq-eqb, ltb-true, ltb-false, eqb-true, eqb-false}
 use Rattle.std.proofs.Math.Dec.{eqb, ltb}
 use Rattle.std.proofs.Math.ListN.{length, get_or}
 use Rattle.integers.specs.Laws.{never}
@@ -24,9 +24,9 @@ use Rattle.tree_reading.specs.declared.Node.{Node}
 use Rattle.tree_reading.specs.declared.Reading.{Reading}
 use Rattle.tree_reading.specs.declared.Reading.TheVariants.{Read, Refused}
 use Rattle.tree_reading.specs.Refusal.{tree_number, tree_place}
-use Rattle.tree_reading.specs.Reading.{line_head_lem, children_head_lem, head_of, begun, with_child, finished, onward, children_of, opened, node_of, whole_tree_lem, root_is_line_lem, tree_of}
+use Rattle.tree_reading.specs.Reading.{line_head_lem, children_head_lem, head_of, begun, with_child, onward, children_of, opened, node_of, whole_tree_lem, root_is_line_lem, tree_of}
 use Rattle.tree_reading.specs.Running.{closed}
-use Rattle.tree_reading.specs.Accepted.{IsTree, accepted, read_back}
+use Rattle.tree_reading.specs.Accepted.{accepted, read_back}
 use Rattle.tree_reading.specs.Faults.{Due, root, child_of, Ahead, unknown, nodes, behind, behind_node, ahead, admits, NodeFault, cut, deep, misplaced, unlisted, FaultAt, Fault, Before, FirstFault}
 
 -- ---- one node that is due

@@ -1,7 +1,6 @@
 -- Numbers that stand in a list from an index on, and a tree's numbers: no two trees have the same.
-use Rattle.std.specs.Prelude.{◌≡◌, refl, List, [], ◌∷◌, ◌++◌, ℕ, zero, suc, ◌+◌, ◌<◌, ◌≤◌, length, get_or, drop}
-use Rattle.std.proofs.Common.{sym, ap, subst, ◌∙◌, append_assoc, append-nil, add-zero, add-one, arith, length-drop, drop_of_length-le, drop-cons}
-use Rattle.integers.specs.Laws.{never}
+use Rattle.std.specs.Prelude.{◌≡◌, refl, List, [], ◌∷◌, ◌++◌, ℕ, suc, ◌+◌, ◌<◌, ◌≤◌, length, get_or, drop}
+use Rattle.std.proofs.Common.{sym, ap, subst, ◌∙◌, append_assoc, append-nil, add-zero, arith, length-drop, drop_of_length-le, drop-cons}
 use Rattle.tree_reading.specs.Tree.{Kind, all, any, Row, none, line, node, code_of, line_code_lem, size, numbers, tree_numbers}
 
 -- s has these numbers from p on

@@ -1,9 +1,9 @@
 -- The node that reading finds is the lowest with more than the most choices, and a tree is refused exactly if it has one.
-use Rattle.std.specs.Prelude.{◌≡◌, refl, Bool, true, false, cond, List, [], ◌∷◌, ◌++◌, ℕ, zero, suc, ◌+◌, ◌*◌, ◌<◌, ◌≤◌, min, ltb, length}
-use Rattle.std.proofs.Common.{sym, ap, ap₂, subst, ◌∙◌, arith, ltb-true, ltb-false, lt-ltb, le-ltb, length-append}
+use Rattle.std.specs.Prelude.{◌≡◌, refl, Bool, true, false, cond, List, [], ◌∷◌, ◌++◌, ℕ, ◌+◌, ◌<◌, ◌≤◌, min, ltb, length}
+use Rattle.std.proofs.Common.{sym, ap, subst, ◌∙◌, arith, ltb-true, ltb-false, lt-ltb, le-ltb, length-append}
 use Rattle.integers.specs.Laws.{never}
-use Rattle.tree_reading.specs.Tree.{Kind, all, any, Row, none, line, node, numbers, tree_numbers, Fits, levels}
-use Rattle.tree_reading.specs.Choices.{max_choices, unit_of, with, count, here, overs, overs_of, lowest}
+use Rattle.tree_reading.specs.Tree.{Kind, all, Row, none, line, node, numbers, tree_numbers, Fits, levels}
+use Rattle.tree_reading.specs.Choices.{max_choices, unit_of, count, here, overs, overs_of, lowest}
 use Rattle.tree_reading.specs.declared.TreeRefusal.TheVariants.{TooManyChoices}
 use Rattle.tree_reading.specs.declared.Node.{Node}
 use Rattle.tree_reading.specs.declared.Reading.{Reading}

@@ -1,9 +1,8 @@
 -- What reading the numbers of a tree finds: the first refusal, or where the tree ends, its number of choices up to one
 -- above the most, and the first node with more than the most.
-use Rattle.std.specs.Prelude.{Bool, cond, List, ℕ, zero, suc, ◌+◌, ◌*◌, min, eqb, ltb, length, get_or}
-use Rattle.tree_reading.specs.Tree.{Kind, all, any, other, code_of, line_code_lem, max_depth}
+use Rattle.std.specs.Prelude.{Bool, cond, List, ℕ, zero, suc, ◌+◌, min, eqb, ltb, length, get_or}
+use Rattle.tree_reading.specs.Tree.{Kind, all, other, code_of, line_code_lem, max_depth}
 use Rattle.tree_reading.specs.Choices.{max_choices, unit_of, with}
-use Rattle.tree_reading.specs.declared.TreeRefusal.{TreeRefusal}
 use Rattle.tree_reading.specs.declared.TreeRefusal.TheVariants.{TooManyChoices, Malformed, TooDeep}
 use Rattle.tree_reading.specs.declared.Head.{Head}
 use Rattle.tree_reading.specs.declared.Head.TheVariants.{Line, Children, Wrong}

@@ -12,7 +12,7 @@ use Rattle.tree_reading.specs.declared.Reading.TheVariants.{Read, Refused}
 use Rattle.tree_reading.specs.Reading.{tree_of, valid_tree_lem}
 use Rattle.tree_reading.specs.Whole.{tree_valid}
 use Rattle.tree_reading.specs.Accepted.{IsTree, accepted}
-use Rattle.tree_reading.specs.Over.{IsValid, valid, valid_back, too_many}
+use Rattle.tree_reading.specs.Over.{valid, valid_back, too_many}
 use Rattle.tree_reading.specs.Faults.{FirstFault}
 use Rattle.tree_reading.specs.FirstFault.{refused_first, refused_exactly}
 

@@ -1,6 +1,6 @@
 -- The whole tree, by the tests.
-use Rattle.std.specs.Prelude.{◌≡◌, refl, Bool, true, false, cond, List, [], ◌∷◌, ℕ, ◌+◌, length}
-use Rattle.std.proofs.Common.{sym, ◌∙◌, arith}
+use Rattle.std.specs.Prelude.{◌≡◌, refl, true, false, List, [], ◌∷◌, ℕ, length}
+use Rattle.std.proofs.Common.{arith}
 use Rattle.std.proofs.Math.Path.{ap}
 use Rattle.tree_reading.specs.Tree.{all, max_depth}
 use Rattle.tree_reading.specs.declared.TreeRefusal.TheVariants.{Malformed}

@@ -78,12 +78,11 @@ pub bounds-model-k : goal.bounds-model-k
 bounds-model-k c = inside (goal.at.bounds-model-k c).At-loop-k (more c)
 
 pub loop-k-preserved : goal.loop-k-preserved
-loop-k-preserved c =
-    (
-      omega (arith, more c),
-      length-set c.loop-k.model (k (goal.at.loop-k-preserved c).At-loop-k) _ ∙ c.loop-k.invariant.1,
-      value_written (D (goal.at.loop-k-preserved c).Start) (k (goal.at.loop-k-preserved c).At-loop-k) (m (goal.at.loop-k-preserved c).At-loop-k) c.loop-k.model c.loop-k.invariant.2 (omega (arith, more c, c.requires.1)) _ (to_z-of_z (fits c) ∙ is c),
-    )
+loop-k-preserved c = (
+  omega (arith, more c),
+  length-set c.loop-k.model (k (goal.at.loop-k-preserved c).At-loop-k) _ ∙ c.loop-k.invariant.1,
+  value_written (D (goal.at.loop-k-preserved c).Start) (k (goal.at.loop-k-preserved c).At-loop-k) (m (goal.at.loop-k-preserved c).At-loop-k) c.loop-k.model c.loop-k.invariant.2 (omega (arith, more c, c.requires.1)) _ (to_z-of_z (fits c) ∙ is c),
+)
 
 pub returns : goal.returns
 returns c =

@@ -1,6 +1,6 @@
 -- `engine_packed_steps::write_steps` meets its contract. The invariant: the steps with the numbers gone through are written.
 use mathlib.Core.Path.{◌≡◌}
-use Prim.Native.Nat.{◌*◌, ◌-◌}
+use Prim.Native.Nat.{◌*◌}
 use native.Mathlib.Omega.{arith}
 use Rattle.lines.specs.Line.{line_count}
 use Rattle.engine_packed_steps.specs.Written.{writing_start, writing_more, writing_end}
@@ -16,9 +16,9 @@ write_numbered-kept-requires c =
 pub loop-number-preserved : goal.loop-number-preserved
 loop-number-preserved c =
     let f = c.write_numbered-kept in
-    writing_more c.args.n c.args.list.now c.args.work.now c.requires.room c.loop-number.work c.loop-number.number c.loop-number.auto c.loop-number.invariant (omega (arith, c.loop-number-test.true)) f.new.work f.result f.ensures
+    writing_more c.args.n c.args.list.now c.args.work.now c.requires.room c.loop-number.work c.loop-number.number c.loop-number.kept c.loop-number.invariant (omega (arith, c.loop-number-test.true)) f.new.work f.result f.ensures
 
 pub returns : goal.returns
 returns c =
     let e : c.loop-number.number ≡ 2 * line_count c.args.list.now = omega (arith, c.loop-number.invariant.at_most, c.loop-number-test.false) in
-    writing_end c.args.n c.args.list.now c.args.work.now c.requires.room c.loop-number.work c.loop-number.number c.loop-number.auto c.loop-number.invariant e
+    writing_end c.args.n c.args.list.now c.args.work.now c.requires.room c.loop-number.work c.loop-number.number c.loop-number.kept c.loop-number.invariant e

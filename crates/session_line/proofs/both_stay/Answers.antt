@@ -80,7 +80,7 @@ stays_after-requires c =
 
 pub returns-in-Found-second : goal.returns-in-Found-second
 returns-in-Found-second c =
-    both_two (D (goal.at.returns-in-Found-second c).After-step_numbered-second) (x (goal.at.returns-in-Found-second c).After-step_numbered-second) (y (goal.at.returns-in-Found-second c).After-step_numbered-second) (a (goal.at.returns-in-Found-second c).In-Found) (a_is (goal.at.returns-in-Found-second c).In-Found) (sym c.stays.ensures ∙ not-false _ (ap not c.if-not-stays.false)) (b (goal.at.returns-in-Found-second c).In-Found-second) (b_is (goal.at.returns-in-Found-second c).In-Found-second) c.Stays-after.result c.Stays-after.ensures
+    both_two (D (goal.at.returns-in-Found-second c).After-step_numbered-second) (x (goal.at.returns-in-Found-second c).After-step_numbered-second) (y (goal.at.returns-in-Found-second c).After-step_numbered-second) (a (goal.at.returns-in-Found-second c).In-Found) (a_is (goal.at.returns-in-Found-second c).In-Found) (sym c.stays.ensures ∙ not-false _ (ap not c.if-not-stays.false)) (b (goal.at.returns-in-Found-second c).In-Found-second) (b_is (goal.at.returns-in-Found-second c).In-Found-second) c.stays_after.result c.stays_after.ensures
 
 pub returns-in-Found : goal.returns-in-Found
 returns-in-Found c =

@@ -1,0 +1,16 @@
+-- What the loops of `differences_yes::write_plain_groups` keep.
+use mathlib.Core.Path.{◌≡◌}
+use Prim.Native.Nat.{◌*◌, ◌-◌, ◌≤◌}
+use lib.ListN.{length}
+use Rattle.integers.specs.Fill.{filled}
+use Rattle.theory_bounds.specs.Answers.{group_at_lem}
+use Rattle.theory_differences.specs.Distances.{doubled}
+use Rattle.decide_stored_table.specs.Table.{table_of}
+use Rattle.differences_yes.proofs.write_plain_groups.Given as goal
+
+-- `differences_yes::write_plain_groups` meets its contract. The invariant: the groups of the first x variables are written.
+abbrev pub invariant-loop-x : goal.invariant-loop-x
+invariant-loop-x l = (l.x ≤ l.n) × (length l.groups ≡ length l.initial.groups) × (l.groups ≡ filled (group_at_lem (doubled (table_of l.n l.table))) l.initial.groups (2 * l.x))
+
+abbrev pub decreases-loop-x : goal.decreases-loop-x
+decreases-loop-x l = l.n - l.x
