@@ -7,7 +7,8 @@
 ghost use Rattle.decide_file.specs.Reading.{InBuffer};
 
 use file_report::{INPUT_SIZE, TEXT_SIZE, report_input};
-use libc::{STDIN_FILENO, STDOUT_FILENO};
+use std::io;
+use std::io::Read;
 
 // How many bytes were read; or a read failed.
 #[derive(Clone, Copy)]
@@ -17,23 +18,22 @@ enum Input {
 }
 
 // One read into the front of a buffer: none at the end of the input.
-fn read_some(buffer: &mut [u8]) -> Input
+fn read_some<R: Read>(reader: &mut R, buffer: &mut [u8]) -> Input
     ensures { InBuffer result buffer.new }
 {
-    let got = libc::read(STDIN_FILENO, buffer);
-    if got < 0 {
-        return Input::Failed;
+    match reader.read(buffer) {
+        Ok(count) => Input::Read(count),
+        Err(_) => Input::Failed,
     }
-    Input::Read(io::count(got, buffer))
 }
 
 // Reads until the input ends or the buffer is full.
-fn read_input(buffer: &mut [u8]) -> Input
+fn read_input<R: Read>(reader: &mut R, buffer: &mut [u8]) -> Input
     ensures { InBuffer result buffer.new }
 {
     let mut count = 0;
     while count < buffer.len() {
-        let Input::Read(more) = read_some(&mut buffer[count..]) else {
+        let Input::Read(more) = read_some(reader, &mut buffer[count..]) else {
             return Input::Failed;
         };
         if more == 0 {
@@ -44,13 +44,12 @@ fn read_input(buffer: &mut [u8]) -> Input
     Input::Read(count)
 }
 
-fn main() {
+fn main(rt: HostRuntime) -> io::Result<()> {
     let mut buffer = [0u8; INPUT_SIZE];
-    let Input::Read(count) = read_input(&mut buffer) else {
-        io::write_all(STDOUT_FILENO, b"read failed\n");
-        return;
+    let Input::Read(count) = read_input(&mut rt.stdin(), &mut buffer) else {
+        return rt.write_all(b"read failed\n");
     };
     let mut text = [0u8; TEXT_SIZE];
     let size = report_input(&buffer, count, &mut text);
-    io::write_all(STDOUT_FILENO, &text[..size]);
+    rt.write_all(&text[..size])
 }

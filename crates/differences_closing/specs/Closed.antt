@@ -205,6 +205,6 @@ closed_more {n} {t₀} {t} {t'} {k} h c a = record {
   count = omega arith;
   lowered = lowered_trans c.lowered a.lowered;
   through = λ E q f.
-      rw (add-one k)
+      subst (λ (i : ℕ). Through E n q i (entry_in n t')) (sym (add-one k))
       (through_more E n q k h (entry_in n t) (entry_in n t') (c.through E q f) (c.lowered.ranged.low k k h h) a.lowered.no_more (λ i j hi hj. a.through i j hi hj));
 }

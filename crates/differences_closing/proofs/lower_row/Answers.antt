@@ -97,12 +97,11 @@ pub overflow_add-table : goal.overflow_add-table
 overflow_add-table c = rw (old_is (goal.at.overflow_add-table c).After-old-1, less_is c) (smaller_fits c)
 
 pub loop-u-preserved : goal.loop-u-preserved
-loop-u-preserved c =
-    (
-      length-set c.loop-u.table _ _ ∙ c.loop-u.invariant.0,
-      rw (a_is (goal.at.loop-u-preserved c).Start, old_is (goal.at.loop-u-preserved c).After-old-1, less_is c, to_z-of_z (smaller_fits c))
-          (lowering_more c.requires (lowering (goal.at.loop-u-preserved c).After-sum-1) (inside (goal.at.loop-u-preserved c).After-sum-1) (old (goal.at.loop-u-preserved c).After-old-1 +ℤ less c) (smaller c) (part_under (old (goal.at.loop-u-preserved c).After-old-1) (entry (goal.at.loop-u-preserved c).After-sum-1 +ℤ a (goal.at.loop-u-preserved c).Start) (less c) (part c))),
-    )
+loop-u-preserved c = (
+  length-set c.loop-u.table _ _ ∙ c.loop-u.invariant.0,
+  rw (a_is (goal.at.loop-u-preserved c).Start, old_is (goal.at.loop-u-preserved c).After-old-1, less_is c, to_z-of_z (smaller_fits c))
+      (lowering_more c.requires (lowering (goal.at.loop-u-preserved c).After-sum-1) (inside (goal.at.loop-u-preserved c).After-sum-1) (old (goal.at.loop-u-preserved c).After-old-1 +ℤ less c) (smaller c) (part_under (old (goal.at.loop-u-preserved c).After-old-1) (entry (goal.at.loop-u-preserved c).After-sum-1 +ℤ a (goal.at.loop-u-preserved c).Start) (less c) (part c))),
+)
 
 pub returns : goal.returns
 returns c =
