@@ -33,13 +33,7 @@ pub fn outcome_code(outcome: PairOutcome) -> i64
 
 // The greatest values, over all whole numbers that meet every line of this list of n variables, of the sums and
 // differences of the variables x and y.
-pub fn utvpi_implied_pair(
-    n: u64,
-    list: &[i32],
-    x: u64,
-    y: u64,
-    work: &mut [i64],
-) -> CPair
+pub fn utvpi_implied_pair(n: u64, list: &[i32], x: u64, y: u64, work: &mut [i64]) -> CPair
     ensures { returns result work.new ≡ pair_returned n list.now x y work.old }
 {
     let answer = implied_pair(n as usize, list, x as usize, y as usize, work);

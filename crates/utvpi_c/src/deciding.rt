@@ -17,5 +17,14 @@ pub extern "C" fn utvpi_decide(
         (record { model = model.old; bounds = bounds.old; groups = groups.old; refutation = refutation.old; identifiers = identifiers.old; work = work.old })
         (record { model = model.new; bounds = bounds.new; groups = groups.new; refutation = refutation.new; identifiers = identifiers.new; work = work.new }) }
 {
-    c_deciding::utvpi_decide(n, list, model, bounds, groups, refutation, identifiers, work)
+    c_deciding::utvpi_decide(
+        n,
+        list,
+        model,
+        bounds,
+        groups,
+        refutation,
+        identifiers,
+        work,
+    )
 }

@@ -19,5 +19,14 @@ pub extern "C" fn utvpi_decide_differences(
         (record { model = model.old; bounds = bounds.old; groups = groups.old; refutation = refutation.old; identifiers = identifiers.old; work = work.old })
         (record { model = model.new; bounds = bounds.new; groups = groups.new; refutation = refutation.new; identifiers = identifiers.new; work = work.new }) }
 {
-    c_differences::utvpi_decide_differences(n, list, model, bounds, groups, refutation, identifiers, work)
+    c_differences::utvpi_decide_differences(
+        n,
+        list,
+        model,
+        bounds,
+        groups,
+        refutation,
+        identifiers,
+        work,
+    )
 }

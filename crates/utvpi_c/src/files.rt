@@ -1,8 +1,7 @@
 // The exported functions that read a list from the bytes of a file and write one. Each answers a struct.
 ghost use Rattle.c_files.specs.Files.{ReadReturns, WriteReturns};
 
-use c_files::FileRead;
-use c_files::FileWritten;
+use c_files::{FileRead, FileWritten};
 
 // Reads the list of a file into the front of a buffer.
 #[unsafe(no_mangle)]

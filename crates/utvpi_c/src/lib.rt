@@ -2,17 +2,17 @@
 
 #![tactic(auto)]
 
+mod check_shown;
 mod checking;
-mod pieces;
 mod deciding;
 mod differences;
 mod files;
-mod session;
-mod session_asked;
 mod implied;
 mod implied_line;
-mod show_line;
-mod check_shown;
-mod trees;
+mod pieces;
 mod seconds;
+mod session;
+mod session_asked;
 mod shorter;
+mod show_line;
+mod trees;

@@ -29,7 +29,16 @@ pub extern "C" fn utvpi_session_add(
         state.new
         (record { model = model.new; bounds = bounds.new; groups = groups.new; refutation = refutation.new; identifiers = identifiers.new; work = work.new }) }
 {
-    c_session::utvpi_session_add(state, line, model, bounds, groups, refutation, identifiers, work)
+    c_session::utvpi_session_add(
+        state,
+        line,
+        model,
+        bounds,
+        groups,
+        refutation,
+        identifiers,
+        work,
+    )
 }
 
 // Withdraws the last line.

@@ -38,5 +38,16 @@ pub extern "C" fn utvpi_tree_decide(
         (record { model = model.old; bounds = bounds.old; groups = groups.old; refutation = refutation.old; identifiers = identifiers.old; work = work.old })
         (record { model = model.new; bounds = bounds.new; groups = groups.new; refutation = refutation.new; identifiers = identifiers.new; work = work.new }) }
 {
-    c_trees::utvpi_tree_decide(n, list, tree, choice, model, bounds, groups, refutation, identifiers, work)
+    c_trees::utvpi_tree_decide(
+        n,
+        list,
+        tree,
+        choice,
+        model,
+        bounds,
+        groups,
+        refutation,
+        identifiers,
+        work,
+    )
 }

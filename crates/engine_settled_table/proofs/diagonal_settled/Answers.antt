@@ -26,12 +26,11 @@ pub returns-then-above : goal.returns-then-above
 returns-then-above exit = record { yes = λ e. never (cc) }
 
 pub loop-t-preserved : goal.loop-t-preserved
-loop-t-preserved turned =
-    (
-      omega (arith, turned.loop-t-test.true),
-      diagonal_more turned.args.pot turned.args.size turned.args.work.now turned.loop-t.t turned.loop-t.invariant.1
-          (subst (λ (z : ℤ). z ⩽ pos 0) turned.entry_at-own.ensures (not_above _ (rw (to_z-of_z (record { sfits = turned.entry_at-own.type_inv })) at turned.if-above.false))),
-    )
+loop-t-preserved turned = (
+  omega (arith, turned.loop-t-test.true),
+  diagonal_more turned.args.pot turned.args.size turned.args.work.now turned.loop-t.t turned.loop-t.invariant.1
+      (subst (λ (z : ℤ). z ⩽ pos 0) turned.entry_at-own.ensures (not_above _ (rw (to_z-of_z (record { sfits = turned.entry_at-own.type_inv })) at turned.if-above.false))),
+)
 
 pub returns : goal.returns
 returns exit = record { yes = λ _ t h. exit.loop-t.invariant.1 t (omega (arith, h, exit.loop-t-test.false)) }

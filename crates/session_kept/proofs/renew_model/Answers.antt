@@ -1,0 +1,23 @@
+-- `session_kept::renew_model` meets its contract: the model stays, or its values are written to an array and copied.
+use mathlib.Core.Path.{◌≡◌}
+use mathlib.Core.List.{List}
+use Prim.Native.Nat.{◌*◌}
+use lib.IntN.{ℤ}
+use lib.ListN.{length}
+use Rattle.decide_stored_table.specs.Table.{by_rows}
+use Rattle.decide_model.specs.Values.{values_of, values_length}
+use Rattle.session_kept.specs.Laws.{kept_model, model_anew}
+use Rattle.session_kept.proofs.renew_model.Goals.{Start}
+use Rattle.session_kept.proofs.renew_model.Goals as goal
+
+-- the values of the table
+abbrev values : Start → List ℤ
+values s = values_of (by_rows (2 * s.args.n) s.args.table.now) s.args.n
+
+pub returns-then-stays : goal.returns-then-stays
+returns-then-stays c = kept_model c.args.n c.args.stays c.args.kept.now (values (goal.at.returns-then-stays c).Start) c.if-stays.true
+
+pub returns : goal.returns
+returns c =
+    let l : length (values (goal.at.returns c).Start) ≡ c.args.n = values_length (by_rows (2 * c.args.n) c.args.table.now) c.args.n in
+    model_anew c.args.n c.args.stays c.args.kept.now (values (goal.at.returns c).Start) c.if-stays.false l _ _ _ c.write_values.ensures c.keep_values.ensures
