@@ -16,7 +16,7 @@
 -- every buffer is left as it was.
 use Rattle.std.specs.Prelude.{◌≡◌, refl, ◌⊎◌, ◌↔◌, Bool, true, false, cond, List, [], ◌∷◌, ◌++◌, ℕ, ◌+◌, ◌*◌, ◌/◌, ◌%◌, ◌<◌, ◌≤◌, ℤ, pos, nat_abs, length, drop, get_or}
 use Rattle.std.proofs.Common.{sym, ap, subst, ◌∙◌}
-use Rattle.std.proofs.Math.Logic.{Iff·rfl, Iff·trans, Iff·and}
+use mathlib.Core.Logic.Iff
 use Rattle.integers.specs.Integer.{◌⩽◌}
 use Rattle.integers.specs.Laws.{never}
 use Rattle.lines.specs.declared.Refusal.{Refusal}
@@ -452,8 +452,8 @@ terms_in_either_order = (refl, refl, (λ e. let x : pos 0 ≡ pos 1 = ap (λ (L 
 
 -- Yes: nothing is refused, and the values meet every line.
 pub model_yes : (n : ℕ) (L m : List ℤ) → (model_answer n L m ≡ Yes) ↔ (NoneApplies (refusal_table (checking_model n L m)) × Solves (lines_of L) (assignment_of m))
-model_yes n L m = Iff·trans (yes_exactly n L m) (Iff·and (table_valid (checking_model n L m)) Iff·rfl)
+model_yes n L m = Iff.trans (yes_exactly n L m) (Iff.and (table_valid (checking_model n L m)) Iff.rfl)
 
 -- No: with the first line that fails, in list order.
 pub model_no : (n : ℕ) (L m : List ℤ) (k : ℕ) → (model_answer n L m ≡ No k) ↔ (NoneApplies (refusal_table (checking_model n L m)) × FirstFails L (assignment_of m) k)
-model_no n L m k = Iff·trans (no_exactly n L m k) (Iff·and (table_valid (checking_model n L m)) Iff·rfl)
+model_no n L m k = Iff.trans (no_exactly n L m k) (Iff.and (table_valid (checking_model n L m)) Iff.rfl)

@@ -1,7 +1,7 @@
 -- What was demanded of the exported functions, in the words of docs/SPECIFICATION.md, each statement proved by citing the rest.
 use Rattle.std.specs.Prelude.{◌≡◌, refl, ◌↔◌, List, ℕ, ◌+◌, ◌*◌, ◌%◌, ◌<◌, ◌≤◌, ℤ, pos, neg_ℤ, length}
 use Rattle.std.proofs.Common.{ap, subst, ◌∙◌, arith, SFits}
-use Rattle.std.proofs.Math.Logic.{Iff·trans}
+use mathlib.Core.Logic.Iff
 use Rattle.integers.specs.Integer.{◌⩽◌, ◌⋖◌}
 use Rattle.lines.specs.declared.Refusal.{Refusal}
 use Rattle.lines.specs.declared.Validity.TheVariants.{Valid}
@@ -111,7 +111,7 @@ returned_no_says_where n b r k = returned_no n b r k
 pub refusals_returned : (a : Asked) (r : Refusal) → place_of r < refusal_unit
     → (returned a ≡ neg_ℤ (pos (number_of r * refusal_unit + place_of r))) ↔ FirstApplies (refusal_table a) r
 unfolding refusal_code_lem
-refusals_returned a r h = Iff·trans (code_refused a r h) (table_refuses a r)
+refusals_returned a r h = Iff.trans (code_refused a r h) (table_refuses a r)
 
 -- A refutation may be handed over number by number, with what C keeps between two calls: the end returns the answer on the whole of it.
 pub pieces_return_the_answer : (n : ℕ) (L : List ℤ) (R : List ℕ) → Words R → refutation_end n L (take_each L refutation_begin R) ≡ check_code_lem (refutation_answer n L R)

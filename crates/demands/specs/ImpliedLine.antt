@@ -6,7 +6,7 @@
 use Rattle.std.specs.Prelude.{◌≡◌, refl, ◌↔◌, Bool, true, false, List, [], ◌∷◌, ◌++◌, ℕ, ◌<◌, ℤ, pos, negsuc, length, take, drop}
 use Rattle.std.proofs.Common.{sym, ap₂, subst, ◌∙◌, arith, take_at, drop_at}
 use Rattle.std.proofs.Math.Path.{ap}
-use Rattle.std.proofs.Math.Logic.{Iff·trans}
+use mathlib.Core.Logic.Iff
 use Rattle.integers.specs.Integer.{◌⩽◌, ◌⋖◌}
 use Rattle.integers.proofs.Linear.{ints}
 use Rattle.integers.specs.Laws.{never}

@@ -4,7 +4,7 @@
 -- whether a condition holds makes one row, and one validity or else another makes the rows of both.
 use Rattle.std.specs.Prelude.{◌≡◌, refl, ◌↔◌, ◌⊎◌, Bool, true, false, not, cond, ◌&&◌, List, [], ◌∷◌, ◌++◌, ℕ, zero, suc, ◌+◌, ◌*◌, ◌/◌, ◌%◌, ◌<◌, ◌≤◌, eqb, ltb, ℤ, pos, negsuc, neg_ℤ, length, drop}
 use Rattle.std.proofs.Common.{ap, subst, ◌∙◌, inl, inr, ⊎_elim, arith, ltb-true, ltb-false, lt-ltb, le-ltb, eqb-true, eq-eqb}
-use Rattle.std.proofs.Math.Logic.{Iff·rfl, Iff·trans}
+use mathlib.Core.Logic.Iff
 use Rattle.std.proofs.lemmas.Bool.{false≢true, not-true}
 use Rattle.std.proofs.Math.Decide.{ℕ_discrete}
 use Rattle.std.specs.Int.Signed.{le_z, lt_z}
@@ -170,7 +170,7 @@ either_test true t a b = ((λ e. inr (b.0 e)), (λ w. ⊎_elim (λ x. absurd (fa
 either_test false t a b = ((λ e. inl (a.0 refl)), (λ w. refl))
 
 pub true_test : (t : Bool) → Tells t (t ≡ true)
-true_test t = Iff·rfl
+true_test t = Iff.rfl
 
 pub less_test : (a b : ℕ) → Tells (ltb a b) (a < b)
 less_test a b = (ltb-true a b, lt-ltb a b)
@@ -427,14 +427,14 @@ answer_refused (checking_refutation_bytes n b R) r =
 
 -- a refusal is given exactly if it is the first of the table that applies
 pub table_refuses : (a : Asked) (r : Refusal) → IsRefused a r ↔ FirstApplies (refusal_table a) r
-table_refuses a r = Iff·trans (answer_refused a r) (gives_refused (table_gives a) r)
+table_refuses a r = Iff.trans (answer_refused a r) (gives_refused (table_gives a) r)
 
 -- none is given exactly if none applies
 pub table_valid : (a : Asked) → (computed a ≡ Valid) ↔ NoneApplies (refusal_table a)
 table_valid a = gives_valid (table_gives a)
 
 pub table_passes : (a : Asked) → ((r : Refusal) → IsRefused a r → ⊥) ↔ NoneApplies (refusal_table a)
-table_passes a = Iff·trans (fore, (λ e r h. never (cc ((answer_refused a r).0 h)))) (table_valid a)
+table_passes a = Iff.trans (fore, (λ e r h. never (cc ((answer_refused a r).0 h)))) (table_valid a)
   where
     go : (v : Validity) → ((r : Refusal) → v ≡ Refused r → ⊥) → v ≡ Valid
     go Valid f = refl
