@@ -2,17 +2,17 @@
 
 #![tactic(auto)]
 
-mod check_shown;
-mod checking;
-mod deciding;
-mod differences;
-mod files;
-mod implied;
-mod implied_line;
-mod pieces;
-mod seconds;
-mod session;
-mod session_asked;
-mod shorter;
-mod show_line;
-mod trees;
+mod check_shown_calls;
+mod checking_calls;
+mod deciding_calls;
+mod differences_calls;
+mod files_calls;
+mod implied_calls;
+mod implied_line_calls;
+mod pieces_calls;
+mod seconds_calls;
+mod session_asked_calls;
+mod session_calls;
+mod shorter_calls;
+mod show_line_calls;
+mod trees_calls;
