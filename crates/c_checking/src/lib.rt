@@ -51,6 +51,7 @@ fn take_bytes(list: &[i32], refutation: &[u8]) -> Progress
 }
 
 // The answer on a refutation in bytes.
+#[tactic(auto, unfolding(crate::specs::Calls::refutation_of_numbers_lem))]
 fn refutation_of_numbers(n: usize, list: &[i32], refutation: &[u8]) -> CheckAnswer
     ensures { result ≡ refutation_of_numbers_lem n list.now refutation.now }
 {

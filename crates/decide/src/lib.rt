@@ -136,7 +136,7 @@ fn decide_by_table(
     work: &mut [i64],
 ) -> Answer
     requires { validity_for n list.now
-        (record { model = model.now; bounds = bounds.old; groups = groups.old; refutation = refutation.old; identifiers = identifiers.old; work = work.old }) ≡ Valid }
+        (record { model = model.old; bounds = bounds.old; groups = groups.old; refutation = refutation.old; identifiers = identifiers.old; work = work.old }) ≡ Valid }
     ensures { Decided n list.now result
         (record { model = model.old; bounds = bounds.old; groups = groups.old; refutation = refutation.old; identifiers = identifiers.old; work = work.old })
         (record { model = model.new; bounds = bounds.new; groups = groups.new; refutation = refutation.new; identifiers = identifiers.new; work = work.new }) }

@@ -41,7 +41,8 @@ fn has_place(from: usize, to: usize) -> bool
     if from == to {
         return false;
     }
-    if from < HUB_POINTS {
+    let from_hub = from < HUB_POINTS;
+    if from_hub {
         return true;
     }
     if to < HUB_POINTS {

@@ -53,7 +53,7 @@ pub fn answer_learnt(
     work: &mut [i64],
 ) -> Answer
     requires { AnswerReady n list.now k state.old
-        (record { model = model.now; bounds = bounds.old; groups = groups.old; refutation = refutation.old; identifiers = identifiers.old; work = work.old }) }
+        (record { model = model.old; bounds = bounds.old; groups = groups.old; refutation = refutation.old; identifiers = identifiers.old; work = work.old }) }
     ensures { Answers n list.now k state.old result
         (record { model = model.old; bounds = bounds.old; groups = groups.old; refutation = refutation.old; identifiers = identifiers.old; work = work.old })
         state.new

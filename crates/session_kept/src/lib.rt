@@ -91,7 +91,8 @@ pub fn renew(table: &[i64], n: usize, model_stays: bool, groups_stay: bool, kept
     if model_stays && groups_stay {
         return;
     }
-    if first_beyond(table) < table.len() {
+    let is_wrong = first_beyond(table) < table.len();
+    if is_wrong {
         return;
     }
     renew_model(table, n, model_stays, kept);

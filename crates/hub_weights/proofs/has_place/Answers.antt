@@ -8,8 +8,8 @@ use Rattle.hub_weights.proofs.has_place.Goals as goal
 pub returns-then-from-to : goal.returns-then-from-to
 returns-then-from-to c = λ e. never (cc)
 
-pub returns-then-from-lt-HUB_POINTS : goal.returns-then-from-lt-HUB_POINTS
-returns-then-from-lt-HUB_POINTS c = λ e. placed_from c.if-from-to.false c.if-from-lt-HUB_POINTS.true
+pub returns-then-from_hub : goal.returns-then-from_hub
+returns-then-from_hub c = λ e. placed_from c.if-from-to.false c.if-from_hub.true
 
 pub returns-then-to-lt-HUB_POINTS : goal.returns-then-to-lt-HUB_POINTS
 returns-then-to-lt-HUB_POINTS c = λ e. placed_to c.if-from-to.false c.if-to-lt-HUB_POINTS.true
