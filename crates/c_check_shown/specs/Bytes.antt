@@ -1,13 +1,12 @@
 -- The bytes of a list, of a line and of a showing: on them the exported check answers as the checker does on the numbers.
-use Rattle.std.specs.Prelude.{◌≡◌, List, [], ℕ, ◌*◌, ltb, ℤ, length}
+use Rattle.lines.specs.declared.Refusal.{Refusal}
+use Rattle.std.specs.Prelude.{◌≡◌, List, [], ℕ, ◌*◌, ltb, ℤ, length, Err, Ok, Result}
 use Rattle.std.proofs.Math.Path.{refl}
 use Rattle.std.proofs.Common.{ap, ◌∙◌, arith, SFits}
 use borrow.Author.Tests.{eq-eqb}
 use Rattle.std.specs.Int.{w32}
 use Rattle.lines.specs.declared.Line.{Line}
 use Rattle.lines.specs.declared.Refusal.TheVariants.{LongRefutation}
-use Rattle.lines.specs.declared.Validity.{Validity}
-use Rattle.lines.specs.declared.Validity.TheVariants.{Valid, Refused}
 use Rattle.lines.specs.Limits.{line_size, max_refutation}
 use Rattle.lines.specs.Line.{number, line_at, line_numbers_lem, line_count}
 use Rattle.lines.specs.LineNumbers.{length_numbers, line_last}
@@ -40,20 +39,20 @@ module _ (n : ℕ) (L : List ℤ) (l : Line) (R : List ℕ) (w : Words R) where
   unfolding showing_of_numbers_lem shown_answer showing_validity_lem
   numbers_in_bytes =
       rw (long_in_bytes R, whole_in_bytes R, nat32s_back R (words_at R w))
-      (go (validity_of n L or_else shown_validity_lem n (line_count L) l or_else refuse_if (ltb max_refutation (length R)) LongRefutation) (verdict (run (against L l) start R)))
+      (go (validity_of n L or_else shown_validity_lem n (line_count L) l or_else refuse_if (ltb max_refutation (length R)) LongRefutation) (Ok (verdict (run (against L l) start R))))
     where
-      go : (v : Validity) (a : CheckAnswer) → unless_refused v (unless_refused v a) ≡ unless_refused v a
-      go Valid a = refl
-      go (Refused r) a = refl
+      go : (v : Result Unit Refusal) (a : Result CheckAnswer Refusal) → unless_refused v (unless_refused v a) ≡ unless_refused v a
+      go (Ok _) a = refl
+      go (Err r) a = refl
 
   -- and the list's go first
   refused_first : code_unless (validity_of n L) (check_code_lem (shown_answer n L l R)) ≡ check_code_lem (shown_answer n L l R)
   unfolding shown_answer showing_validity_lem
-  refused_first = go (validity_of n L) (shown_validity_lem n (line_count L) l or_else refuse_if (ltb max_refutation (length R)) LongRefutation) (verdict (run (against L l) start R))
+  refused_first = go (validity_of n L) (shown_validity_lem n (line_count L) l or_else refuse_if (ltb max_refutation (length R)) LongRefutation) (Ok (verdict (run (against L l) start R)))
     where
-      go : (v u : Validity) (a : CheckAnswer) → code_unless v (check_code_lem (unless_refused (v or_else u) a)) ≡ check_code_lem (unless_refused (v or_else u) a)
-      go Valid u a = refl
-      go (Refused r) u a = refl
+      go : (v u : Result Unit Refusal) (a : Result CheckAnswer Refusal) → code_unless v (check_code_lem (unless_refused (v or_else u) a)) ≡ check_code_lem (unless_refused (v or_else u) a)
+      go (Ok _) u a = refl
+      go (Err r) u a = refl
 
   pub shown_in_bytes : ((i : ℕ) → SFits w32 (number L i)) → ((i : ℕ) → SFits w32 (number (line_numbers_lem l) i))
       → check_shown_lem n (int32_bytes L) (int32_bytes (line_numbers_lem l)) (nat32_bytes R) ≡ check_code_lem (shown_answer n L l R)

@@ -1,9 +1,8 @@
 -- What the exported check of a showing returns: the specification's byte rules and then the answer on numbers.
-use Rattle.std.specs.Prelude.{cond, List, ℕ, ◌*◌, ◌%◌, eqb, ltb, ℤ, pos, ◌-ℤ◌, length}
+use Rattle.lines.specs.declared.Refusal.{Refusal}
+use Rattle.std.specs.Prelude.{cond, List, ℕ, ◌*◌, ◌%◌, eqb, ltb, ℤ, pos, ◌-ℤ◌, length, Err, Ok, Result}
 use Rattle.lines.specs.declared.Line.{Line}
 use Rattle.lines.specs.declared.Refusal.TheVariants.{BrokenLength, LongRefutation}
-use Rattle.lines.specs.declared.Validity.{Validity}
-use Rattle.lines.specs.declared.Validity.TheVariants as validity
 use Rattle.lines.specs.Limits.{line_size, max_refutation}
 use Rattle.lines.specs.Line.{line_at, line_count}
 use Rattle.lines.specs.Refusal.{◌or_else◌, refuse_if, shown_validity_lem, validity_of}
@@ -17,19 +16,19 @@ use Rattle.c_codes.specs.CheckCode.{check_code_lem}
 use Rattle.c_codes.specs.ListBytes.{number_bytes, bytes_validity}
 
 -- the list's refusals and the line's; 11 for too many bytes; no, at place 0, for bytes that are no multiple of four; then the answer on numbers
-unfoldable pub showing_of_numbers_lem : ℕ → List ℤ → Line → List ℕ → CheckAnswer
+unfoldable pub showing_of_numbers_lem : ℕ → List ℤ → Line → List ℕ → Result CheckAnswer Refusal
 showing_of_numbers_lem n L l r =
     unless_refused (validity_of n L or_else shown_validity_lem n (line_count L) l or_else refuse_if (ltb (number_bytes * max_refutation) (length r)) LongRefutation)
-    (cond (eqb (length r % number_bytes) 0) (shown_answer n L l (nat32s r)) (No 0))
+    (cond (eqb (length r % number_bytes) 0) (shown_answer n L l (nat32s r)) (Ok (No 0)))
 
 -- a line that is not of a line's bytes gets 2, at the place behind the list
 unfoldable pub broken_line_lem : ℕ → ℤ
 broken_line_lem k = refusal_code_lem BrokenLength -ℤ pos k
 
 -- a refusal of the list goes first
-abbrev pub code_unless : Validity → ℤ → ℤ
-code_unless validity.Valid z = z
-code_unless (validity.Refused r) z = refusal_code_lem r
+abbrev pub code_unless : Result Unit Refusal → ℤ → ℤ
+code_unless (Ok _) z = z
+code_unless (Err r) z = refusal_code_lem r
 
 -- the line in a line's bytes
 abbrev pub line_in : List ℕ → Line

@@ -19,7 +19,7 @@ use check_answers::CheckAnswer;
 use check_refutation::Progress;
 use check_shown::showing_validity;
 use lines::limits::{LINE_SIZE, MAX_REFUTATION};
-use lines::{Line, Refusal, Validity, line_at};
+use lines::{Line, Refusal, line_at};
 use little_endian::{decode_i32, u32_at};
 use longer_list::MOST_NUMBERS as AGAINST_NUMBERS;
 use shown_list::write_against;
@@ -30,32 +30,33 @@ fn read_bytes(list: &[i32], showing: &[u8]) -> Progress
     ensures { (result ≡ run list.now start (nat32s showing.now)) × Small max_weight result }
 {
     let count = showing.len() / NUMBER_BYTES;
-    let mut s = Progress::new();
-    let mut i = 0;
-    while i < count {
-        s = s.take(list, u32_at(showing, NUMBER_BYTES * i));
-        i += 1;
+    let mut progress = Progress::new();
+    for i in 0..count {
+        progress = progress.take(list, u32_at(showing, NUMBER_BYTES * i));
     }
-    s
+    progress
 }
 
 // The answer on a showing in bytes.
-fn showing_of_numbers(n: usize, list: &[i32], line: Line, showing: &[u8]) -> CheckAnswer
+#[tactic(auto, using(crate::specs::Laws::too_long, crate::specs::Laws::not_whole, crate::specs::Laws::whole_judged))]
+fn showing_of_numbers(
+    n: usize,
+    list: &[i32],
+    line: Line,
+    showing: &[u8],
+) -> Result<CheckAnswer, Refusal>
     ensures { result ≡ showing_of_numbers_lem n list.now line showing.now }
 {
-    let found = showing_validity(n, list, line, 0);
-    if let Validity::Refused(r) = found {
-        return CheckAnswer::Refused(r);
-    }
+    showing_validity(n, list, line, 0)?;
     if NUMBER_BYTES * MAX_REFUTATION < showing.len() {
-        return CheckAnswer::Refused(Refusal::LongRefutation);
+        return Err(Refusal::LongRefutation);
     }
     if showing.len() % NUMBER_BYTES != 0 {
-        return CheckAnswer::No(0);
+        return Ok(CheckAnswer::No(0));
     }
     let mut against = [0i32; AGAINST_NUMBERS];
     write_against(list, line, &mut against);
-    read_bytes(&against, showing).judge()
+    Ok(read_bytes(&against, showing).judge())
 }
 
 // The line in a line's bytes.
@@ -82,13 +83,12 @@ pub fn utvpi_check_shown(n: u64, list: &[u8], line: &[u8], showing: &[u8]) -> i6
 {
     let variables = n as usize;
     let mut numbers = [0i32; MOST_NUMBERS];
-    let found = decode_list(variables, list, &mut numbers);
-    if let Validity::Refused(r) = found {
-        return refusal_code(r);
+    if let Err(refusal) = decode_list(variables, list, &mut numbers) {
+        return refusal_code(refusal);
     }
     if line.len() != LINE_BYTES {
         return broken_line(list.len() / LINE_BYTES);
     }
     let count = list.len() / NUMBER_BYTES;
-    check_code(showing_of_numbers(variables, &numbers[0..count], decode_line(line), showing))
+    check_code(showing_of_numbers(variables, &numbers[..count], decode_line(line), showing))
 }

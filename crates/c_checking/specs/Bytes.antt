@@ -1,13 +1,11 @@
 -- The bytes of a list, of a refutation and of a model: on them the exported checks answer as the checkers do on the numbers.
-use Rattle.std.specs.Prelude.{◌≡◌, Bool, not, List, ℕ, ◌*◌, eqb, ℤ, length}
+use Rattle.lines.specs.declared.Refusal.{Refusal}
+use Rattle.std.specs.Prelude.{◌≡◌, Bool, not, List, ℕ, ◌*◌, eqb, ℤ, length, Err, Ok, Result}
 use Rattle.std.proofs.Math.Path.{refl}
 use Rattle.std.proofs.Math.Bool.{true, false}
 use Rattle.std.proofs.Common.{arith, SFits}
 use Rattle.std.specs.Int.{w32, w64}
 use Rattle.lines.specs.declared.Refusal.TheVariants.{WrongModelLength}
-use Rattle.lines.specs.declared.Validity.{Validity}
-use Rattle.lines.specs.declared.Validity.TheVariants.{Valid}
-use Rattle.lines.specs.declared.Validity.TheVariants as validity
 use Rattle.lines.specs.Line.{number, assignment_of}
 use Rattle.lines.specs.Refusal.{◌or_else◌, refuse_if, validity_of}
 use Rattle.little_endian.specs.Writing.{signed_bytes64, int32_bytes, nat32_bytes, int64_bytes}
@@ -38,9 +36,9 @@ module _ (n : ℕ) (L : List ℤ) (fits : (i : ℕ) → SFits w32 (number L i)) 
       let count = same_eqb (length (int64_bytes m)) (value_bytes * n) (length m) n (λ e. omega arith) (λ e. omega arith) in
       rw (list_in_bytes n L fits, list_back n L fits, int64s_back m f, count) (go (validity_of n L) (eqb (length m) n) _ _)
     where
-      go : (v : Validity) (t : Bool) (w : Validity) (a : CheckAnswer)
+      go : (v : Result Unit Refusal) (t : Bool) (w : Result Unit Refusal) (a : Result CheckAnswer Refusal)
           → unless_refused v (unless_refused (refuse_if (not t) WrongModelLength) (unless_refused (v or_else refuse_if (not t) WrongModelLength or_else w) a))
           ≡ unless_refused (v or_else refuse_if (not t) WrongModelLength or_else w) a
-      go Valid true w a = refl
-      go Valid false w a = refl
-      go (validity.Refused r) t w a = refl
+      go (Ok _) true w a = refl
+      go (Ok _) false w a = refl
+      go (Err r) t w a = refl

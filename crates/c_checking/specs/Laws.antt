@@ -1,5 +1,5 @@
 -- The places in an answer of a check are below a refusal's unit.
-use Rattle.std.specs.Prelude.{Bool, true, false, not, cond, List, ℕ, ◌*◌, ◌%◌, eqb, ltb, ℤ, length}
+use Rattle.std.specs.Prelude.{Bool, true, false, not, cond, List, ℕ, ◌*◌, ◌%◌, eqb, ltb, ℤ, length, Ok}
 use Rattle.std.proofs.Common.{arith}
 use Rattle.lines.specs.declared.Refusal.TheVariants.{WrongModelLength, LongRefutation}
 use Rattle.lines.specs.Limits.{max_refutation}
@@ -26,7 +26,7 @@ refutation_below n L r =
     below_unless refusal_unit _ _ (placed_if refusal_unit (ltb (number_bytes * max_refutation) (length r)) LongRefutation (omega arith))
     (λ _. go (eqb (length r % number_bytes) 0))
   where
-    go : (t : Bool) → Below refusal_unit (cond t (refutation_answer n L (nat32s r)) (No 0))
+    go : (t : Bool) → Below refusal_unit (cond t (refutation_answer n L (nat32s r)) (Ok (No 0)))
     go true = refutation.answer_below refusal_unit (omega arith) (omega arith) n L (nat32s r)
     go false = omega arith
 

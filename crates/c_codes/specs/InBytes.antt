@@ -1,5 +1,6 @@
 -- The bytes of numbers: a list in bytes is refused as its numbers are, and a refutation's bytes are whole numbers, too many exactly if the numbers are.
-use Rattle.std.specs.Prelude.{◌≡◌, refl, Bool, true, false, not, List, ℕ, ◌*◌, ◌/◌, ◌%◌, ◌<◌, ◌≤◌, eqb, ltb, ℤ}
+use Rattle.lines.specs.declared.Refusal.{Refusal}
+use Rattle.std.specs.Prelude.{◌≡◌, refl, Bool, true, false, not, List, ℕ, ◌*◌, ◌/◌, ◌%◌, ◌<◌, ◌≤◌, eqb, ltb, ℤ, Result}
 use Rattle.std.proofs.Math.Path.{ap}
 use Rattle.std.proofs.Common.{◌∙◌, arith, lt-ltb, le-ltb, ltb-true, ltb-false, eq-eqb, ne_eqb, eqb-true, SFits}
 use Rattle.std.proofs.Math.Nat.{mul-mod_right}
@@ -7,7 +8,6 @@ use Rattle.std.proofs.lemmas.Bool.{eqb-false}
 use Rattle.std.proofs.Math.ListN.{length}
 use Rattle.std.specs.Int.{w32}
 use Rattle.lines.specs.declared.Refusal.TheVariants.{TooManyVariables, BrokenLength}
-use Rattle.lines.specs.declared.Validity.{Validity}
 use Rattle.lines.specs.Limits.{line_size, max_variables, max_refutation}
 use Rattle.lines.specs.Line.{number}
 use Rattle.lines.specs.Refusal.{◌or_else◌, refuse_if, validity_of}
@@ -50,7 +50,7 @@ module _ (n : ℕ) (L : List ℤ) (fits : (i : ℕ) → SFits w32 (number L i)) 
           let q : length L ≡ line_size * (length (int32_bytes L) / (number_bytes * line_size)) = omega (arith, length_list L) in
           ap (λ (m : ℕ). m % line_size) q ∙ mul-mod_right line_size _
 
-      go : (t u : Bool) (v : Validity)
+      go : (t u : Bool) (v : Result Unit Refusal)
           → (refuse_if t TooManyVariables or_else refuse_if (not u) BrokenLength or_else refuse_if t TooManyVariables or_else refuse_if (not u) BrokenLength or_else v)
           ≡ (refuse_if t TooManyVariables or_else refuse_if (not u) BrokenLength or_else v)
       go true u v = refl

@@ -13,7 +13,7 @@ ghost use Rattle.c_codes.specs.ListBytes.{Decoded};
 
 use check_answers::CheckAnswer;
 use lines::limits::{LINE_SIZE, MAX_LINES, MAX_VARIABLES};
-use lines::{Refusal, Validity, list_validity, number_and_place};
+use lines::{Refusal, list_validity, number_and_place};
 use little_endian::decode_i32;
 
 // The answer no is this and, of a model, the number of the line that fails, of a refutation the place where it breaks.
@@ -40,30 +40,30 @@ pub fn refusal_code(r: Refusal) -> i64
 }
 
 // The number that an answer of a check is returned as.
-pub fn check_code(a: CheckAnswer) -> i64
+pub fn check_code(a: Result<CheckAnswer, Refusal>) -> i64
     requires { Below refusal_unit a }
     ensures { result ≡ check_code_lem a }
 {
     match a {
-        CheckAnswer::Yes => 0,
-        CheckAnswer::No(k) => (NO + k) as i64,
-        CheckAnswer::Refused(r) => refusal_code(r),
+        Ok(CheckAnswer::Yes) => 0,
+        Ok(CheckAnswer::No(k)) => (NO + k) as i64,
+        Err(r) => refusal_code(r),
     }
 }
 
 // The refusals of a list in bytes. Where none applies, its numbers are written.
-pub fn decode_list(n: usize, list: &[u8], numbers: &mut [i32]) -> Validity
+pub fn decode_list(n: usize, list: &[u8], numbers: &mut [i32]) -> Result<(), Refusal>
     requires { line_size * max_lines ≤ length numbers.old }
     ensures { Decoded n list.now numbers.new result }
 {
     if MAX_VARIABLES < n {
-        return Validity::Refused(Refusal::TooManyVariables);
+        return Err(Refusal::TooManyVariables);
     }
     if list.len() % LINE_BYTES != 0 {
-        return Validity::Refused(Refusal::BrokenLength);
+        return Err(Refusal::BrokenLength);
     }
     if MAX_LINES < list.len() / LINE_BYTES {
-        return Validity::Refused(Refusal::TooManyLines);
+        return Err(Refusal::TooManyLines);
     }
     decode_i32(list, numbers);
     let count = list.len() / NUMBER_BYTES;

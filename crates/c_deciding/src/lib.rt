@@ -9,20 +9,22 @@ ghost use Rattle.c_deciding.specs.Calls.{decide_code_lem, DecideReturns};
 
 use c_codes::{NO, refusal_code};
 use decide::{Answer, decide};
+use lines::Refusal;
 
 // The number that an answer on a list is returned as.
-pub fn decide_code(a: Answer) -> i64
+pub fn decide_code(a: Result<Answer, Refusal>) -> i64
     requires { deciding.Below refusal_unit a }
     ensures { result ≡ decide_code_lem a }
 {
     match a {
-        Answer::Yes => 0,
-        Answer::No => NO as i64,
-        Answer::Refused(r) => refusal_code(r),
+        Ok(Answer::Yes) => 0,
+        Ok(Answer::No) => NO as i64,
+        Err(r) => refusal_code(r),
     }
 }
 
 // Are there whole numbers that meet every line of this list of n variables? The lent buffers take what shows it.
+#[tactic(auto, using(crate::specs::Laws::decided_below))]
 pub fn utvpi_decide(
     n: u64,
     list: &[i32],

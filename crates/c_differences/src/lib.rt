@@ -10,6 +10,7 @@ use differences::decide_differences;
 
 // Are there whole numbers that meet every line of this list of differences of n variables? The lent buffers take what
 // shows it.
+#[tactic(auto, using(crate::specs::Laws::plain_below))]
 pub fn utvpi_decide_differences(
     n: u64,
     list: &[i32],

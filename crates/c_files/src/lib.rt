@@ -5,8 +5,8 @@
 ghost use Rattle.std.specs.Prelude.{◌≡◌};
 ghost use Rattle.c_files.specs.Files.{file_read, file_written, ReadReturns, WriteReturns};
 
-use file_list::{ReadAnswer, WriteAnswer, read_list, write_list};
-use file_records::file_number_and_place;
+use file_list::{Listed, read_list, write_list};
+use file_records::{FileRefusal, file_number_and_place};
 
 // What reading a file returns: a refusal's number and place, or 0, 0, n and the number of lines.
 #[repr(C)]
@@ -28,21 +28,21 @@ pub struct FileWritten {
 }
 
 // The struct that an answer on a file is returned as.
-fn read_result(a: ReadAnswer) -> FileRead
+fn read_result(a: Result<Listed, FileRefusal>) -> FileRead
     ensures { result ≡ file_read a }
 {
     match a {
-        ReadAnswer::Read(z) => FileRead {
+        Ok(z) => FileRead {
             refusal: 0,
             place: 0,
             n: z.n as u64,
             lines: z.lines as u64,
         },
-        ReadAnswer::Refused(r) => {
-            let s = file_number_and_place(r);
+        Err(r) => {
+            let numbered = file_number_and_place(r);
             FileRead {
-                refusal: s.number as u64,
-                place: s.place as u64,
+                refusal: numbered.number as u64,
+                place: numbered.place as u64,
                 n: 0,
                 lines: 0,
             }
@@ -51,20 +51,20 @@ fn read_result(a: ReadAnswer) -> FileRead
 }
 
 // The struct that an answer on writing is returned as.
-fn write_result(a: WriteAnswer) -> FileWritten
+fn write_result(a: Result<usize, FileRefusal>) -> FileWritten
     ensures { result ≡ file_written a }
 {
     match a {
-        WriteAnswer::Written(k) => FileWritten {
+        Ok(k) => FileWritten {
             refusal: 0,
             place: 0,
             bytes: k as u64,
         },
-        WriteAnswer::Refused(r) => {
-            let s = file_number_and_place(r);
+        Err(r) => {
+            let numbered = file_number_and_place(r);
             FileWritten {
-                refusal: s.number as u64,
-                place: s.place as u64,
+                refusal: numbered.number as u64,
+                place: numbered.place as u64,
                 bytes: 0,
             }
         }

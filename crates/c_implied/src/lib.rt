@@ -5,12 +5,13 @@
 ghost use Rattle.std.specs.Prelude.{◌≡◌};
 ghost use Rattle.implied_pair.specs.Places.{Below};
 ghost use Rattle.c_codes.specs.Codes.{refusal_unit};
-ghost use Rattle.c_implied.specs.Calls.{outcome_code_lem, returns, pair_returned};
+ghost use Rattle.c_implied.specs.Calls.{without_pair_lem, pair_code_lem, returns, pair_returned};
 
 use c_codes::{NO_SOLUTION, refusal_code};
-use implied_pair::{PairOutcome, implied_pair};
+use implied_pair::{Pair, implied_pair};
+use lines::Refusal;
 
-// What C gets: the result, and behind it x + y and x - y, then -x + y and -x - y.
+// What C gets: the result, and behind it x + y and x - y, then -x + y and -x - y; four zeros where no pair is implied.
 #[repr(C)]
 #[derive(Clone, Copy)]
 pub struct CPair {
@@ -19,15 +20,36 @@ pub struct CPair {
     pub minus: [i64; 2],
 }
 
-// The number that an outcome is returned as.
-pub fn outcome_code(outcome: PairOutcome) -> i64
-    requires { Below refusal_unit outcome }
-    ensures { result ≡ outcome_code_lem outcome }
+// A result with four zeros.
+fn without_pair(code: i64) -> CPair
+    ensures { result ≡ without_pair_lem code }
 {
-    match outcome {
-        PairOutcome::Implied => 0,
-        PairOutcome::Unsolvable => NO_SOLUTION,
-        PairOutcome::Refused(r) => refusal_code(r),
+    let plus = [0; 2];
+    let minus = [0; 2];
+    CPair {
+        result: code,
+        plus,
+        minus,
+    }
+}
+
+// What an answer is returned as.
+pub fn pair_code(answer: Result<Option<Pair>, Refusal>) -> CPair
+    requires { Below refusal_unit answer }
+    ensures { result ≡ pair_code_lem answer }
+{
+    match answer {
+        Ok(Some(pair)) => {
+            let plus = pair.plus;
+            let minus = pair.minus;
+            CPair {
+                result: 0,
+                plus,
+                minus,
+            }
+        }
+        Ok(None) => without_pair(NO_SOLUTION),
+        Err(r) => without_pair(refusal_code(r)),
     }
 }
 
@@ -36,15 +58,5 @@ pub fn outcome_code(outcome: PairOutcome) -> i64
 pub fn utvpi_implied_pair(n: u64, list: &[i32], x: u64, y: u64, work: &mut [i64]) -> CPair
     ensures { returns result work.new ≡ pair_returned n list.now x y work.old }
 {
-    let answer = implied_pair(n as usize, list, x as usize, y as usize, work);
-    let outcome = answer.outcome;
-    let pair = answer.pair;
-    let plus = pair.plus;
-    let minus = pair.minus;
-    let result = outcome_code(outcome);
-    CPair {
-        result,
-        plus,
-        minus,
-    }
+    pair_code(implied_pair(n as usize, list, x as usize, y as usize, work))
 }

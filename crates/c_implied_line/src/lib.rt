@@ -9,18 +9,18 @@ ghost use Rattle.c_implied_line.specs.Calls.{line_code_lem, LineReturns};
 
 use c_codes::{NO, NO_SOLUTION, refusal_code};
 use implied_line::{LineAnswer, implied_line};
-use lines::Line;
+use lines::{Line, Refusal};
 
 // The number that an answer on a line is returned as.
-pub fn line_code(a: LineAnswer) -> i64
+pub fn line_code(a: Result<LineAnswer, Refusal>) -> i64
     requires { Below refusal_unit a }
     ensures { result ≡ line_code_lem a }
 {
     match a {
-        LineAnswer::Implied => 0,
-        LineAnswer::NotImplied => NO as i64,
-        LineAnswer::Unsolvable => NO_SOLUTION,
-        LineAnswer::Refused(r) => refusal_code(r),
+        Ok(LineAnswer::Implied) => 0,
+        Ok(LineAnswer::NotImplied) => NO as i64,
+        Ok(LineAnswer::Unsolvable) => NO_SOLUTION,
+        Err(r) => refusal_code(r),
     }
 }
 

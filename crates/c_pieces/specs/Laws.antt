@@ -1,5 +1,5 @@
 -- The places in the answer at the end are below a refusal's unit, whatever was kept.
-use Rattle.std.specs.Prelude.{◌≡◌, refl, Bool, true, false, cond, List, ℕ, ltb, ℤ}
+use Rattle.std.specs.Prelude.{◌≡◌, refl, Bool, true, false, cond, List, ℕ, ltb, ℤ, Ok}
 use Rattle.std.proofs.Common.{arith}
 use Rattle.lines.specs.declared.Refusal.TheVariants.{LongRefutation}
 use Rattle.lines.specs.Limits.{max_refutation}
@@ -19,6 +19,6 @@ end_below n L s =
     (placed_or refusal_unit _ _ (placed_list refusal_unit n L (omega arith)) (placed_if refusal_unit (ltb max_refutation s.read) LongRefutation (omega arith)))
     (λ e. go (is_small_lem s) refl)
   where
-    go : (b : Bool) → is_small_lem s ≡ b → Below refusal_unit (cond b (verdict s) (No 0))
+    go : (b : Bool) → is_small_lem s ≡ b → Below refusal_unit (Ok (cond b (verdict s) (No 0)))
     go true e = let k = small_test s e in verdict_below refusal_unit s k.wrong (omega (arith, k.read))
     go false e = omega arith

@@ -4,7 +4,7 @@
 #![tactic(auto)]
 
 ghost use Rattle.std.specs.Prelude.{◌≡◌};
-ghost use Rattle.c_pieces.specs.Pieces.{good_number_lem, progress_of_lem, kept_of_lem, refutation_begin, refutation_take, refutation_end};
+ghost use Rattle.c_pieces.specs.Pieces.{progress_of_lem, kept_of_lem, refutation_begin, refutation_take, refutation_end};
 
 use c_codes::check_code;
 use check_pieces::{begin, end, take_on};
@@ -28,45 +28,42 @@ pub struct Kept {
 }
 
 // The checker's state out of what C kept.
-fn progress_of(kept: Kept) -> Progress
-    ensures { result ≡ progress_of_lem kept }
-{
-    Progress {
-        read: kept.read,
-        kind: kept.kind,
-        p: kept.p,
-        q: kept.q,
-        u: kept.u,
-        here: kept.here,
-        first: kept.first,
-        second: kept.second,
-        good: kept.good == 1,
-        wrong: kept.wrong,
+impl From<Kept> for Progress {
+    ghost from_gives = { λ kept progress. progress ≡ progress_of_lem kept };
+
+    fn from(kept: Kept) -> Progress {
+        Progress {
+            read: kept.read,
+            kind: kept.kind,
+            p: kept.p,
+            q: kept.q,
+            u: kept.u,
+            here: kept.here,
+            first: kept.first,
+            second: kept.second,
+            good: kept.good == 1,
+            wrong: kept.wrong,
+        }
     }
 }
 
-// The number by which C is told whether nothing was wrong.
-fn good_number(good: bool) -> u8
-    ensures { result ≡ good_number_lem good }
-{
-    if good { 1 } else { 0 }
-}
-
 // What C keeps of the checker's state.
-fn kept_of(progress: Progress) -> Kept
-    ensures { result ≡ kept_of_lem progress }
-{
-    Kept {
-        read: progress.read,
-        kind: progress.kind,
-        p: progress.p,
-        q: progress.q,
-        u: progress.u,
-        here: progress.here,
-        first: progress.first,
-        second: progress.second,
-        good: good_number(progress.good),
-        wrong: progress.wrong,
+impl From<Progress> for Kept {
+    ghost from_gives = { λ progress kept. kept ≡ kept_of_lem progress };
+
+    fn from(progress: Progress) -> Kept {
+        Kept {
+            read: progress.read,
+            kind: progress.kind,
+            p: progress.p,
+            q: progress.q,
+            u: progress.u,
+            here: progress.here,
+            first: progress.first,
+            second: progress.second,
+            good: u8::from(progress.good),
+            wrong: progress.wrong,
+        }
     }
 }
 
@@ -74,19 +71,20 @@ fn kept_of(progress: Progress) -> Kept
 pub fn utvpi_refutation_begin() -> Kept
     ensures { result ≡ refutation_begin }
 {
-    kept_of(begin())
+    Kept::from(begin())
 }
 
 // Takes one number more. It is lent the list and that number alone.
 pub fn utvpi_refutation_take(kept: Kept, list: &[i32], number: u32) -> Kept
     ensures { result ≡ refutation_take list.now kept number }
 {
-    kept_of(take_on(progress_of(kept), list, number))
+    Kept::from(take_on(Progress::from(kept), list, number))
 }
 
 // Do the numbers taken show that no whole numbers meet this list of n variables?
+#[tactic(auto, using(crate::specs::Laws::end_below))]
 pub fn utvpi_refutation_end(kept: Kept, n: u64, list: &[i32]) -> i64
     ensures { result ≡ refutation_end n list.now kept }
 {
-    check_code(end(progress_of(kept), n as usize, list))
+    check_code(end(Progress::from(kept), n as usize, list))
 }

@@ -5,7 +5,7 @@
 ghost use Rattle.std.specs.Prelude.{◌≡◌};
 ghost use Rattle.c_seconds.specs.Seconds.{seconds_written, ModelReturns, EventsReturn};
 
-use seconds::{SecondsAnswer, events_seconds, form_seconds, seconds_number_and_place};
+use seconds::{SecondsRefusal, events_seconds, form_seconds, seconds_number_and_place};
 
 // What writing seconds returns: a refusal's number and place, or 0 and 0.
 #[repr(C)]
@@ -16,15 +16,15 @@ pub struct SecondsWritten {
 }
 
 // The struct that an answer is returned as.
-fn seconds_result(a: SecondsAnswer) -> SecondsWritten
+fn seconds_result(a: Result<(), SecondsRefusal>) -> SecondsWritten
     ensures { result ≡ seconds_written a }
 {
     match a {
-        SecondsAnswer::Written => SecondsWritten {
+        Ok(()) => SecondsWritten {
             refusal: 0,
             place: 0,
         },
-        SecondsAnswer::Refused(r) => {
+        Err(r) => {
             let s = seconds_number_and_place(r);
             SecondsWritten {
                 refusal: s.number as u64,

@@ -1,17 +1,16 @@
 -- What the exported calls of a session return, and what they leave in the state and the buffers.
-use Rattle.std.specs.Prelude.{◌≡◌, List, ℕ, ℤ, pos, length}
+use Rattle.lines.specs.declared.Refusal.{Refusal}
+use Rattle.std.specs.Prelude.{◌≡◌, List, ℕ, ℤ, pos, length, Err, Ok, Result}
 use Rattle.lines.specs.declared.Line.{Line}
-use Rattle.lines.specs.declared.Validity.{Validity}
-use Rattle.lines.specs.declared.Validity.TheVariants.{Valid, Refused}
 use Rattle.decide_buffers.specs.Room.{Lent}
 use Rattle.session_promise.specs.Promise.{start_answer, start_state, learnt_known, add_answer, add_state, AddLeft, withdraw_answer, withdraw_state}
 use Rattle.c_codes.specs.Codes.{refusal_code_lem}
 use Rattle.c_deciding.specs.Calls.{decide_code_lem}
 
 -- the number that a start or a withdrawal is returned as
-abbrev pub done_code_lem : Validity → ℤ
-done_code_lem Valid = pos 0
-done_code_lem (Refused r) = refusal_code_lem r
+abbrev pub done_code_lem : Result Unit Refusal → ℤ
+done_code_lem (Ok _) = pos 0
+done_code_lem (Err r) = refusal_code_lem r
 
 -- s is what the state held before, t what it holds after
 pub record StartReturns (n : ℕ) (s : List ℤ) (returned : ℤ) (t : List ℤ) : Type 0 where

@@ -10,17 +10,17 @@ ghost use Rattle.c_session.specs.Calls.{done_code_lem, StartReturns, AddReturns,
 
 use c_codes::refusal_code;
 use c_deciding::decide_code;
-use lines::{Line, Validity};
+use lines::{Line, Refusal};
 use session::{add, start, withdraw};
 
 // The number that a start or a withdrawal is returned as.
-fn done_code(v: Validity) -> i64
+fn done_code(v: Result<(), Refusal>) -> i64
     requires { Placed refusal_unit v }
     ensures { result ≡ done_code_lem v }
 {
     match v {
-        Validity::Valid => 0,
-        Validity::Refused(r) => refusal_code(r),
+        Ok(()) => 0,
+        Err(r) => refusal_code(r),
     }
 }
 

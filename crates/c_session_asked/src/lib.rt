@@ -6,7 +6,7 @@
 ghost use Rattle.std.specs.Prelude.{◌≡◌};
 ghost use Rattle.c_session_asked.specs.Calls.{line_returned, pair_returned};
 
-use c_implied::{CPair, outcome_code};
+use c_implied::{CPair, pair_code};
 use c_implied_line::line_code;
 use lines::Line;
 use session_asked::{session_implied, session_pair};
@@ -23,15 +23,5 @@ pub fn utvpi_session_implied(state: &[i64], line: Line) -> i64
 pub fn utvpi_session_pair(state: &[i64], x: u64, y: u64) -> CPair
     ensures { result ≡ pair_returned state.now x y }
 {
-    let answer = session_pair(state, x as usize, y as usize);
-    let outcome = answer.outcome;
-    let pair = answer.pair;
-    let plus = pair.plus;
-    let minus = pair.minus;
-    let result = outcome_code(outcome);
-    CPair {
-        result,
-        plus,
-        minus,
-    }
+    pair_code(session_pair(state, x as usize, y as usize))
 }

@@ -8,23 +8,24 @@ ghost use Rattle.c_codes.specs.Codes.{refusal_unit};
 ghost use Rattle.c_show_line.specs.Calls.{show_code_lem, ShowReturns};
 
 use c_codes::{NO, refusal_code};
-use lines::Line;
+use lines::{Line, Refusal};
 use show_line::{ShowAnswer, show_line};
 
 // The number that an answer of showing is returned as.
-fn show_code(a: ShowAnswer) -> i64
+fn show_code(a: Result<ShowAnswer, Refusal>) -> i64
     requires { Below refusal_unit a }
     ensures { result ≡ show_code_lem a }
 {
     match a {
-        ShowAnswer::Shown => 0,
-        ShowAnswer::NotShown => NO as i64,
-        ShowAnswer::Refused(r) => refusal_code(r),
+        Ok(ShowAnswer::Shown) => 0,
+        Ok(ShowAnswer::NotShown) => NO as i64,
+        Err(r) => refusal_code(r),
     }
 }
 
 // Does this line hold of all whole numbers that meet every line of this list of n variables? If so, a showing of it is
 // written.
+#[tactic(auto, using(crate::specs::Laws::promised_below))]
 pub fn utvpi_show_line(
     n: u64,
     list: &[i32],

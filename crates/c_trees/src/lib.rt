@@ -6,7 +6,7 @@ ghost use Rattle.std.specs.Prelude.{◌≡◌};
 ghost use Rattle.c_trees.specs.Calls.{choice_returned, FirstReturns, ChoiceReturns};
 
 use c_codes::NO;
-use tree_deciding::{TreeAnswer, condition_number_and_place, decide_choice};
+use tree_deciding::{ConditionRefusal, condition_number_and_place, decide_choice};
 use tree_first::first_choice;
 
 // The result where something is refused.
@@ -23,28 +23,28 @@ pub struct CChoice {
 }
 
 // The struct that an answer is returned as. A no has the number of the choice that was asked for, or 0.
-fn choice_result(asked: u64, answer: TreeAnswer) -> CChoice
+fn choice_result(asked: u64, answer: Result<Option<usize>, ConditionRefusal>) -> CChoice
     ensures { result ≡ choice_returned asked answer }
 {
     match answer {
-        TreeAnswer::Yes(k) => CChoice {
+        Ok(Some(k)) => CChoice {
             result: 0,
             refusal: 0,
             place: 0,
             choice: k as u64,
         },
-        TreeAnswer::No => CChoice {
+        Ok(None) => CChoice {
             result: NO as i64,
             refusal: 0,
             place: 0,
             choice: asked,
         },
-        TreeAnswer::Refused(r) => {
-            let s = condition_number_and_place(r);
+        Err(r) => {
+            let numbered = condition_number_and_place(r);
             CChoice {
                 result: REFUSED,
-                refusal: s.number as u64,
-                place: s.place as u64,
+                refusal: numbered.number as u64,
+                place: numbered.place as u64,
                 choice: 0,
             }
         }
@@ -53,6 +53,7 @@ fn choice_result(asked: u64, answer: TreeAnswer) -> CChoice
 
 // The first choice, of a tree over the lines of this list of n variables, that whole numbers meet: its number, and such
 // numbers in the model.
+#[tactic(auto, using(crate::specs::Laws::first_returns))]
 pub fn utvpi_tree_first(
     n: u64,
     list: &[i32],
@@ -68,6 +69,7 @@ pub fn utvpi_tree_first(
 }
 
 // Decides the choice with this number, of a tree over the lines of this list of n variables.
+#[tactic(auto, using(crate::specs::Laws::choice_returns))]
 pub fn utvpi_tree_decide(
     n: u64,
     list: &[i32],

@@ -9,5 +9,4 @@ use lines::Refusal;
 pub enum CheckAnswer {
     Yes,
     No(usize),
-    Refused(Refusal),
 }

@@ -1,5 +1,5 @@
 -- What a valid model grants, the products of a line, and the laws by which the loops go one value or one line further.
-use Rattle.std.specs.Prelude.{◌≡◌, refl, true, false, not, cond, List, [], ◌∷◌, ℕ, zero, suc, ◌+◌, ◌<◌, ◌≤◌, ℤ, pos, negsuc, neg_ℤ, ◌+ℤ◌, ◌-ℤ◌, ◌*ℤ◌, length}
+use Rattle.std.specs.Prelude.{◌≡◌, refl, true, false, not, cond, List, [], ◌∷◌, ℕ, zero, suc, ◌+◌, ◌<◌, ◌≤◌, ℤ, pos, negsuc, neg_ℤ, ◌+ℤ◌, ◌-ℤ◌, ◌*ℤ◌, length, Err, Ok}
 use Rattle.std.proofs.Common.{sym, ◌∙◌, add-one, arith, eqb-true, drop_of_length-le, drop-cons, SFits}
 use Rattle.std.proofs.Math.Path.{ap}
 use Rattle.std.proofs.lemmas.Bool.{not-false}
@@ -11,7 +11,6 @@ use Rattle.integers.specs.Integer.{◌⩽◌, is_within_lem, Within}
 use Rattle.integers.proofs.Linear.{ints, zs}
 use Rattle.integers.proofs.Halving.{is_within}
 use Rattle.lines.specs.declared.Refusal.TheVariants.{BadValue}
-use Rattle.lines.specs.declared.Validity.TheVariants.{Valid}
 use Rattle.lines.specs.Limits.{max_value}
 use Rattle.lines.specs.Line.{Assignment, line_at, line_count, lines_of, meets, assignment_of}
 use Rattle.lines.specs.Refusal.{◌or_else◌, refuse_if}
@@ -31,18 +30,18 @@ pub record ModelOk (n : ℕ) (L m : List ℤ) : Type 0 where
   pub values : ValuesOk m
 
 -- none is refused from the first value on, so neither it nor what comes after it is
-value_parts : (j : ℕ) (v : ℤ) (vs : List ℤ) → values_validity_lem j (v ∷ vs) ≡ Valid → Within max_value v × (values_validity_lem (j + 1) vs ≡ Valid)
+value_parts : (j : ℕ) (v : ℤ) (vs : List ℤ) → values_validity_lem j (v ∷ vs) ≡ Ok tt → Within max_value v × (values_validity_lem (j + 1) vs ≡ Ok tt)
 unfolding values_validity_lem
 value_parts j v vs e =
     let h = or_valid (refuse_if (not (is_within_lem max_value v)) (BadValue j)) _ e in
     (is_within max_value v (not-false _ (not_refused _ _ h.0)), h.1)
 
-values_ok : (j : ℕ) (m : List ℤ) → values_validity_lem j m ≡ Valid → ValuesOk m
+values_ok : (j : ℕ) (m : List ℤ) → values_validity_lem j m ≡ Ok tt → ValuesOk m
 values_ok j [] e k = is_within max_value (pos 0) refl
 values_ok j (v ∷ vs) e zero = (value_parts j v vs e).0
 values_ok j (v ∷ vs) e (suc k) = values_ok (j + 1) vs (value_parts j v vs e).1 k
 
-pub valid_model : (n : ℕ) (L m : List ℤ) → model_validity_lem n L m ≡ Valid → ModelOk n L m
+pub valid_model : (n : ℕ) (L m : List ℤ) → model_validity_lem n L m ≡ Ok tt → ModelOk n L m
 unfolding model_validity_lem
 valid_model n L m e =
     let p = or_valid _ _ e in
@@ -105,7 +104,13 @@ module _ (m : List ℤ) where
   unfolding values_validity_lem
   values_from k h = ap (values_validity_lem k) (drop-cons m k (pos 0) h ∙ ap (λ (i : ℕ). assignment_of m k ∷ drop i m) (sym (add-one k)))
 
-  pub values_past : (k : ℕ) → length m ≤ k → values_validity_lem k (drop k m) ≡ Valid
+  pub values_on : (k : ℕ) → k < length m → is_within_lem max_value (assignment_of m k) ≡ true → values_validity_lem k (drop k m) ≡ values_validity_lem (k + 1) (drop (k + 1) m)
+  values_on k h e = rw e at (values_from k h)
+
+  pub values_at : (k : ℕ) → k < length m → is_within_lem max_value (assignment_of m k) ≡ false → values_validity_lem k (drop k m) ≡ Err (BadValue k)
+  values_at k h e = rw e at (values_from k h)
+
+  pub values_past : (k : ℕ) → length m ≤ k → values_validity_lem k (drop k m) ≡ Ok tt
   unfolding values_validity_lem
   values_past k h = ap (values_validity_lem k) (drop_of_length-le m h)
 
@@ -115,6 +120,12 @@ module _ (s : Assignment) (L : List ℤ) where
       → first_failing_lem s k (drop k (lines_of L)) ≡ cond (meets s (line_at L k)) (first_failing_lem s (k + 1) (drop (k + 1) (lines_of L))) (No k)
   unfolding first_failing_lem
   failing_from k h = ap (first_failing_lem s k) (lines_from L k h)
+
+  pub failing_on : (k : ℕ) → k < line_count L → meets s (line_at L k) ≡ true → first_failing_lem s k (drop k (lines_of L)) ≡ first_failing_lem s (k + 1) (drop (k + 1) (lines_of L))
+  failing_on k h e = rw e at (failing_from k h)
+
+  pub failing_at : (k : ℕ) → k < line_count L → meets s (line_at L k) ≡ false → first_failing_lem s k (drop k (lines_of L)) ≡ No k
+  failing_at k h e = rw e at (failing_from k h)
 
   pub failing_past : (k : ℕ) → line_count L ≤ k → first_failing_lem s k (drop k (lines_of L)) ≡ Yes
   unfolding first_failing_lem

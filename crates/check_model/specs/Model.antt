@@ -1,10 +1,9 @@
 -- What is answered to a proposed model: the first refusal that applies, or else yes, or no with the first line that fails.
-use Rattle.std.specs.Prelude.{not, cond, List, [], ◌∷◌, ℕ, ◌+◌, eqb, ℤ, length}
+use Rattle.lines.specs.declared.Refusal.{Refusal}
+use Rattle.std.specs.Prelude.{not, cond, List, [], ◌∷◌, ℕ, ◌+◌, eqb, ℤ, length, Ok, Result}
 use Rattle.integers.specs.Integer.{is_within_lem}
 use Rattle.lines.specs.declared.Line.{Line}
 use Rattle.lines.specs.declared.Refusal.TheVariants.{WrongModelLength, BadValue}
-use Rattle.lines.specs.declared.Validity.{Validity}
-use Rattle.lines.specs.declared.Validity.TheVariants.{Valid}
 use Rattle.lines.specs.Limits.{max_value}
 use Rattle.lines.specs.Line.{Assignment, lines_of, meets, assignment_of}
 use Rattle.lines.specs.Refusal.{◌or_else◌, refuse_if, validity_of}
@@ -13,12 +12,12 @@ use Rattle.check_answers.specs.declared.CheckAnswer.TheVariants.{Yes, No}
 use Rattle.check_answers.specs.Answer.{unless_refused}
 
 -- 10: values from the first, which has index k
-unfoldable pub values_validity_lem : ℕ → List ℤ → Validity
-values_validity_lem k [] = Valid
+unfoldable pub values_validity_lem : ℕ → List ℤ → Result Unit Refusal
+values_validity_lem k [] = Ok tt
 values_validity_lem k (v ∷ vs) = refuse_if (not (is_within_lem max_value v)) (BadValue k) or_else values_validity_lem (k + 1) vs
 
 -- the list's; then 9, 10
-unfoldable pub model_validity_lem : ℕ → List ℤ → List ℤ → Validity
+unfoldable pub model_validity_lem : ℕ → List ℤ → List ℤ → Result Unit Refusal
 model_validity_lem n L m =
     validity_of n L
     or_else refuse_if (not (eqb (length m) n)) WrongModelLength
@@ -30,5 +29,5 @@ first_failing_lem s k [] = Yes
 first_failing_lem s k (l ∷ ls) = cond (meets s l) (first_failing_lem s (k + 1) ls) (No k)
 
 -- the answer to model m of a list for n variables
-unfoldable pub model_answer : ℕ → List ℤ → List ℤ → CheckAnswer
-model_answer n L m = unless_refused (model_validity_lem n L m) (first_failing_lem (assignment_of m) 0 (lines_of L))
+unfoldable pub model_answer : ℕ → List ℤ → List ℤ → Result CheckAnswer Refusal
+model_answer n L m = unless_refused (model_validity_lem n L m) (Ok (first_failing_lem (assignment_of m) 0 (lines_of L)))

@@ -1,5 +1,6 @@
 -- The places and line numbers of an answer are small: below any bound that passes the limits of lines and variables.
-use Rattle.std.specs.Prelude.{◌≡◌, Bool, not, cond, ℕ, ◌+◌, ◌<◌, ◌≤◌, eqb, ℤ, length}
+use Rattle.lines.specs.declared.Refusal.{Refusal}
+use Rattle.std.specs.Prelude.{◌≡◌, Bool, not, cond, ℕ, ◌+◌, ◌<◌, ◌≤◌, eqb, ℤ, length, Err, Ok, Result}
 use Rattle.std.proofs.Math.Path.{refl}
 use Rattle.std.proofs.Math.Bool.{true, false}
 use mathlib.Core.List.{List, [], ◌∷◌}
@@ -9,8 +10,6 @@ use Rattle.integers.specs.Integer.{is_within_lem}
 use Rattle.integers.specs.Sequence.{length_tabulate}
 use Rattle.lines.specs.declared.Line.{Line}
 use Rattle.lines.specs.declared.Refusal.TheVariants.{WrongModelLength, BadValue}
-use Rattle.lines.specs.declared.Validity.{Validity}
-use Rattle.lines.specs.declared.Validity.TheVariants as validity
 use Rattle.lines.specs.Limits.{max_variables, max_lines, max_value}
 use Rattle.lines.specs.Line.{Assignment, line_at, line_count, lines_of, meets, assignment_of}
 use Rattle.lines.specs.Refusal.{◌or_else◌, refuse_if, validity_of}
@@ -26,12 +25,12 @@ module _ (m : ℕ) where
   values_placed k [] h = valid
   values_placed k (v ∷ vs) h = placed_or m _ _ (placed_if m (not (is_within_lem max_value v)) (BadValue k) (omega arith)) (values_placed (k + 1) vs (omega arith))
 
-  failing_below : (s : Assignment) (k : ℕ) (ls : List Line) → k + length ls ≤ m → Below m (first_failing_lem s k ls)
+  failing_below : (s : Assignment) (k : ℕ) (ls : List Line) → k + length ls ≤ m → Below m (Ok (first_failing_lem s k ls))
   unfolding first_failing_lem
   failing_below s k [] h = tt
   failing_below s k (l ∷ ls) h = go (meets s l) (failing_below s (k + 1) ls (omega arith))
     where
-      go : (t : Bool) → Below m (first_failing_lem s (k + 1) ls) → Below m (cond t (first_failing_lem s (k + 1) ls) (No k))
+      go : (t : Bool) → Below m (Ok (first_failing_lem s (k + 1) ls)) → Below m (Ok (cond t (first_failing_lem s (k + 1) ls) (No k)))
       go true rest = rest
       go false rest = omega arith
 
@@ -44,11 +43,11 @@ module _ (m : ℕ) where
     unfolding model_validity_lem
     model_placed = go (validity_of n L) refl (placed_list m n L lines)
       where
-        go : (v : Validity) → validity_of n L ≡ v → Placed m v → Placed m (v or_else refuse_if (not (eqb (length vs) n)) WrongModelLength or_else values_validity_lem 0 vs)
-        go validity.Valid e p = sized (valid_list n L e) (eqb (length vs) n) refl
-        go (validity.Refused r) e p = p
+        go : (v : Result Unit Refusal) → validity_of n L ≡ v → Placed m v → Placed m (v or_else refuse_if (not (eqb (length vs) n)) WrongModelLength or_else values_validity_lem 0 vs)
+        go (Ok _) e p = sized (valid_list n L e) (eqb (length vs) n) refl
+        go (Err r) e p = p
 
-    few_lines : model_validity_lem n L vs ≡ validity.Valid → line_count L ≤ max_lines
+    few_lines : model_validity_lem n L vs ≡ Ok tt → line_count L ≤ max_lines
     unfolding model_validity_lem
     few_lines e = (valid_list n L (or_valid (validity_of n L) _ e).0).count
 

@@ -11,7 +11,7 @@ ghost use Rattle.check_model.specs.Laws.{ValuesOk, TermOk};
 use check_answers::CheckAnswer;
 use integers::between;
 use lines::limits::{LINE_SIZE, MAX_VALUE};
-use lines::{Line, Refusal, Validity, line_at, list_validity};
+use lines::{Line, Refusal, line_at, list_validity};
 
 // A coefficient times its variable's value. With coefficient 0 no value is read: there may be none.
 fn term(coefficient: i32, variable: i32, model: &[i64]) -> i64
@@ -39,7 +39,7 @@ pub fn is_met(line: Line, model: &[i64]) -> bool
     requires { LineWorks (length model.now) line × ValuesOk model.now }
     ensures { result ≡ meets (assignment_of model.now) line }
 {
-    left_side(line, model) <= line.d as i64
+    left_side(line, model) <= i64::from(line.d)
 }
 
 // Yes, or no with the first line that the values fail, in list order.
@@ -49,6 +49,7 @@ fn first_failing(list: &[i32], model: &[i64]) -> CheckAnswer
 {
     let count = list.len() / LINE_SIZE;
     let mut k = 0;
+    // The loop yields the number by `break`: the form that was asked for (docs/DECISIONS.md, "Forms").
     let failing = loop {
         if k >= count {
             break count;
@@ -66,40 +67,34 @@ fn first_failing(list: &[i32], model: &[i64]) -> CheckAnswer
 }
 
 // Refusal 10: the lowest index of a value outside its limit.
-fn values_validity(model: &[i64]) -> Validity
+fn values_validity(model: &[i64]) -> Result<(), Refusal>
     ensures { result ≡ values_validity_lem 0 model.now }
 {
-    let mut i = 0;
-    while i < model.len() {
+    for i in 0..model.len() {
         if !between(-MAX_VALUE, MAX_VALUE, model[i]) {
-            return Validity::Refused(Refusal::BadValue(i));
+            return Err(Refusal::BadValue(i));
         }
-        i += 1;
     }
-    Validity::Valid
+    Ok(())
 }
 
 // The first refusal that applies: the list's, 9 and 10.
-fn model_validity(n: usize, list: &[i32], model: &[i64]) -> Validity
+#[tactic(auto, unfolding(crate::specs::Model::model_validity_lem))]
+fn model_validity(n: usize, list: &[i32], model: &[i64]) -> Result<(), Refusal>
     ensures { result ≡ model_validity_lem n list.now model.now }
 {
-    let found = list_validity(n, list);
-    if let Validity::Refused(r) = found {
-        return Validity::Refused(r);
-    }
+    list_validity(n, list)?;
     if model.len() != n {
-        return Validity::Refused(Refusal::WrongModelLength);
+        return Err(Refusal::WrongModelLength);
     }
     values_validity(model)
 }
 
 // Whether the values of a model solve a list for n variables.
-pub fn check_model(n: usize, list: &[i32], model: &[i64]) -> CheckAnswer
+#[tactic(auto, using(crate::specs::Laws::valid_model), unfolding(crate::specs::Model::model_answer))]
+pub fn check_model(n: usize, list: &[i32], model: &[i64]) -> Result<CheckAnswer, Refusal>
     ensures { result ≡ model_answer n list.now model.now }
 {
-    let found = model_validity(n, list, model);
-    if let Validity::Refused(r) = found {
-        return CheckAnswer::Refused(r);
-    }
-    first_failing(list, model)
+    model_validity(n, list, model)?;
+    Ok(first_failing(list, model))
 }

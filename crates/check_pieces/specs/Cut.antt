@@ -1,5 +1,6 @@
 -- A checker stopped after any number goes on to the same answer, from the list, the numbers not yet read and what was kept.
-use Rattle.std.specs.Prelude.{◌≡◌, Bool, cond, ℕ, zero, suc, ◌+◌, ◌^◌, ◌<◌, ◌≤◌, ℤ, length, get_or}
+use Rattle.lines.specs.declared.Refusal.{Refusal}
+use Rattle.std.specs.Prelude.{◌≡◌, Bool, cond, ℕ, zero, suc, ◌+◌, ◌^◌, ◌<◌, ◌≤◌, ℤ, length, get_or, Err, Ok, Result}
 use Rattle.std.proofs.Math.Path.{refl}
 use Rattle.std.proofs.Common.{sym, ap, ◌∙◌, arith}
 use Rattle.std.proofs.Math.Bool.{true, false}
@@ -7,8 +8,6 @@ use mathlib.Core.List.{List, [], ◌∷◌, ◌++◌}
 use borrow.Author.Tests.{lt-ltb, le-ltb, ltb-true, ltb-false}
 use Rattle.std.proofs.Math.Dec.{ltb}
 use Rattle.lines.specs.declared.Refusal.TheVariants.{LongRefutation}
-use Rattle.lines.specs.declared.Validity.{Validity}
-use Rattle.lines.specs.declared.Validity.TheVariants.{Valid, Refused}
 use Rattle.lines.specs.Limits.{max_refutation}
 use Rattle.lines.specs.Refusal.{◌or_else◌, refuse_if, validity_of}
 use Rattle.check_answers.specs.declared.CheckAnswer.TheVariants.{No}
@@ -59,7 +58,7 @@ pub words_snoc : (R : List ℕ) (r : ℕ) → Words R → r < 2 ^ 32 → Words (
 words_snoc [] r w h = (h, tt)
 words_snoc (x ∷ R) r w h = (w.0, words_snoc R r w.1 h)
 
-module _ (n : ℕ) (L : List ℤ) (v : validity_of n L ≡ Valid) where
+module _ (n : ℕ) (L : List ℤ) (v : validity_of n L ≡ Ok tt) where
   -- where there is room, the checker's own step is taken
   take_is : (s : Progress) (r : ℕ) → Small valid_weight s → s.read < max_refutation → take_on_lem L s r ≡ advance L s r
   unfolding take_on_lem
@@ -102,15 +101,15 @@ pub whole : (n : ℕ) (L : List ℤ) (R : List ℕ) → Words R → end_answer n
 unfolding end_answer refutation_answer refutation_validity
 whole n L R w = go (validity_of n L) refl
   where
-    go : (u : Validity) → validity_of n L ≡ u
-        → unless_refused (u or_else refuse_if (ltb max_refutation (take_all L start R).read) LongRefutation) (cond (is_small_lem (take_all L start R)) (verdict (take_all L start R)) (No 0))
-        ≡ unless_refused (u or_else refuse_if (ltb max_refutation (length R)) LongRefutation) (verdict (run L start R))
-    go (Refused r) e = refl
-    go Valid e = long (ltb max_refutation (length R)) refl
+    go : (u : Result Unit Refusal) → validity_of n L ≡ u
+        → unless_refused (u or_else refuse_if (ltb max_refutation (take_all L start R).read) LongRefutation) (Ok (cond (is_small_lem (take_all L start R)) (verdict (take_all L start R)) (No 0)))
+        ≡ unless_refused (u or_else refuse_if (ltb max_refutation (length R)) LongRefutation) (Ok (verdict (run L start R)))
+    go (Err r) e = refl
+    go (Ok _) e = long (ltb max_refutation (length R)) refl
       where
         long : (b : Bool) → ltb max_refutation (length R) ≡ b
-            → unless_refused (refuse_if (ltb max_refutation (take_all L start R).read) LongRefutation) (cond (is_small_lem (take_all L start R)) (verdict (take_all L start R)) (No 0))
-            ≡ unless_refused (refuse_if b LongRefutation) (verdict (run L start R))
+            → unless_refused (refuse_if (ltb max_refutation (take_all L start R).read) LongRefutation) (Ok (cond (is_small_lem (take_all L start R)) (verdict (take_all L start R)) (No 0)))
+            ≡ unless_refused (refuse_if b LongRefutation) (Ok (verdict (run L start R)))
         long true z = rw (lt-ltb _ _ (past_limit n L e start R (start_small valid_weight) (omega (arith, ltb-true max_refutation (length R) z)) w))
         long false z =
             let k = within_limit n L e start R (start_small valid_weight) (omega (arith, ltb-false max_refutation (length R) z)) w in

@@ -1,19 +1,17 @@
 -- A refutation that arrives in pieces: what one number makes of what is kept, and what the end answers, for any state, list and number.
-use Rattle.std.specs.Prelude.{◌≡◌, refl, Bool, true, false, not, cond, ◌&&◌, List, [], ◌∷◌, ℕ, ◌+◌, ◌*◌, ◌/◌, ◌^◌, ltb, ℤ}
+use Rattle.lines.specs.declared.Refusal.{Refusal}
+use Rattle.std.specs.Prelude.{◌≡◌, refl, Bool, true, false, not, cond, ◌&&◌, List, [], ◌∷◌, ℕ, ◌+◌, ◌*◌, ◌/◌, ◌^◌, ltb, ℤ, Err, Ok, Result, Some, is_ok}
 use Rattle.std.proofs.Common.{ap, arith, lt-ltb, le-ltb, ltb-true, ltb-false}
 use Rattle.std.proofs.lemmas.Bool.{not-true}
 use Rattle.integers.specs.Integer.{is_within_lem, Within}
 use Rattle.integers.specs.Laws.{never, and_true}
 use Rattle.integers.proofs.Halving.{is_within, within_is}
 use Rattle.lines.specs.declared.Refusal.TheVariants.{LongRefutation}
-use Rattle.lines.specs.declared.Validity.{Validity}
-use Rattle.lines.specs.declared.Validity.TheVariants.{Valid, Refused}
 use Rattle.lines.specs.Limits.{max_variables, max_constant, max_refutation}
 use Rattle.lines.specs.Line.{line_at, line_count}
 use Rattle.lines.specs.Refusal.{◌or_else◌, refuse_if, line_validity_lem, validity_of}
 use Rattle.lines.specs.Valid.{ListOk, line_ok, line_works, valid_list, line_valid_more}
 use Rattle.steps.specs.declared.Step.{Step}
-use Rattle.steps.specs.declared.NamedStep.TheVariants.{Found}
 use Rattle.steps.specs.Step.{heaviest, max_weight, step_numbered_lem, NamedOk}
 use Rattle.steps.specs.Laws.{numbered_within}
 use Rattle.check_answers.specs.declared.CheckAnswer.{CheckAnswer}
@@ -26,12 +24,8 @@ use Rattle.check_refutation.specs.Answer.{verdict}
 
 -- ---- what can be taken on
 -- the line that a number names, where there is one, keeps the line rules
-abbrev pub is_valid : Validity → Bool
-is_valid Valid = true
-is_valid (Refused r) = false
-
 unfoldable pub names_valid_lem : List ℤ → ℕ → Bool
-names_valid_lem L k = cond (ltb (k / 2) (line_count L)) (is_valid (line_validity_lem max_variables 0 (line_at L (k / 2)))) true
+names_valid_lem L k = cond (ltb (k / 2) (line_count L)) (is_ok (line_validity_lem max_variables 0 (line_at L (k / 2)))) true
 
 -- the weight of a step of a valid line lies within plus and minus this
 abbrev pub valid_weight : ℕ
@@ -59,8 +53,8 @@ take_all L s (r ∷ R) = take_all L (take_on_lem L s r) R
 
 -- ---- the end
 -- the list's refusals; then 11; then yes, or no with the place; what no refutation could have left breaks at once
-unfoldable pub end_answer : ℕ → List ℤ → Progress → CheckAnswer
-end_answer n L s = unless_refused (validity_of n L or_else refuse_if (ltb max_refutation s.read) LongRefutation) (cond (is_small_lem s) (verdict s) (No 0))
+unfoldable pub end_answer : ℕ → List ℤ → Progress → Result CheckAnswer Refusal
+end_answer n L s = unless_refused (validity_of n L or_else refuse_if (ltb max_refutation s.read) LongRefutation) (Ok (cond (is_small_lem s) (verdict s) (No 0)))
 
 -- ---- what the tests grant
 pub names_ok : (L : List ℤ) (k : ℕ) → names_valid_lem L k ≡ true → NamedOk max_variables L k
@@ -68,22 +62,22 @@ unfolding names_valid_lem
 names_ok L k e h =
     line_works max_constant max_variables (line_at L (k / 2)) (omega arith) (line_ok max_variables 0 (line_at L (k / 2)) (go (line_validity_lem max_variables 0 (line_at L (k / 2))) (rw (lt-ltb (k / 2) (line_count L) h) at e)))
   where
-    go : (v : Validity) → is_valid v ≡ true → v ≡ Valid
-    go Valid z = refl
-    go (Refused r) z = never (cc)
+    go : (v : Result Unit Refusal) → is_ok v ≡ true → v ≡ Ok tt
+    go (Ok _) z = refl
+    go (Err r) z = never (cc)
 
-pub valid_names : (n : ℕ) (L : List ℤ) → validity_of n L ≡ Valid → (k : ℕ) → names_valid_lem L k ≡ true
+pub valid_names : (n : ℕ) (L : List ℤ) → validity_of n L ≡ Ok tt → (k : ℕ) → names_valid_lem L k ≡ true
 unfolding names_valid_lem
 valid_names n L v k = go (ltb (k / 2) (line_count L)) refl
   where
     o : ListOk n L
     o = valid_list n L v
 
-    go : (b : Bool) → ltb (k / 2) (line_count L) ≡ b → cond b (is_valid (line_validity_lem max_variables 0 (line_at L (k / 2)))) true ≡ true
-    go true e = ap is_valid (line_valid_more n max_variables (k / 2) 0 (line_at L (k / 2)) o.variables (o.each (k / 2) (ltb-true _ _ e)))
+    go : (b : Bool) → ltb (k / 2) (line_count L) ≡ b → cond b (is_ok (line_validity_lem max_variables 0 (line_at L (k / 2)))) true ≡ true
+    go true e = ap is_ok (line_valid_more n max_variables (k / 2) 0 (line_at L (k / 2)) o.variables (o.each (k / 2) (ltb-true _ _ e)))
     go false e = refl
 
-pub named_light : (n : ℕ) (L : List ℤ) → validity_of n L ≡ Valid → (k : ℕ) (t : Step) → step_numbered_lem L k ≡ Found t → Within valid_weight t.weight
+pub named_light : (n : ℕ) (L : List ℤ) → validity_of n L ≡ Ok tt → (k : ℕ) (t : Step) → step_numbered_lem L k ≡ Some t → Within valid_weight t.weight
 named_light n L v k t = numbered_within max_constant L k t (λ h. (line_ok n (k / 2) (line_at L (k / 2)) ((valid_list n L v).each (k / 2) h)).constant)
 
 test_told : (s : Progress) → is_small_lem s ≡ true → Small valid_weight s

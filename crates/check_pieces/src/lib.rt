@@ -3,7 +3,7 @@
 
 #![tactic(auto)]
 
-ghost use Rattle.std.specs.Prelude.{◌≡◌, ◌*◌, ◌≤◌};
+ghost use Rattle.std.specs.Prelude.{◌≡◌, ◌&&◌, ◌*◌, ◌≤◌};
 ghost use Rattle.integers.specs.Integer.{is_within_lem};
 ghost use Rattle.lines.specs.Limits.{max_refutation};
 ghost use Rattle.check_refutation.specs.Progress.{start};
@@ -13,7 +13,7 @@ use check_answers::CheckAnswer;
 use check_refutation::Progress;
 use integers::between;
 use lines::limits::{LINE_SIZE, MAX_CONSTANT, MAX_REFUTATION, MAX_VARIABLES};
-use lines::{Refusal, Validity, line_at, line_validity, list_validity};
+use lines::{Refusal, line_at, line_validity, list_validity};
 
 // The weight of a valid line's step lies within plus and minus this.
 const VALID_WEIGHT: usize = 2 * MAX_CONSTANT as usize;
@@ -29,29 +29,33 @@ fn is_sum(count: usize, sum: i64) -> bool
     between(-most, most, sum)
 }
 
+// Whether the sums kept are ones that the steps read can have.
+fn sums_small(kept: Progress) -> bool
+    requires { kept.read ≤ max_refutation }
+    ensures { result ≡ (is_within_lem (kept.read * valid_weight) kept.first && is_within_lem (kept.read * valid_weight) kept.second) }
+{
+    is_sum(kept.read, kept.first) && is_sum(kept.read, kept.second)
+}
+
 // Whether the numbers kept are as small as the steps read can make them.
+#[tactic(auto, unfolding(crate::specs::Taken::is_small_lem))]
 fn is_small(kept: Progress) -> bool
     ensures { result ≡ is_small_lem kept }
 {
-    if MAX_REFUTATION < kept.read {
-        return false;
-    }
-    is_sum(kept.read, kept.first)
-        & (is_sum(kept.read, kept.second)
-            & ((kept.p < NUMBERS) & ((kept.q < NUMBERS) & !(kept.read < kept.wrong))))
+    kept.read <= MAX_REFUTATION
+        && sums_small(kept)
+        && kept.p < NUMBERS
+        && kept.q < NUMBERS
+        && kept.wrong <= kept.read
 }
 
 // Whether the line that a number names, where there is one, keeps the line rules.
+#[tactic(auto, unfolding(crate::specs::Taken::names_valid_lem))]
 fn names_valid(list: &[i32], number: usize) -> bool
     ensures { result ≡ names_valid_lem list.now number }
 {
-    if list.len() / LINE_SIZE <= number / 2 {
-        return true;
-    }
-    match line_validity(MAX_VARIABLES, 0, line_at(list, number / 2)) {
-        Validity::Valid => true,
-        Validity::Refused(_) => false,
-    }
+    list.len() / LINE_SIZE <= number / 2
+        || line_validity(MAX_VARIABLES, 0, line_at(list, number / 2)).is_ok()
 }
 
 // Nothing was read.
@@ -62,34 +66,34 @@ pub fn begin() -> Progress
 }
 
 // One number more. It is lent the list and that number alone.
-pub fn take_on(mut kept: Progress, list: &[i32], number: u32) -> Progress
+#[tactic(auto, unfolding(crate::specs::Taken::take_on_lem))]
+pub fn take_on(kept: Progress, list: &[i32], number: u32) -> Progress
     ensures { result ≡ take_on_lem list.now kept number }
 {
     if MAX_REFUTATION <= kept.read {
-        kept.read = MAX_REFUTATION + 1;
-        return kept;
+        return Progress {
+            read: MAX_REFUTATION + 1,
+            ..kept
+        };
     }
-    let small = is_small(kept);
-    let valid = names_valid(list, number as usize);
-    if small & valid {
-        return kept.take(list, number);
+    if is_small(kept) && names_valid(list, number as usize) {
+        kept.take(list, number)
+    } else {
+        kept.only_if(false)
     }
-    kept.only_if(false)
 }
 
 // The answer on all numbers that were taken: the list's refusals, then 11, then whether they refute the list.
-pub fn end(kept: Progress, n: usize, list: &[i32]) -> CheckAnswer
+#[tactic(auto, unfolding(crate::specs::Taken::end_answer))]
+pub fn end(kept: Progress, n: usize, list: &[i32]) -> Result<CheckAnswer, Refusal>
     ensures { result ≡ end_answer n list.now kept }
 {
-    let found = list_validity(n, list);
-    if let Validity::Refused(r) = found {
-        return CheckAnswer::Refused(r);
-    }
+    list_validity(n, list)?;
     if MAX_REFUTATION < kept.read {
-        return CheckAnswer::Refused(Refusal::LongRefutation);
+        return Err(Refusal::LongRefutation);
     }
     if !is_small(kept) {
-        return CheckAnswer::No(0);
+        return Ok(CheckAnswer::No(0));
     }
-    kept.judge()
+    Ok(kept.judge())
 }

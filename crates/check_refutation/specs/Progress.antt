@@ -1,11 +1,9 @@
 -- The refutation checker's rule: what is kept between two numbers of a refutation, how one number takes it on, and when the end says yes.
-use Rattle.std.specs.Prelude.{Bool, true, false, not, cond, ◌&&◌, ◌||◌, List, [], ◌∷◌, ℕ, ◌+◌, ◌-◌, ◌/◌, ◌%◌, eqb, ltb, ℤ, pos, ◌+ℤ◌}
+use Rattle.std.specs.Prelude.{Bool, true, false, not, cond, ◌&&◌, ◌||◌, List, [], ◌∷◌, ℕ, ◌+◌, ◌-◌, ◌/◌, ◌%◌, eqb, ltb, ℤ, pos, ◌+ℤ◌, None, Option, Some}
 use Rattle.std.specs.Int.Signed.{lt_z}
 use Rattle.integers.specs.Integer.{half}
 use Rattle.lines.specs.Line.{line_at, line_count, is_false_lem}
 use Rattle.steps.specs.declared.Step.{Step}
-use Rattle.steps.specs.declared.NamedStep.{NamedStep}
-use Rattle.steps.specs.declared.NamedStep.TheVariants.{Found, Nothing}
 use Rattle.steps.specs.Point.{opposite}
 use Rattle.steps.specs.Step.{step_numbered_lem}
 use Rattle.check_refutation.specs.declared.Progress.{Progress}
@@ -71,9 +69,9 @@ along s t =
       wrong = wrong_after s (joins s t.from && turns s u t.to);
     }
 
-abbrev pub walk_on : Progress → NamedStep → Progress
-walk_on s (Found t) = along s t
-walk_on s Nothing = only_if_lem s false
+abbrev pub walk_on : Progress → Option Step → Progress
+walk_on s (Some t) = along s t
+walk_on s None = only_if_lem s false
 
 -- one number more
 unfoldable pub advance : List ℤ → Progress → ℕ → Progress

@@ -1,13 +1,11 @@
 -- The numbers of a progress are small, and stay so with each number read: sums of at most maxRefutation weights, so that none overflows.
 -- What a weight is at most is a parameter: the checker works on any list that deciding works on.
-use Rattle.std.specs.Prelude.{◌≡◌, refl, Bool, true, false, not, cond, ◌&&◌, List, [], ◌∷◌, ◌++◌, ℕ, ◌+◌, ◌*◌, ◌^◌, ◌<◌, ◌≤◌, eqb, ltb, ℤ, pos, ◌+ℤ◌, length}
+use Rattle.std.specs.Prelude.{◌≡◌, refl, Bool, true, false, not, cond, ◌&&◌, List, [], ◌∷◌, ◌++◌, ℕ, ◌+◌, ◌*◌, ◌^◌, ◌<◌, ◌≤◌, eqb, ltb, ℤ, pos, ◌+ℤ◌, length, None, Option, Some}
 use Rattle.std.proofs.Common.{◌∙◌, mul-le-mul_left, mul-le-mul_right, arith}
 use Rattle.integers.specs.Integer.{Within}
 use Rattle.integers.proofs.Linear.{ints, given, given₂}
 use Rattle.lines.specs.Limits.{max_refutation}
 use Rattle.steps.specs.declared.Step.{Step}
-use Rattle.steps.specs.declared.NamedStep.{NamedStep}
-use Rattle.steps.specs.declared.NamedStep.TheVariants.{Found, Nothing}
 use Rattle.steps.specs.Step.{step_numbered_lem}
 use Rattle.check_refutation.specs.declared.Progress.{Progress}
 use Rattle.check_refutation.specs.Progress.{head_size, start, is_false_step_lem, head_on, wrong_after, only_if_lem, along, walk_on, advance, run}
@@ -99,21 +97,21 @@ module _ (most : ℕ) (s : Progress) (small : Small most s) (more : s.read < max
         wrong = wrong_after_law s _ small.wrong;
       }
 
-  walk_small : (m : NamedStep) → ((t : Step) → m ≡ Found t → Within most t.weight) → Small most (walk_on s m)
-  walk_small (Found t) w = along_small t (w t refl)
-  walk_small Nothing w = only_small false
+  walk_small : (m : Option Step) → ((t : Step) → m ≡ Some t → Within most t.weight) → Small most (walk_on s m)
+  walk_small (Some t) w = along_small t (w t refl)
+  walk_small None w = only_small false
 
-  pub advance_small : (L : List ℤ) (r : ℕ) → ((t : Step) → step_numbered_lem L r ≡ Found t → Within most t.weight) → r < 2 ^ 32 → Small most (advance L s r)
+  pub advance_small : (L : List ℤ) (r : ℕ) → ((t : Step) → step_numbered_lem L r ≡ Some t → Within most t.weight) → r < 2 ^ 32 → Small most (advance L s r)
   unfolding advance
   advance_small L r light h =
       either (Small most) (ltb s.read head_size) (head_small r h)
       (either (Small most) (eqb s.kind 3) (only_small (is_false_step_lem L r)) (walk_small (step_numbered_lem L r) light))
 
 -- one number more is counted
-walk_read : (s : Progress) (m : NamedStep) → (walk_on s m).read ≡ s.read + 1
+walk_read : (s : Progress) (m : Option Step) → (walk_on s m).read ≡ s.read + 1
 unfolding along
-walk_read s (Found t) = refl
-walk_read s Nothing = refl
+walk_read s (Some t) = refl
+walk_read s None = refl
 
 pub advance_read : (L : List ℤ) (s : Progress) (r : ℕ) → (advance L s r).read ≡ s.read + 1
 unfolding advance head_on
@@ -128,10 +126,10 @@ run_read L s [] = omega arith
 run_read L s (r ∷ R) = run_read L (advance L s r) R ∙ omega (arith, advance_read L s r)
 
 -- what was wrong first was read, whatever is read
-walk_wrong : (s : Progress) (m : NamedStep) → s.wrong ≤ s.read → (walk_on s m).wrong ≤ s.read + 1
+walk_wrong : (s : Progress) (m : Option Step) → s.wrong ≤ s.read → (walk_on s m).wrong ≤ s.read + 1
 unfolding along
-walk_wrong s (Found t) h = wrong_after_law s _ h
-walk_wrong s Nothing h = wrong_after_law s false h
+walk_wrong s (Some t) h = wrong_after_law s _ h
+walk_wrong s None h = wrong_after_law s false h
 
 advance_wrong : (L : List ℤ) (s : Progress) (r : ℕ) → s.wrong ≤ s.read → (advance L s r).wrong ≤ s.read + 1
 unfolding advance head_on

@@ -1,5 +1,5 @@
 -- What is handed back of two lent refutations, in the words of docs/SPECIFICATION.md: to be read beside it. Nothing here speaks of how it is found.
-use Rattle.std.specs.Prelude.{◌≡◌, List, ℕ, ◌<◌, ◌≤◌, ℤ, length}
+use Rattle.std.specs.Prelude.{◌≡◌, List, ℕ, ◌<◌, ◌≤◌, ℤ, length, Ok}
 use Rattle.check_answers.specs.declared.CheckAnswer.TheVariants.{Yes}
 use Rattle.check_refutation.specs.Answer.{refutation_answer}
 use Rattle.check_soundness.specs.Head.{stated_length, stated}
@@ -10,7 +10,7 @@ use Rattle.check_shorter.specs.declared.Part.TheVariants.{OfFirst, OfSecond, Emp
 -- limit on a refutation is one on the part, not on the slice.
 pub record FrontAccepted (n : ℕ) (L : List ℤ) (S : List ℕ) : Type 0 where
   pub whole : stated_length S ≤ length S
-  pub is_accepted : refutation_answer n L (stated S) ≡ Yes
+  pub is_accepted : refutation_answer n L (stated S) ≡ Ok Yes
 
 -- the shorter accepted one, the first when they tie; an empty part when neither is accepted
 pub data HandsBack (n : ℕ) (L : List ℤ) (S T : List ℕ) : Part → Type 0 where

@@ -1,10 +1,11 @@
 -- What is handed back: an accepted refutation, the front of the slice that it came from, no longer than the other accepted one, and the first when they tie.
-use Rattle.std.specs.Prelude.{◌≡◌, refl, Bool, true, false, cond, ◌&&◌, ◌||◌, List, ◌++◌, ℕ, ◌<◌, ◌≤◌, eqb, ltb, ℤ, length, drop}
+use Rattle.lines.specs.declared.Refusal.{Refusal}
+use Rattle.std.specs.Prelude.{◌≡◌, refl, Bool, true, false, cond, ◌&&◌, ◌||◌, List, ◌++◌, ℕ, ◌<◌, ◌≤◌, eqb, ltb, ℤ, length, drop, Err, Ok, Result}
 use Rattle.std.proofs.Common.{sym, ◌∙◌, arith, ltb-true, ltb-false, eqb-true, take-append-drop, length-take, length-append, take_at}
 use Rattle.std.proofs.Math.Path.{ap}
 use Rattle.std.proofs.lemmas.Bool.{eqb-false}
 use Rattle.check_answers.specs.declared.CheckAnswer.{CheckAnswer}
-use Rattle.check_answers.specs.declared.CheckAnswer.TheVariants.{Yes, No, Refused}
+use Rattle.check_answers.specs.declared.CheckAnswer.TheVariants.{Yes, No}
 use Rattle.check_refutation.specs.Answer.{refutation_answer}
 use Rattle.check_soundness.specs.Head.{stated_length, stated}
 use Rattle.check_soundness.specs.Refutes.{stated_length_law}
@@ -17,41 +18,41 @@ use Rattle.check_shorter.specs.Shorter.{if_accepted, accepted_length_lem, part_b
 -- ---- one slice
 module _ (n : ℕ) (L : List ℤ) (S : List ℕ) where
   -- where the checker accepts the front, it has the numbers that its counts say
-  pub accepted_whole : refutation_answer n L (stated S) ≡ Yes → FrontAccepted n L S
+  pub accepted_whole : refutation_answer n L (stated S) ≡ Ok Yes → FrontAccepted n L S
   accepted_whole e =
       let k = stated_length S in
       let size = stated_length_law L (stated S) ((accepted_when n L (stated S)).0 e).2 (drop k S) ∙ ap stated_length (take-append-drop k S) in
       record { whole = omega (arith, size, length-take k S); is_accepted = e }
 
   -- the length says whether it is accepted
-  pub length_if : (a : CheckAnswer) → refutation_answer n L (stated S) ≡ a → accepted_length_lem n L S ≡ if_accepted a (stated_length S)
+  pub length_if : (a : Result CheckAnswer Refusal) → refutation_answer n L (stated S) ≡ a → accepted_length_lem n L S ≡ if_accepted a (stated_length S)
   unfolding accepted_length_lem
-  length_if a e = ap (λ (x : CheckAnswer). if_accepted x (stated_length S)) e
+  length_if a e = ap (λ (x : Result CheckAnswer Refusal). if_accepted x (stated_length S)) e
 
   pub length_accepted : FrontAccepted n L S → accepted_length_lem n L S ≡ stated_length S
-  length_accepted f = length_if Yes f.is_accepted
+  length_accepted f = length_if (Ok Yes) f.is_accepted
 
   some_accepted : 0 < accepted_length_lem n L S → FrontAccepted n L S
   some_accepted h = accepted_whole (go (refutation_answer n L (stated S)) refl)
     where
-      go : (a : CheckAnswer) → refutation_answer n L (stated S) ≡ a → a ≡ Yes
-      go Yes e = refl
-      go (No i) e = absurd (omega (arith, h, length_if (No i) e))
-      go (Refused r) e = absurd (omega (arith, h, length_if (Refused r) e))
+      go : (a : Result CheckAnswer Refusal) → refutation_answer n L (stated S) ≡ a → a ≡ Ok Yes
+      go (Ok Yes) e = refl
+      go (Ok (No i)) e = absurd (omega (arith, h, length_if (Ok (No i)) e))
+      go (Err r) e = absurd (omega (arith, h, length_if (Err r) e))
 
   not_accepted : (FrontAccepted n L S → ⊥) → accepted_length_lem n L S ≡ 0
   not_accepted f = go (refutation_answer n L (stated S)) refl
     where
-      go : (a : CheckAnswer) → refutation_answer n L (stated S) ≡ a → accepted_length_lem n L S ≡ 0
-      go Yes e = absurd (f (accepted_whole e))
-      go (No i) e = length_if (No i) e
-      go (Refused r) e = length_if (Refused r) e
+      go : (a : Result CheckAnswer Refusal) → refutation_answer n L (stated S) ≡ a → accepted_length_lem n L S ≡ 0
+      go (Ok Yes) e = absurd (f (accepted_whole e))
+      go (Ok (No i)) e = length_if (Ok (No i)) e
+      go (Err r) e = length_if (Err r) e
 
   pub too_short : length S < stated_length S → accepted_length_lem n L S ≡ 0
   too_short h = not_accepted (λ f. absurd (omega (arith, h, f.whole)))
 
 -- whatever stands behind an accepted refutation, and however much, changes nothing
-module _ (n : ℕ) (L : List ℤ) (R rest : List ℕ) (e : refutation_answer n L R ≡ Yes) where
+module _ (n : ℕ) (L : List ℤ) (R rest : List ℕ) (e : refutation_answer n L R ≡ Ok Yes) where
   front_is : stated_length (R ++ rest) ≡ length R
   front_is = sym (stated_length_law L R ((accepted_when n L R).0 e).2 rest)
 

@@ -1,17 +1,18 @@
 -- Which of two lent refutations is handed back, and the part of its slice that it is.
-use Rattle.std.specs.Prelude.{cond, ◌&&◌, ◌||◌, List, ℕ, eqb, ltb, ℤ, take}
+use Rattle.lines.specs.declared.Refusal.{Refusal}
+use Rattle.std.specs.Prelude.{cond, ◌&&◌, ◌||◌, List, ℕ, eqb, ltb, ℤ, take, Err, Ok, Result}
 use Rattle.check_answers.specs.declared.CheckAnswer.{CheckAnswer}
-use Rattle.check_answers.specs.declared.CheckAnswer.TheVariants.{Yes, No, Refused}
+use Rattle.check_answers.specs.declared.CheckAnswer.TheVariants.{Yes, No}
 use Rattle.check_refutation.specs.Answer.{refutation_answer}
 use Rattle.check_soundness.specs.Head.{stated_length, stated}
 use Rattle.check_shorter.specs.declared.Part.{Part}
 use Rattle.check_shorter.specs.declared.Part.TheVariants.{OfFirst, OfSecond, Empty}
 
 -- a length where the answer is yes, else 0
-abbrev pub if_accepted : CheckAnswer → ℕ → ℕ
-if_accepted Yes k = k
-if_accepted (No i) k = 0
-if_accepted (Refused r) k = 0
+abbrev pub if_accepted : Result CheckAnswer Refusal → ℕ → ℕ
+if_accepted (Ok Yes) k = k
+if_accepted (Ok (No i)) k = 0
+if_accepted (Err r) k = 0
 
 -- how many numbers of a lent slice can be handed back: the 3 + p + q of the refutation at its front, where that is accepted. Of a slice with fewer numbers
 -- `stated` is all of it, which is never accepted (`accepted_whole`).

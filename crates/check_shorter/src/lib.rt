@@ -19,6 +19,7 @@ pub enum Part {
 
 // How many numbers the refutation at the front of a slice has, 3 + p + q, where they are there and accepted; else 0.
 // The sum is exact: it may be far beyond the slice, and never wraps.
+#[tactic(auto, using(crate::specs::Laws::too_short), unfolding(crate::specs::Shorter::accepted_length_lem))]
 fn accepted_length(n: usize, list: &[i32], lent: &[u32]) -> usize
     ensures { result ≡ accepted_length_lem n list.now lent.now }
 {
@@ -30,26 +31,27 @@ fn accepted_length(n: usize, list: &[i32], lent: &[u32]) -> usize
         return 0;
     }
     match check_refutation(n, list, &lent[..length]) {
-        CheckAnswer::Yes => length,
-        CheckAnswer::No(_) => 0,
-        CheckAnswer::Refused(_) => 0,
+        Ok(CheckAnswer::Yes) => length,
+        _ => 0,
     }
 }
 
 // The shorter of two, by their lengths, where 0 says that one is not accepted; the first when they tie.
+#[tactic(auto, unfolding(crate::specs::Shorter::part_by_lengths_lem))]
 fn part_by_lengths(first: usize, second: usize) -> Part
     ensures { result ≡ part_by_lengths_lem first second }
 {
-    if (0 < second) & ((first == 0) | (second < first)) {
-        return Part::OfSecond(second);
+    if 0 < second && (first == 0 || second < first) {
+        Part::OfSecond(second)
+    } else if 0 < first {
+        Part::OfFirst(first)
+    } else {
+        Part::Empty
     }
-    if 0 < first {
-        return Part::OfFirst(first);
-    }
-    Part::Empty
 }
 
 // Which part is handed back.
+#[tactic(auto, unfolding(crate::specs::Shorter::shorter_part_lem))]
 pub fn shorter_part(n: usize, list: &[i32], first: &[u32], second: &[u32]) -> Part
     ensures { result ≡ shorter_part_lem n list.now first.now second.now }
 {

@@ -1,10 +1,9 @@
 -- Where nothing is refused: what the list and the line have, so that the list against the line is one that the pass takes.
-use Rattle.std.specs.Prelude.{◌≡◌, List, ℕ, ◌≤◌, ℤ, pos, replicate}
+use Rattle.std.specs.Prelude.{◌≡◌, List, ℕ, ◌≤◌, ℤ, pos, replicate, Ok}
 use Rattle.std.proofs.Common.{arith, ltb-false}
 use Rattle.integers.specs.Integer.{Within}
 use Rattle.integers.proofs.Linear.{ints, given}
 use Rattle.lines.specs.declared.Line.{Line}
-use Rattle.lines.specs.declared.Validity.TheVariants.{Valid}
 use Rattle.lines.specs.Limits.{max_variables, max_refutation, shown_constant_lem}
 use Rattle.lines.specs.Line.{line_count}
 use Rattle.lines.specs.Refusal.{shown_validity_lem, validity_of}
@@ -17,8 +16,8 @@ use Rattle.check_shown.specs.Answer.{showing_validity_lem}
 
 -- a list and a line that are not refused
 pub record ShownAsked (n : ℕ) (L : List ℤ) (l : Line) : Type 0 where
-  pub list : validity_of n L ≡ Valid
-  pub line : shown_validity_lem n (line_count L) l ≡ Valid
+  pub list : validity_of n L ≡ Ok tt
+  pub line : shown_validity_lem n (line_count L) l ≡ Ok tt
 
 module _ (n : ℕ) (L : List ℤ) (l : Line) (a : ShownAsked n L l) where
   pub list_ok : ListOk n L
@@ -50,7 +49,7 @@ pub record ShowingAsked (n : ℕ) (L : List ℤ) (l : Line) (k : ℕ) : Type 0 w
   pub asked : ShownAsked n L l
   pub short : k ≤ max_refutation
 
-pub asked : (n : ℕ) (L : List ℤ) (l : Line) (k : ℕ) → showing_validity_lem n L l k ≡ Valid → ShowingAsked n L l k
+pub asked : (n : ℕ) (L : List ℤ) (l : Line) (k : ℕ) → showing_validity_lem n L l k ≡ Ok tt → ShowingAsked n L l k
 unfolding showing_validity_lem
 asked n L l k e =
     let p = or_valid (validity_of n L) _ e in

@@ -1,9 +1,8 @@
 -- What the checker of showings says by a yes: nothing is refused and the numbers are a showing; so every solution of the list meets the line, whoever proposed
 -- it, and each valid longer list is answered the same.
-use Rattle.std.specs.Prelude.{◌≡◌, ◌↔◌, List, ◌++◌, ℕ, ◌≤◌, ℤ, length}
-use borrow.Author.Tests.{le-ltb}
+use Rattle.std.specs.Prelude.{◌≡◌, ◌↔◌, List, ◌++◌, ℕ, ◌≤◌, ℤ, length, Ok}
+use Rattle.std.proofs.Common.{ap, le-ltb}
 use Rattle.lines.specs.declared.Line.{Line}
-use Rattle.lines.specs.declared.Validity.TheVariants.{Valid}
 use Rattle.lines.specs.Limits.{max_refutation}
 use Rattle.lines.specs.Line.{line_count, lines_of, Implies}
 use Rattle.lines.specs.Refusal.{validity_of}
@@ -25,27 +24,27 @@ pub record Accepted (n : ℕ) (L : List ℤ) (l : Line) (R : List ℕ) : Type 0 
   pub shows : Shows L l R
 
 module _ (n : ℕ) (L : List ℤ) (l : Line) (R : List ℕ) where
-  pub shown_yes : (shown_answer n L l R ≡ Yes) ↔ Accepted n L l R
+  pub shown_yes : (shown_answer n L l R ≡ Ok Yes) ↔ Accepted n L l R
   unfolding shown_answer showing_validity_lem accepts
   shown_yes = (
     (λ e.
-        let u = (unrefused (showing_validity_lem n L l (length R)) _ Yes tt).0 e in
+        let u = (unrefused (showing_validity_lem n L l (length R)) _ (Ok Yes) tt).0 e in
         let a = asked n L l (length R) u.0 in
-        record { asked = a.asked; short = a.short; shows = (accepts_exactly (against L l) R).0 ((verdict_yes (run (against L l) start R)).0 u.1) }),
+        record { asked = a.asked; short = a.short; shows = (accepts_exactly (against L l) R).0 ((verdict_yes (run (against L l) start R)).0 (let same = u.1 in cc)) }),
     (λ a.
         rw (a.asked.list, a.asked.line, le-ltb max_refutation (length R) a.short)
-        ((verdict_yes (run (against L l) start R)).1 ((accepts_exactly (against L l) R).1 a.shows))),
+        (ap Ok ((verdict_yes (run (against L l) start R)).1 ((accepts_exactly (against L l) R).1 a.shows)))),
   )
 
   -- every solution meets the line
-  pub accepted_met : shown_answer n L l R ≡ Yes → Implies (lines_of L) l
+  pub accepted_met : shown_answer n L l R ≡ Ok Yes → Implies (lines_of L) l
   accepted_met e =
       let a = shown_yes.0 e in
       let o = list_ok n L l a.asked in
       shown_met n L o.whole o.count l (works n L l a.asked) R a.shows
 
 -- a longer list
-pub accepted_longer : (n : ℕ) (L M : List ℤ) (l : Line) (R : List ℕ) → validity_of n (L ++ M) ≡ Valid → shown_answer n L l R ≡ Yes → shown_answer n (L ++ M) l R ≡ Yes
+pub accepted_longer : (n : ℕ) (L M : List ℤ) (l : Line) (R : List ℕ) → validity_of n (L ++ M) ≡ Ok tt → shown_answer n L l R ≡ Ok Yes → shown_answer n (L ++ M) l R ≡ Ok Yes
 accepted_longer n L M l R v e =
     let a = (shown_yes n L l R).0 e in
     let o = list_ok n L l a.asked in

@@ -1,16 +1,14 @@
 -- The refutation checker looks at no identifier: on valid lists that differ in them alone it gives every refutation the same answer.
-use Rattle.std.specs.Prelude.{◌≡◌, Bool, cond, ◌&&◌, ℕ, ◌/◌, ◌%◌, ℤ}
+use Rattle.std.specs.Prelude.{◌≡◌, Bool, cond, ◌&&◌, ℕ, ◌/◌, ◌%◌, ℤ, None, Ok}
 use Rattle.std.proofs.Math.Path.{refl, ap}
 use Rattle.std.proofs.Common.{◌∙◌, ltb-true}
 use Rattle.std.proofs.Math.Bool.{true, false}
 use mathlib.Core.List.{List, [], ◌∷◌}
 use Rattle.std.proofs.Math.Dec.{eqb, ltb}
 use Rattle.lines.specs.declared.Line.{Line}
-use Rattle.lines.specs.declared.Validity.TheVariants.{Valid}
 use Rattle.lines.specs.Line.{line_at, line_count, is_false_lem}
 use Rattle.lines.specs.Bare.{bare, OnlyIdentifiers, blind_same, false_blind}
 use Rattle.lines.specs.Refusal.{validity_of}
-use Rattle.steps.specs.declared.NamedStep.TheVariants.{Nothing}
 use Rattle.steps.specs.Step.{step_of, step_numbered_lem}
 use Rattle.steps.specs.Laws.{step_blind}
 use Rattle.check_refutation.specs.declared.Progress.{Progress}
@@ -28,7 +26,7 @@ module _ (L M : List ℤ) (o : OnlyIdentifiers L M) where
 
   same_named : (k : ℕ) → step_numbered_lem L k ≡ step_numbered_lem M k
   unfolding step_numbered_lem
-  same_named k = at_line (λ l. step_of l (k % 2)) (step_blind (k % 2)) Nothing (k / 2)
+  same_named k = at_line (λ l. step_of l (k % 2)) (step_blind (k % 2)) None (k / 2)
 
   same_false_step : (k : ℕ) → is_false_step_lem L k ≡ is_false_step_lem M k
   unfolding is_false_step_lem
@@ -47,6 +45,6 @@ module _ (L M : List ℤ) (o : OnlyIdentifiers L M) where
   same_run [] s = refl
   same_run (r ∷ R) s = same_run R (advance L s r) ∙ ap (λ (t : Progress). run M t R) (same_advance s r)
 
-  pub same_checked : (n : ℕ) → validity_of n L ≡ Valid → validity_of n M ≡ Valid → (R : List ℕ) → refutation_answer n L R ≡ refutation_answer n M R
+  pub same_checked : (n : ℕ) → validity_of n L ≡ Ok tt → validity_of n M ≡ Ok tt → (R : List ℕ) → refutation_answer n L R ≡ refutation_answer n M R
   unfolding refutation_answer refutation_validity
   same_checked n v w R = rw (v, w, same_run R start)

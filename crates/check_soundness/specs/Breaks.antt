@@ -3,7 +3,7 @@
 -- The checker keeps a state, and a fault speaks of the numbers alone. What ties them is `Kept`: as long as the state is good, the points that it holds
 -- are those of the first step and of the last one read. So a number that keeps the state good is not wrong, and one that does not is; the rest is that
 -- the checker makes its tests in the order of the faults' indices.
-use Rattle.std.specs.Prelude.{◌≡◌, refl, ◌⊎◌, ◌↔◌, Bool, true, false, not, cond, eqb, ltb, ℤ, length, get_or, take, drop}
+use Rattle.std.specs.Prelude.{◌≡◌, refl, ◌⊎◌, ◌↔◌, Bool, true, false, not, cond, eqb, ltb, ℤ, length, get_or, take, drop, None, Ok, Option, Some}
 use Rattle.std.proofs.Common.{sym, ◌∙◌, inl, inr, lt-ltb, ltb-true, eqb-true, take-suc, take_all}
 use Rattle.std.proofs.Math.Path.{ap, subst}
 use mathlib.Core.List.{List, ◌∷◌}
@@ -13,12 +13,9 @@ use native.Mathlib.Omega.{arith}
 use Rattle.std.proofs.lemmas.Bool.{eqb-false, not-true, not-false}
 use Rattle.std.proofs.Math.Seq.{length-take-le}
 use Rattle.integers.specs.Laws.{never, and_true, both_true}
-use Rattle.lines.specs.declared.Validity.TheVariants.{Valid}
 use Rattle.lines.specs.Limits.{max_refutation}
 use Rattle.lines.specs.Refusal.{validity_of}
 use Rattle.steps.specs.declared.Step.{Step}
-use Rattle.steps.specs.declared.NamedStep.{NamedStep}
-use Rattle.steps.specs.declared.NamedStep.TheVariants.{Found, Nothing}
 use Rattle.steps.specs.Point.{opposite}
 use Rattle.steps.specs.Step.{step_numbered_lem}
 use Rattle.steps.specs.Walk.{total}
@@ -88,10 +85,10 @@ module _ (L : List ℤ) (k p q : ℕ) (S : List ℕ) where
   -- the state's points: the start of the first step, and the end of the one at an index
   record Kept (m : ℕ) : Type 0 where
     first : Step
-    first_named : step_at L W head_size ≡ Found first
+    first_named : step_at L W head_size ≡ Some first
     start : (after (suc m)).u ≡ first.from
     last : Step
-    last_named : step_at L W (head_size + m) ≡ Found last
+    last_named : step_at L W (head_size + m) ≡ Some last
     here : (after (suc m)).here ≡ last.to
 
   -- ---- kinds 1 and 2
@@ -106,7 +103,7 @@ module _ (L : List ℤ) (k p q : ℕ) (S : List ℕ) where
     is_along : (m : ℕ) → m < length S → (st : Stepped L (after m) (get_or S m 0)) → after (suc m) ≡ along (after m) st.step
     is_along m h st = next m h ∙ st.is
 
-    names : (m : ℕ) (st : Stepped L (after m) (get_or S m 0)) → step_at L W (head_size + m) ≡ Found st.step
+    names : (m : ℕ) (st : Stepped L (after m) (get_or S m 0)) → step_at L W (head_size + m) ≡ Some st.step
     names m st = ap (step_numbered_lem L) (number m) ∙ st.named
 
     kept : (m : ℕ) → m < length S → (after (suc m)).good ≡ true → Kept m
@@ -165,19 +162,19 @@ module _ (L : List ℤ) (k p q : ℕ) (S : List ℕ) where
         go (no e) earlier = earlier (omega arith)
 
     -- one that does not is wrong: it names no step, or one that does not join, or that turns at the wrong point
-    bad_joint : (m : ℕ) → m < length S → (after m).good ≡ true → (t : Step) → step_at L W (head_size + m) ≡ Found t → joins (after m) t.from ≡ false → StepWrong L W (head_size + m)
+    bad_joint : (m : ℕ) → m < length S → (after m).good ≡ true → (t : Step) → step_at L W (head_size + m) ≡ Some t → joins (after m) t.from ≡ false → StepWrong L W (head_size + m)
     bad_joint zero h g t e x = absurd (no_true (sym x ∙ joins_first (after 0) t.from (reads 0 (omega arith))))
     bad_joint (suc m) h g t e x =
         let o = kept m (omega arith) g in
         not_joined (omega arith) o.last t (step_before m ∙ o.last_named) e (λ j. no_true (sym x ∙ joins_here (after (suc m)) t.from (o.here ∙ j)))
 
-    begun : (m : ℕ) → m < length S → (after m).good ≡ true → (t : Step) → step_at L W (head_size + m) ≡ Found t → (s : Step) × (step_at L W head_size ≡ Found s) × ((along (after m) t).u ≡ s.from)
+    begun : (m : ℕ) → m < length S → (after m).good ≡ true → (t : Step) → step_at L W (head_size + m) ≡ Some t → (s : Step) × (step_at L W head_size ≡ Some s) × ((along (after m) t).u ≡ s.from)
     begun zero h g t e = (t, e, along_first_u (after 0) t (reads 0 (omega arith)))
     begun (suc m) h g t e =
         let o = kept m (omega arith) g in
         (o.first, o.first_named, along_u (after (suc m)) t (omega (arith, reads (suc m) (omega arith))) ∙ o.start)
 
-    bad_turn : (m : ℕ) → m < length S → (after m).good ≡ true → (t : Step) → step_at L W (head_size + m) ≡ Found t → turns (after m) (along (after m) t).u t.to ≡ false → StepWrong L W (head_size + m)
+    bad_turn : (m : ℕ) → m < length S → (after m).good ≡ true → (t : Step) → step_at L W (head_size + m) ≡ Some t → turns (after m) (along (after m) t).u t.to ≡ false → StepWrong L W (head_size + m)
     unfolding headed
     bad_turn m h g t e x =
         let b = begun m h g t e in
@@ -187,11 +184,11 @@ module _ (L : List ℤ) (k p q : ℕ) (S : List ℕ) where
     wrong : (m : ℕ) → m < length S → (after m).good ≡ true → (after (suc m)).good ≡ false → StepWrong L W (head_size + m)
     wrong m h g w = go (step_numbered_lem L (get_or S m 0)) refl
       where
-        go : (s : NamedStep) → step_numbered_lem L (get_or S m 0) ≡ s → StepWrong L W (head_size + m)
-        go Nothing e = no_step (ap (step_numbered_lem L) (number m) ∙ e)
-        go (Found t) e = by (joins (after m) t.from) (turns (after m) (along (after m) t).u t.to) refl refl
+        go : (s : Option Step) → step_numbered_lem L (get_or S m 0) ≡ s → StepWrong L W (head_size + m)
+        go None e = no_step (ap (step_numbered_lem L) (number m) ∙ e)
+        go (Some t) e = by (joins (after m) t.from) (turns (after m) (along (after m) t).u t.to) refl refl
           where
-            named : step_at L W (head_size + m) ≡ Found t
+            named : step_at L W (head_size + m) ≡ Some t
             named = ap (step_numbered_lem L) (number m) ∙ e
 
             by : (a b : Bool) → joins (after m) t.from ≡ a → turns (after m) (along (after m) t).u t.to ≡ b → StepWrong L W (head_size + m)
@@ -381,7 +378,7 @@ module _ (L : List ℤ) where
       go (inr b) n = b
 
 -- the checker's no
-pub no_exactly_where : (n : ℕ) (L : List ℤ) (R : List ℕ) (i : ℕ) → (refutation_answer n L R ≡ No i) ↔ ((validity_of n L ≡ Valid) × (length R ≤ max_refutation) × BreaksAt L R i)
+pub no_exactly_where : (n : ℕ) (L : List ℤ) (R : List ℕ) (i : ℕ) → (refutation_answer n L R ≡ Ok (No i)) ↔ ((validity_of n L ≡ Ok tt) × (length R ≤ max_refutation) × BreaksAt L R i)
 no_exactly_where n L R i = (
   (λ e. let a = (answered_no n L R i).0 e in (a.0, a.1, subst (BreaksAt L R) a.3 (breaks_there L R a.2))),
   (λ h. let e = broken_no L R i h.2 in (answered_no n L R i).1 (h.0, h.1, e, breaks_once L R (place_in L R) i (breaks_there L R e) h.2)),

@@ -1,9 +1,7 @@
 -- Where a refutation breaks, by the section of docs/SPECIFICATION.md of that name: to be read beside it. Nothing here speaks of how the checker works.
-use Rattle.std.specs.Prelude.{◌≡◌, List, ℕ, ◌+◌, ◌-◌, ◌<◌, ◌≤◌, ℤ, pos, ◌+ℤ◌, length, get_or, take, drop}
+use Rattle.std.specs.Prelude.{◌≡◌, List, ℕ, ◌+◌, ◌-◌, ◌<◌, ◌≤◌, ℤ, pos, ◌+ℤ◌, length, get_or, take, drop, None, Option, Some}
 use Rattle.integers.specs.Integer.{◌⋖◌, half}
 use Rattle.steps.specs.declared.Step.{Step}
-use Rattle.steps.specs.declared.NamedStep.{NamedStep}
-use Rattle.steps.specs.declared.NamedStep.TheVariants.{Found, Nothing}
 use Rattle.steps.specs.Point.{opposite}
 use Rattle.steps.specs.Step.{step_numbered_lem}
 use Rattle.steps.specs.Walk.{total, Names}
@@ -26,19 +24,19 @@ abbrev pub last_index : List ℕ → ℕ
 last_index R = length R - 1
 
 -- the step that the number at an index names, if it names one
-abbrev pub step_at : List ℤ → List ℕ → ℕ → NamedStep
+abbrev pub step_at : List ℤ → List ℕ → ℕ → Option Step
 step_at L R i = step_numbered_lem L (get_or R i 0)
 
 -- the step number at an index is wrong
 pub data StepWrong (L : List ℤ) (R : List ℕ) (i : ℕ) : Type 0 where
   -- it names no step
-  no_step : step_at L R i ≡ Nothing → StepWrong L R i
+  no_step : step_at L R i ≡ None → StepWrong L R i
   -- its step does not start where the one before it ends; the first may start anywhere, and the second walk goes on where the first ended
-  not_joined : head_size < i → (s t : Step) → step_at L R (i - 1) ≡ Found s → step_at L R i ≡ Found t → (s.to ≡ t.from → ⊥) → StepWrong L R i
+  not_joined : head_size < i → (s t : Step) → step_at L R (i - 1) ≡ Some s → step_at L R i ≡ Some t → (s.to ≡ t.from → ⊥) → StepWrong L R i
   -- the last step of kind 2's first walk does not end at the opposite of the point where the first step starts
-  not_opposite : kind_of R ≡ 2 → i ≡ first_walk_end R → (s t : Step) → step_at L R head_size ≡ Found s → step_at L R i ≡ Found t → (t.to ≡ opposite s.from → ⊥) → StepWrong L R i
+  not_opposite : kind_of R ≡ 2 → i ≡ first_walk_end R → (s t : Step) → step_at L R head_size ≡ Some s → step_at L R i ≡ Some t → (t.to ≡ opposite s.from → ⊥) → StepWrong L R i
   -- the last step of all does not end where the first starts
-  not_closed : i ≡ last_index R → (s t : Step) → step_at L R head_size ≡ Found s → step_at L R i ≡ Found t → (t.to ≡ s.from → ⊥) → StepWrong L R i
+  not_closed : i ≡ last_index R → (s t : Step) → step_at L R head_size ≡ Some s → step_at L R i ≡ Some t → (t.to ≡ s.from → ⊥) → StepWrong L R i
 
 -- the sums of the two walks, S and T, are low enough: kind 1 has one walk, and S is below 0; kind 2, S halved plus T halved is, each halving rounded
 -- toward minus infinity

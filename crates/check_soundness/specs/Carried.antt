@@ -1,8 +1,7 @@
 -- A refutation against one list is one against another that names the same steps by the same numbers, as far as its own numbers go.
-use Rattle.std.specs.Prelude.{◌≡◌, List, [], ◌∷◌, ◌++◌, ℕ, ℤ, drop}
+use Rattle.std.specs.Prelude.{◌≡◌, List, [], ◌∷◌, ◌++◌, ℕ, ℤ, drop, Some}
 use Rattle.std.proofs.Math.Path.{subst}
 use Rattle.steps.specs.declared.Step.{Step}
-use Rattle.steps.specs.declared.NamedStep.TheVariants.{Found}
 use Rattle.steps.specs.Step.{step_numbered_lem}
 use Rattle.steps.specs.Walk.{Names}
 use Rattle.check_refutation.specs.Progress.{head_size}
@@ -30,7 +29,7 @@ each_both P [] ls h i = i
 each_both P (k ∷ ks) ls h i = (h.0, each_both P ks ls h.1 i)
 
 -- from L to K, of which the numbers with P name the same
-module _ (L K : List ℤ) (P : ℕ → Type 0) (found : (k : ℕ) (t : Step) → P k → step_numbered_lem L k ≡ Found t → step_numbered_lem K k ≡ Found t)
+module _ (L K : List ℤ) (P : ℕ → Type 0) (found : (k : ℕ) (t : Step) → P k → step_numbered_lem L k ≡ Some t → step_numbered_lem K k ≡ Some t)
     (false_step : (k : ℕ) → P k → FalseStep L k → FalseStep K k) where
   names_carried : (ks : List ℕ) (ts : List Step) → Each P ks → Names L ks ts → Names K ks ts
   names_carried [] [] p h = tt
@@ -63,7 +62,7 @@ module _ (L K : List ℤ) (P : ℕ → Type 0) (found : (k : ℕ) (t : Step) →
       kind_3 (record { number = c.number; is = c.is; false_step = false_step c.number steps.0 c.false_step })
 
 -- what holds of each number that names a step, and of each of a false line, holds of each step number of a refutation
-module _ (L : List ℤ) (P : ℕ → Type 0) (found : (k : ℕ) (t : Step) → step_numbered_lem L k ≡ Found t → P k) (false_step : (k : ℕ) → FalseStep L k → P k) where
+module _ (L : List ℤ) (P : ℕ → Type 0) (found : (k : ℕ) (t : Step) → step_numbered_lem L k ≡ Some t → P k) (false_step : (k : ℕ) → FalseStep L k → P k) where
   names_each : (ks : List ℕ) (ts : List Step) → Names L ks ts → Each P ks
   names_each [] ts h = tt
   names_each (k ∷ ks) [] h = absurd h

@@ -1,5 +1,5 @@
 -- The other way round: numbers that name the steps of a walk keep the progress good.
-use Rattle.std.specs.Prelude.{◌≡◌, Bool, not, ◌&&◌, ◌||◌, List, [], ◌∷◌, ℕ, zero, suc, ◌+◌, ◌-◌, ◌<◌, ◌≤◌, ℤ, length}
+use Rattle.std.specs.Prelude.{◌≡◌, Bool, not, ◌&&◌, ◌||◌, List, [], ◌∷◌, ℕ, zero, suc, ◌+◌, ◌-◌, ◌<◌, ◌≤◌, ℤ, length, Some}
 use Rattle.std.proofs.Math.Path.{refl, ap}
 use Rattle.std.proofs.Common.{sym, ◌∙◌, arith}
 use Rattle.std.proofs.Math.Bool.{true, false}
@@ -7,7 +7,6 @@ use borrow.Author.Tests.{eq-eqb, eqb-true, eqb-false}
 use Rattle.std.proofs.Math.Dec.{eqb}
 use Rattle.integers.specs.Laws.{never, both_true}
 use Rattle.steps.specs.declared.Step.{Step}
-use Rattle.steps.specs.declared.NamedStep.TheVariants.{Found}
 use Rattle.steps.specs.Point.{opposite}
 use Rattle.steps.specs.Step.{step_numbered_lem}
 use Rattle.steps.specs.Walk.{Path, Names}
@@ -53,7 +52,7 @@ module _ (s : Progress) (u to : ℕ) where
       go true false x y e = never (cc)
       go false b x y e = never (cc)
 
-module _ (L : List ℤ) (s : Progress) (r : ℕ) (t : Step) (h : head_size ≤ s.read) (k : s.kind ≡ 3 → ⊥) (named : step_numbered_lem L r ≡ Found t) where
+module _ (L : List ℤ) (s : Progress) (r : ℕ) (t : Step) (h : head_size ≤ s.read) (k : s.kind ≡ 3 → ⊥) (named : step_numbered_lem L r ≡ Some t) where
   is_along : advance L s r ≡ along s t
   is_along = advance_walk L s r h k ∙ ap (walk_on s) named
 

@@ -1,9 +1,8 @@
 -- The place that the checker's rule computes: the tests that it makes in turn, and the step number that a run marks as wrong.
-use Rattle.std.specs.Prelude.{◌≡◌, refl, Bool, true, false, not, cond, ◌&&◌, List, [], ◌∷◌, ℕ, suc, ◌+◌, ◌<◌, ◌≤◌, eqb, ℤ, length, take}
+use Rattle.steps.specs.declared.Step.{Step}
+use Rattle.std.specs.Prelude.{◌≡◌, refl, Bool, true, false, not, cond, ◌&&◌, List, [], ◌∷◌, ℕ, suc, ◌+◌, ◌<◌, ◌≤◌, eqb, ℤ, length, take, None, Option, Some}
 use Rattle.std.proofs.Common.{sym, ap, ◌∙◌, arith, lt-ltb, le-ltb}
 use Rattle.integers.specs.Laws.{never}
-use Rattle.steps.specs.declared.NamedStep.{NamedStep}
-use Rattle.steps.specs.declared.NamedStep.TheVariants.{Found, Nothing}
 use Rattle.steps.specs.Step.{step_numbered_lem}
 use Rattle.check_refutation.specs.declared.Progress.{Progress}
 use Rattle.check_refutation.specs.Progress.{head_size, start, counts_ok_lem, is_false_step_lem, wrong_after, along, walk_on, advance, run, kind_ok_lem, broken_at_lem}
@@ -33,9 +32,9 @@ unfolding advance along
 judged L s r h =
     rw (le-ltb s.read head_size h) (either (Judged s) (eqb s.kind 3) (judged_by_law s _ (is_false_step_lem L r) refl refl) (walk (step_numbered_lem L r)))
   where
-    walk : (m : NamedStep) → Judged s (walk_on s m)
-    walk (Found t) = judged_by_law s _ _ refl refl
-    walk Nothing = judged_by_law s _ false refl refl
+    walk : (m : Option Step) → Judged s (walk_on s m)
+    walk (Some t) = judged_by_law s _ _ refl refl
+    walk None = judged_by_law s _ false refl refl
 
 -- what was wrong stays so
 wrong_stays : (L : List ℤ) (s : Progress) (R : List ℕ) → head_size ≤ s.read → s.good ≡ false → ((run L s R).good ≡ false) × ((run L s R).wrong ≡ s.wrong)

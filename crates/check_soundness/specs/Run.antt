@@ -1,5 +1,5 @@
 -- How the checker's progress runs: what stays, and what a run that stays good says of the steps that it read.
-use Rattle.std.specs.Prelude.{◌≡◌, Bool, true, false, ◌&&◌, ◌||◌, List, [], ◌∷◌, ℕ, zero, suc, ◌+◌, ◌-◌, ◌<◌, ◌≤◌, T, ltb, ℤ, pos, ◌+ℤ◌, length, take, drop}
+use Rattle.std.specs.Prelude.{◌≡◌, Bool, true, false, ◌&&◌, ◌||◌, List, [], ◌∷◌, ℕ, zero, suc, ◌+◌, ◌-◌, ◌<◌, ◌≤◌, T, ltb, ℤ, pos, ◌+ℤ◌, length, take, drop, None, Option, Some}
 use Rattle.std.proofs.Math.Path.{refl, sym}
 use Rattle.std.proofs.Common.{ap, subst, ◌∙◌}
 use native.Mathlib.Omega.{arith}
@@ -9,8 +9,6 @@ use Rattle.std.proofs.Math.Seq.{take-nil, drop-nil}
 use Rattle.integers.proofs.Linear.{ints}
 use Rattle.integers.specs.Laws.{and_true}
 use Rattle.steps.specs.declared.Step.{Step}
-use Rattle.steps.specs.declared.NamedStep.{NamedStep}
-use Rattle.steps.specs.declared.NamedStep.TheVariants.{Found, Nothing}
 use Rattle.steps.specs.Point.{opposite}
 use Rattle.steps.specs.Step.{step_numbered_lem}
 use Rattle.steps.specs.Walk.{Path, total, Names}
@@ -32,9 +30,9 @@ advance_good L s r = either (From s) (ltb s.read head_size) head (either (From s
     head : From s (head_on s r)
     head = either (From s) (eqb s.read 0) (λ e. e) (either (From s) (eqb s.read 1) (λ e. e) (λ e. (and_true s.good _ e).0))
 
-    walk : (t : NamedStep) → From s (walk_on s t)
-    walk (Found t) = λ e. (and_true s.good _ e).0
-    walk Nothing = λ e. (and_true s.good _ e).0
+    walk : (t : Option Step) → From s (walk_on s t)
+    walk (Some t) = λ e. (and_true s.good _ e).0
+    walk None = λ e. (and_true s.good _ e).0
 
 pub run_good : (L : List ℤ) (s : Progress) (R : List ℕ) → (run L s R).good ≡ true → s.good ≡ true
 unfolding run
@@ -52,9 +50,9 @@ unfolding advance along
 body_same L s r h =
     rw (le-ltb s.read head_size h) (either (Same s) (eqb s.kind 3) (record { kind = refl; p = refl; q = refl }) (walk (step_numbered_lem L r)))
   where
-    walk : (t : NamedStep) → Same s (walk_on s t)
-    walk (Found t) = record { kind = refl; p = refl; q = refl }
-    walk Nothing = record { kind = refl; p = refl; q = refl }
+    walk : (t : Option Step) → Same s (walk_on s t)
+    walk (Some t) = record { kind = refl; p = refl; q = refl }
+    walk None = record { kind = refl; p = refl; q = refl }
 
 pub run_same : (L : List ℤ) (s : Progress) (R : List ℕ) → head_size ≤ s.read → Same s (run L s R)
 unfolding run
@@ -71,7 +69,7 @@ advance_walk L s r h k = rw (le-ltb s.read head_size h, ne_eqb s.kind 3 k)
 
 pub record Stepped (L : List ℤ) (s : Progress) (r : ℕ) : Type 0 where
   pub step : Step
-  pub named : step_numbered_lem L r ≡ Found step
+  pub named : step_numbered_lem L r ≡ Some step
   pub is : advance L s r ≡ along s step
   pub joined : joins s step.from ≡ true
   pub turned : turns s (along s step).u step.to ≡ true
@@ -81,13 +79,13 @@ pub good_step : (L : List ℤ) (s : Progress) (r : ℕ) → head_size ≤ s.read
 unfolding along
 good_step L s r h k g = go (step_numbered_lem L r) refl
   where
-    go : (t : NamedStep) → step_numbered_lem L r ≡ t → Stepped L s r
-    go (Found t) e =
+    go : (t : Option Step) → step_numbered_lem L r ≡ t → Stepped L s r
+    go (Some t) e =
         let i = advance_walk L s r h k ∙ ap (walk_on s) e in
         let a = and_true s.good (joins s t.from && turns s (along s t).u t.to) (ap (λ (x : Progress). x.good) (sym i) ∙ g) in
         let b = and_true (joins s t.from) (turns s (along s t).u t.to) a.1 in
         record { step = t; named = e; is = i; joined = b.0; turned = b.1 }
-    go Nothing e = absurd (no_true (and_true s.good false (ap (λ (x : Progress). x.good) (sym (advance_walk L s r h k ∙ ap (walk_on s) e)) ∙ g)).1)
+    go None e = absurd (no_true (and_true s.good false (ap (λ (x : Progress). x.good) (sym (advance_walk L s r h k ∙ ap (walk_on s) e)) ∙ g)).1)
 
 -- ---- the walk that a good run follows
 -- the point after the first n steps

@@ -1,13 +1,9 @@
 -- What deciding answers and leaves in the lent buffers, for every input: the specification's promise.
-use Rattle.std.specs.Prelude.{◌≡◌, Bool, not, List, ◌++◌, ℕ, ◌+◌, ◌*◌, ◌-◌, ◌^◌, ◌<◌, ◌≤◌, ℤ, pos, length, drop, replicate}
+use Rattle.std.specs.Prelude.{◌≡◌, Bool, not, List, ◌++◌, ℕ, ◌+◌, ◌*◌, ◌-◌, ◌^◌, ◌<◌, ◌≤◌, ℤ, pos, length, drop, replicate, Err, Ok, Result}
 use Rattle.std.proofs.Math.Path.{refl, ap}
 use Rattle.std.proofs.Common.{sym, subst, ◌∙◌, arith, drop-drop}
 use Rattle.std.proofs.Math.Bool.{true, false, cond}
 use Rattle.lines.specs.declared.Refusal.{Refusal}
-use Rattle.lines.specs.declared.Validity.{Validity}
-use Rattle.lines.specs.declared.Validity.TheVariants.{Valid}
-use Rattle.lines.specs.declared.Validity.TheVariants as validity
-use Rattle.integers.specs.Laws.{never}
 use Rattle.integers.specs.Sequence.{tabulate}
 use Rattle.lines.specs.Line.{lines_of}
 use Rattle.lines.specs.Limits.{max_variables}
@@ -24,38 +20,39 @@ use Rattle.theory_answers.specs.Refuted.{Due}
 use Rattle.check_soundness.specs.Head.{steps_in}
 use Rattle.check_soundness.specs.Refutes.{stated_length_law}
 use Rattle.decide_identifiers.specs.Identifiers.{identifiers_of, StepsNamed, steps_named, identifiers_front, counts_front}
-use Rattle.decide_buffers.specs.Room.{Lent, Lengths, lengths_of, model_room_lem, bounds_room_lem, groups_room_lem, identifiers_room_lem, work_room_lem, lent_rooms, HaveRoom, rooms_validity, decide_validity_lem, valid_room, room_valid, model_room, bounds_room, groups_room, refutation_room, identifiers_room, work_room, work_small}
+use Rattle.decide_buffers.specs.declared.Lengths.{Lengths}
+use Rattle.decide_buffers.specs.Room.{Lent, lengths_of, model_room_lem, bounds_room_lem, groups_room_lem, identifiers_room_lem, work_room_lem, lent_rooms, HaveRoom, rooms_validity, decide_validity_lem, valid_room, room_valid, model_room, bounds_room, groups_room, refutation_room, identifiers_room, work_room, work_small}
 use Rattle.hub_weights.specs.Weights.{weights_end}
 use Rattle.hub_answers.specs.Answered.{HubAsked, HubAnswered}
 use Rattle.decide.specs.declared.Answer.{Answer}
-use Rattle.decide.specs.declared.Answer.TheVariants.{Yes, No, Refused}
+use Rattle.decide.specs.declared.Answer.TheVariants.{Yes, No}
 use Rattle.decide.specs.Searched.{used_room, SearchReady, Searched, table_in}
 
 -- ---- the answer
 -- a refusal goes first
-abbrev pub unless_refused : Validity → Answer → Answer
-unless_refused Valid a = a
-unless_refused (validity.Refused r) a = Refused r
+abbrev pub unless_refused : Result Unit Refusal → Result Answer Refusal → Result Answer Refusal
+unless_refused (Ok _) a = a
+unless_refused (Err r) a = Err r
 
-abbrev pub NotRefused : Answer → Type 0
-NotRefused a = (r : Refusal) → a ≡ Refused r → ⊥
+abbrev pub NotRefused : Result Answer Refusal → Type 0
+NotRefused a = (r : Refusal) → a ≡ Err r → ⊥
 
 -- by what is refused, whichever engine refuses it, and by the verdict
-abbrev pub judged : Validity → ℕ → List ℤ → Answer
-judged v n L = unless_refused v (cond (verdict_of n (lines_of L)) Yes No)
+abbrev pub judged : Result Unit Refusal → ℕ → List ℤ → Result Answer Refusal
+judged v n L = unless_refused v (cond (verdict_of n (lines_of L)) (Ok Yes) (Ok No))
 
-module _ (n : ℕ) (L : List ℤ) (v : Validity) where
-  pub judged_refused : (r : Refusal) → v ≡ validity.Refused r → Refused r ≡ judged v n L
-  judged_refused r e = sym (ap (λ (u : Validity). judged u n L) e)
+module _ (n : ℕ) (L : List ℤ) (v : Result Unit Refusal) where
+  pub judged_refused : (r : Refusal) → v ≡ Err r → Err r ≡ judged v n L
+  judged_refused r e = sym (ap (λ (u : Result Unit Refusal). judged u n L) e)
 
-  pub judged_yes : v ≡ Valid → verdict_of n (lines_of L) ≡ true → Yes ≡ judged v n L
+  pub judged_yes : v ≡ Ok tt → verdict_of n (lines_of L) ≡ true → Ok Yes ≡ judged v n L
   judged_yes e t = sym (rw (e, t))
 
-  pub judged_no : v ≡ Valid → verdict_of n (lines_of L) ≡ false → No ≡ judged v n L
+  pub judged_no : v ≡ Ok tt → verdict_of n (lines_of L) ≡ false → Ok No ≡ judged v n L
   judged_no e t = sym (rw (e, t))
 
 -- buffers are given by their lengths
-unfoldable pub decide_answer : ℕ → List ℤ → Lengths → Answer
+unfoldable pub decide_answer : ℕ → List ℤ → Lengths → Result Answer Refusal
 decide_answer n L s = judged (decide_validity_lem n L s) n L
 
 -- ---- what the lent buffers hold, whichever engine decides: by the room of its work area
@@ -83,10 +80,10 @@ pub record NoLeft (room n : ℕ) (L : List ℤ) (b a : Lent) : Type 0 where
   pub work : a.work ≡ cleared_to room b.work
 
 -- b is what the buffers held before, a what they hold after
-abbrev pub LeavesIn : ℕ → ℕ → List ℤ → Answer → Lent → Lent → Type 0
-LeavesIn room n L Yes b a = YesLeft room n L b a
-LeavesIn room n L No b a = NoLeft room n L b a
-LeavesIn room n L (Refused r) b a = a ≡ b
+abbrev pub LeavesIn : ℕ → ℕ → List ℤ → Result Answer Refusal → Lent → Lent → Type 0
+LeavesIn room n L (Ok Yes) b a = YesLeft room n L b a
+LeavesIn room n L (Ok No) b a = NoLeft room n L b a
+LeavesIn room n L (Err r) b a = a ≡ b
 
 -- the first engine's
 abbrev pub cleared : ℕ → List ℤ → List ℤ
@@ -98,14 +95,14 @@ OnYes n L b a = YesLeft (work_room_lem n) n L b a
 abbrev pub OnNo : ℕ → List ℤ → Lent → Lent → Type 0
 OnNo n L b a = NoLeft (work_room_lem n) n L b a
 
-abbrev pub Leaves : ℕ → List ℤ → Answer → Lent → Lent → Type 0
+abbrev pub Leaves : ℕ → List ℤ → Result Answer Refusal → Lent → Lent → Type 0
 Leaves n L x b a = LeavesIn (work_room_lem n) n L x b a
 
 -- the answer, by what is lent
-abbrev pub answer_for : ℕ → List ℤ → Lent → Answer
+abbrev pub answer_for : ℕ → List ℤ → Lent → Result Answer Refusal
 answer_for n L b = decide_answer n L (lengths_of b)
 
-pub record Decided (n : ℕ) (L : List ℤ) (answer : Answer) (b a : Lent) : Type 0 where
+pub record Decided (n : ℕ) (L : List ℤ) (answer : Result Answer Refusal) (b a : Lent) : Type 0 where
   pub is : answer ≡ answer_for n L b
   pub leaves : Leaves n L answer b a
 
@@ -155,31 +152,31 @@ cleared_is n w w₁ w₂ k z = cleared_behind (used_room n) (work_room_lem n) (u
 
 -- ---- nothing is refused
 pub record DecideOk (n : ℕ) (L : List ℤ) (b : Lent) : Type 0 where
-  pub list : validity_of n L ≡ Valid
+  pub list : validity_of n L ≡ Ok tt
   pub rooms : HaveRoom lent_rooms n (lengths_of b)
 
-abbrev pub validity_for : ℕ → List ℤ → Lent → Validity
+abbrev pub validity_for : ℕ → List ℤ → Lent → Result Unit Refusal
 validity_for n L b = decide_validity_lem n L (lengths_of b)
 
-pub decide_ok : (n : ℕ) (L : List ℤ) (b : Lent) → validity_for n L b ≡ Valid → DecideOk n L b
+pub decide_ok : (n : ℕ) (L : List ℤ) (b : Lent) → validity_for n L b ≡ Ok tt → DecideOk n L b
 unfolding decide_validity_lem
 decide_ok n L b e = let p = or_valid (validity_of n L) (rooms_validity n (lengths_of b)) e in record { list = p.0; rooms = valid_room n (lengths_of b) p.1 }
 
-pub ok_decide : (n : ℕ) (L : List ℤ) (b : Lent) → DecideOk n L b → validity_for n L b ≡ Valid
+pub ok_decide : (n : ℕ) (L : List ℤ) (b : Lent) → DecideOk n L b → validity_for n L b ≡ Ok tt
 unfolding decide_validity_lem
 ok_decide n L b o = rw o.list (room_valid n (lengths_of b) o.rooms)
 
 module _ (n : ℕ) (L : List ℤ) (b : Lent) where
-  pub refused : (r : Refusal) → validity_for n L b ≡ validity.Refused r → Decided n L (Refused r) b b
+  pub refused : (r : Refusal) → validity_for n L b ≡ Err r → Decided n L (Err r) b b
   unfolding decide_answer
   refused r e = record { is = judged_refused n L (validity_for n L b) r e; leaves = refl }
 
-  module _ (e : validity_for n L b ≡ Valid) where
-    answer_yes : verdict_of n (lines_of L) ≡ true → Yes ≡ answer_for n L b
+  module _ (e : validity_for n L b ≡ Ok tt) where
+    answer_yes : verdict_of n (lines_of L) ≡ true → Ok Yes ≡ answer_for n L b
     unfolding decide_answer
     answer_yes v = judged_yes n L (validity_for n L b) e v
 
-    answer_no : verdict_of n (lines_of L) ≡ false → No ≡ answer_for n L b
+    answer_no : verdict_of n (lines_of L) ≡ false → Ok No ≡ answer_for n L b
     unfolding decide_answer
     answer_no v = judged_no n L (validity_for n L b) e v
 
@@ -207,7 +204,7 @@ module _ (n : ℕ) (L : List ℤ) (b : Lent) where
       identifiers_ready k z = shown_named n L ok.lines b.refutation R₁ (k.on_no z) b.identifiers (identifiers_room work_room_lem (decide_ok n L b e).rooms)
 
       pub decided_no : {t : Bool} → Searched n L b.refutation b.work R₁ w₁ t → t ≡ true → (I : List ℕ) → I ≡ identifiers_of L R₁ ++ drop (steps_in R₁) b.identifiers → (w₂ : List ℤ) → w₂ ≡ cleared n w₁
-          → Decided n L No b (record { model = b.model; bounds = b.bounds; groups = b.groups; refutation = R₁; identifiers = I; work = w₂ })
+          → Decided n L (Ok No) b (record { model = b.model; bounds = b.bounds; groups = b.groups; refutation = R₁; identifiers = I; work = w₂ })
       decided_no k y I i w₂ z = record { is = answer_no (k.verdict ∙ ap not y); leaves = no_left n L ok.lines b.refutation R₁ (k.on_no y) (work_room_lem n) b refl I i w₂ (cleared_is n b.work w₁ w₂ k.behind z) }
 
       module _ (k : Searched n L b.refutation b.work R₁ w₁ false) where
@@ -225,7 +222,7 @@ module _ (n : ℕ) (L : List ℤ) (b : Lent) where
             × (bs ≡ tabulate (bounds_room_lem n) (bound_at (table_of (2 * n) (table_in n w₁))) ++ drop (bounds_room_lem n) b.bounds)
             × (g ≡ tabulate (2 * n) (group_at_lem (table_of (2 * n) (table_in n w₁))) ++ drop (groups_room_lem n) b.groups)
             → (w₂ : List ℤ) → w₂ ≡ replicate (work_room_lem n) (pos 0) ++ drop (work_room_lem n) w₁
-            → Decided n L Yes b (record { model = m; bounds = bs; groups = g; refutation = R₁; identifiers = b.identifiers; work = w₂ })
+            → Decided n L (Ok Yes) b (record { model = m; bounds = bs; groups = g; refutation = R₁; identifiers = b.identifiers; work = w₂ })
         decided_yes m bs g h w₂ z =
             record {
               is = answer_yes k.verdict;
@@ -252,7 +249,7 @@ module _ (n : ℕ) (L : List ℤ) (b : Lent) where
       hub_cleared w₂ z = cleared_behind (weights_end n) (work_room_lem n) (omega arith) b.work w₁ w₂ k.scratch.behind z
 
       pub decided_hub : r ≡ true → (w₂ : List ℤ) → w₂ ≡ cleared n w₁
-          → Decided n L Yes b (record { model = m; bounds = bs; groups = g; refutation = b.refutation; identifiers = b.identifiers; work = w₂ })
+          → Decided n L (Ok Yes) b (record { model = m; bounds = bs; groups = g; refutation = b.refutation; identifiers = b.identifiers; work = w₂ })
       decided_hub t w₂ z =
           let y = k.on_yes t in
           record {
@@ -273,22 +270,14 @@ module _ (n : ℕ) (L : List ℤ) (b : Lent) where
               work = k.scratch.same_length i;
             }
 
-        pub valid_after : validity_for n L b₁ ≡ Valid
+        pub valid_after : validity_for n L b₁ ≡ Ok tt
         valid_after = ap (decide_validity_lem n L) same_lengths ∙ e
 
-        not_refused : (r : Refusal) → Refused r ≡ answer_for n L b₁ → ⊥
-        unfolding decide_answer
-        not_refused r q = go (verdict_of n (lines_of L)) (q ∙ ap (λ (v : Validity). judged v n L) valid_after)
+        pub decided_after : (x : Answer) (a : Lent) → Decided n L (Ok x) b₁ a → Decided n L (Ok x) b a
+        decided_after x a d = record { is = d.is ∙ ap (decide_answer n L) same_lengths; leaves = go x d.leaves }
           where
-            go : (t : Bool) → Refused r ≡ cond t Yes No → ⊥
-            go true q = never (cc)
-            go false q = never (cc)
-
-        pub decided_after : (x : Answer) (a : Lent) → Decided n L x b₁ a → Decided n L x b a
-        decided_after x a d = record { is = d.is ∙ ap (decide_answer n L) same_lengths; leaves = go x d.is d.leaves }
-          where
-            go : (x : Answer) → x ≡ answer_for n L b₁ → Leaves n L x b₁ a → Leaves n L x b a
-            go Yes q y =
+            go : (x : Answer) → Leaves n L (Ok x) b₁ a → Leaves n L (Ok x) b a
+            go Yes y =
                 record {
                   model = y.model ∙ ap (λ (z : List ℤ). model_of n (lines_of L) ++ drop (model_room_lem n) z) (k.on_no f).0;
                   bounds = y.bounds ∙ ap (λ (z : List ℤ). bounds_of n (lines_of L) ++ drop (bounds_room_lem n) z) (k.on_no f).1;
@@ -297,7 +286,7 @@ module _ (n : ℕ) (L : List ℤ) (b : Lent) where
                   identifiers = y.identifiers;
                   work = hub_cleared a.work y.work;
                 }
-            go No q y =
+            go No y =
                 record {
                   numbers = y.numbers;
                   due = y.due;
@@ -308,7 +297,6 @@ module _ (n : ℕ) (L : List ℤ) (b : Lent) where
                   groups = y.groups ∙ (k.on_no f).2;
                   work = hub_cleared a.work y.work;
                 }
-            go (Refused r) q y = absurd (not_refused r q)
 
     pub hub_asked : HubAsked n L b.model b.bounds b.groups b.work
     hub_asked =

@@ -1,14 +1,11 @@
 -- What an answer says of the verdict, and the parts of the lent buffers that deciding writes, with what stands in them.
-use Rattle.std.specs.Prelude.{◌≡◌, refl, ◌↔◌, Bool, true, false, cond, List, ℕ, ℤ, length, take, drop}
+use Rattle.std.specs.Prelude.{◌≡◌, refl, ◌↔◌, Bool, true, false, cond, List, ℕ, ℤ, length, take, drop, Err, Ok, Result}
 use Rattle.std.proofs.Common.{sym, ◌∙◌}
 use Rattle.std.proofs.Math.Path.{ap}
 use Rattle.std.proofs.Math.Seq.{take_at}
 use Rattle.integers.specs.Laws.{never}
 use Rattle.integers.specs.Sequence.{length_tabulate}
 use Rattle.lines.specs.declared.Refusal.{Refusal}
-use Rattle.lines.specs.declared.Validity.{Validity}
-use Rattle.lines.specs.declared.Validity.TheVariants.{Valid}
-use Rattle.lines.specs.declared.Validity.TheVariants as validity
 use Rattle.lines.specs.Line.{lines_of}
 use Rattle.check_soundness.specs.Head.{steps_in, stated}
 use Rattle.check_soundness.specs.Refutes.{stated_length_law}
@@ -16,7 +13,7 @@ use Rattle.theory_bounds.specs.Verdict.{verdict_of}
 use Rattle.theory_bounds.specs.Answers.{model_of, bounds_of, groups_of}
 use Rattle.decide_identifiers.specs.Identifiers.{identifiers_of, length_identifiers, counts_front}
 use Rattle.decide_buffers.specs.Room.{Lent, model_room_lem, bounds_room_lem, groups_room_lem}
-use Rattle.decide.specs.declared.Answer.TheVariants.{Yes, No, Refused}
+use Rattle.decide.specs.declared.Answer.TheVariants.{Yes, No}
 use Rattle.decide.specs.Decided.{NotRefused, unless_refused, judged, judged_refused, decide_answer, answer_for, validity_for, YesLeft, NoLeft}
 
 -- The parts that are written: of a refutation, the 3 + p + q numbers that its counts tell.
@@ -37,57 +34,57 @@ abbrev pub identifiers_in : Lent → List ℕ
 identifiers_in a = take (steps_in a.refutation) a.identifiers
 
 -- ---- the verdict, by the answer
-pub yes_answers : NotRefused Yes
+pub yes_answers : NotRefused (Ok Yes)
 yes_answers r e = never (cc)
 
-pub no_answers : NotRefused No
+pub no_answers : NotRefused (Ok No)
 no_answers r e = never (cc)
 
 -- whichever engine refuses
-module _ (n : ℕ) (L : List ℤ) (v : Validity) where
-  pub judged_valid : NotRefused (judged v n L) → v ≡ Valid
+module _ (n : ℕ) (L : List ℤ) (v : Result Unit Refusal) where
+  pub judged_valid : NotRefused (judged v n L) → v ≡ Ok tt
   judged_valid = go v
     where
-      go : (v : Validity) → NotRefused (judged v n L) → v ≡ Valid
-      go Valid h = refl
-      go (validity.Refused r) h = absurd (h r refl)
+      go : (v : Result Unit Refusal) → NotRefused (judged v n L) → v ≡ Ok tt
+      go (Ok _) h = refl
+      go (Err r) h = absurd (h r refl)
 
-  pub judged_true : judged v n L ≡ Yes → verdict_of n (lines_of L) ≡ true
+  pub judged_true : judged v n L ≡ Ok Yes → verdict_of n (lines_of L) ≡ true
   judged_true = go v (verdict_of n (lines_of L))
     where
-      go : (v : Validity) (t : Bool) → unless_refused v (cond t Yes No) ≡ Yes → t ≡ true
-      go Valid true e = refl
-      go Valid false e = never (cc)
-      go (validity.Refused r) t e = never (cc)
+      go : (v : Result Unit Refusal) (t : Bool) → unless_refused v (cond t (Ok Yes) (Ok No)) ≡ Ok Yes → t ≡ true
+      go (Ok _) true e = refl
+      go (Ok _) false e = never (cc)
+      go (Err r) t e = never (cc)
 
-  pub judged_false : judged v n L ≡ No → verdict_of n (lines_of L) ≡ false
+  pub judged_false : judged v n L ≡ Ok No → verdict_of n (lines_of L) ≡ false
   judged_false = go v (verdict_of n (lines_of L))
     where
-      go : (v : Validity) (t : Bool) → unless_refused v (cond t Yes No) ≡ No → t ≡ false
-      go Valid true e = never (cc)
-      go Valid false e = refl
-      go (validity.Refused r) t e = never (cc)
+      go : (v : Result Unit Refusal) (t : Bool) → unless_refused v (cond t (Ok Yes) (Ok No)) ≡ Ok No → t ≡ false
+      go (Ok _) true e = never (cc)
+      go (Ok _) false e = refl
+      go (Err r) t e = never (cc)
 
   -- a refusal is given exactly if it is found
-  pub judged_refuses : (r : Refusal) → (judged v n L ≡ Refused r) ↔ (v ≡ validity.Refused r)
+  pub judged_refuses : (r : Refusal) → (judged v n L ≡ Err r) ↔ (v ≡ Err r)
   judged_refuses r = (fore v (verdict_of n (lines_of L)), (λ e. sym (judged_refused n L v r e)))
     where
-      fore : (v : Validity) (t : Bool) → unless_refused v (cond t Yes No) ≡ Refused r → v ≡ validity.Refused r
-      fore Valid true e = never (cc)
-      fore Valid false e = never (cc)
-      fore (validity.Refused q) t e = cc
+      fore : (v : Result Unit Refusal) (t : Bool) → unless_refused v (cond t (Ok Yes) (Ok No)) ≡ Err r → v ≡ Err r
+      fore (Ok _) true e = never (cc)
+      fore (Ok _) false e = never (cc)
+      fore (Err q) t e = cc
 
 module _ (n : ℕ) (L : List ℤ) (b : Lent) where
   -- what is answered is valid
-  pub answered_valid : NotRefused (answer_for n L b) → validity_for n L b ≡ Valid
+  pub answered_valid : NotRefused (answer_for n L b) → validity_for n L b ≡ Ok tt
   unfolding decide_answer
   answered_valid = judged_valid n L (validity_for n L b)
 
-  pub yes_verdict : answer_for n L b ≡ Yes → verdict_of n (lines_of L) ≡ true
+  pub yes_verdict : answer_for n L b ≡ Ok Yes → verdict_of n (lines_of L) ≡ true
   unfolding decide_answer
   yes_verdict = judged_true n L (validity_for n L b)
 
-  pub no_verdict : answer_for n L b ≡ No → verdict_of n (lines_of L) ≡ false
+  pub no_verdict : answer_for n L b ≡ Ok No → verdict_of n (lines_of L) ≡ false
   unfolding decide_answer
   no_verdict = judged_false n L (validity_for n L b)
 

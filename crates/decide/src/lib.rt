@@ -2,7 +2,7 @@
 
 #![tactic(auto)]
 
-ghost use Rattle.std.specs.Prelude.{◌≡◌, true, false, ◌≤◌, length};
+ghost use Rattle.std.specs.Prelude.{◌≡◌, true, false, ◌≤◌, length, Ok};
 ghost use Rattle.decide_written_walks.specs.Refutation.{HalvesReady};
 ghost use Rattle.engine_packed_steps.specs.Layout.{places_at};
 ghost use Rattle.engine_halves_walks.specs.Halves.{HalvesAtOnce};
@@ -11,10 +11,9 @@ ghost use Rattle.theory_bounds.specs.Verdict.{has_false};
 ghost use Rattle.engine_table.specs.Found.{TableAsked};
 ghost use Rattle.decide.specs.Searched.{SearchReady, Searched};
 ghost use Rattle.decide.specs.Modelled.{ModelAsked, Modelled};
-ghost use Rattle.lines.specs.declared.Validity.TheVariants.{Valid};
 ghost use Rattle.decide.specs.Decided.{validity_for, Decided};
 
-use decide_buffers::{clear, decide_validity, work_room};
+use decide_buffers::{Lengths, clear, decide_validity, work_room};
 use decide_false_line::first_false;
 use decide_halves::first_bad;
 use decide_identifiers::write_identifiers;
@@ -26,15 +25,14 @@ use engine_halves_walks::halves_at_once;
 use engine_merged_steps::lay_steps;
 use engine_table::table_by_elimination;
 use hub_answers::answered_by_hub;
+use lines::Refusal;
 use lines::limits::LINE_SIZE;
-use lines::{Refusal, Validity};
 
-// Yes, no, or a refusal.
+// Whether there is a solution.
 #[derive(Clone, Copy)]
 pub enum Answer {
     Yes,
     No,
-    Refused(Refusal),
 }
 
 // The refutation by two walks between the point p and its opposite: at once, or else from rows.
@@ -136,8 +134,8 @@ fn decide_by_table(
     work: &mut [i64],
 ) -> Answer
     requires { validity_for n list.now
-        (record { model = model.old; bounds = bounds.old; groups = groups.old; refutation = refutation.old; identifiers = identifiers.old; work = work.old }) ≡ Valid }
-    ensures { Decided n list.now result
+        (record { model = model.old; bounds = bounds.old; groups = groups.old; refutation = refutation.old; identifiers = identifiers.old; work = work.old }) ≡ Ok tt }
+    ensures { Decided n list.now (Ok result)
         (record { model = model.old; bounds = bounds.old; groups = groups.old; refutation = refutation.old; identifiers = identifiers.old; work = work.old })
         (record { model = model.new; bounds = bounds.new; groups = groups.new; refutation = refutation.new; identifiers = identifiers.new; work = work.new }) }
 {
@@ -164,29 +162,28 @@ pub fn decide(
     refutation: &mut [u32],
     identifiers: &mut [u32],
     work: &mut [i64],
-) -> Answer
+) -> Result<Answer, Refusal>
     ensures { Decided n list.now result
         (record { model = model.old; bounds = bounds.old; groups = groups.old; refutation = refutation.old; identifiers = identifiers.old; work = work.old })
         (record { model = model.new; bounds = bounds.new; groups = groups.new; refutation = refutation.new; identifiers = identifiers.new; work = work.new }) }
 {
-    let found = decide_validity(
+    decide_validity(
         n,
         list,
-        model.len(),
-        bounds.len(),
-        groups.len(),
-        refutation.len(),
-        identifiers.len(),
-        work.len(),
-    );
-    if let Validity::Refused(r) = found {
-        return Answer::Refused(r);
-    }
+        Lengths {
+            model: model.len(),
+            bounds: bounds.len(),
+            groups: groups.len(),
+            refutation: refutation.len(),
+            identifiers: identifiers.len(),
+            work: work.len(),
+        },
+    )?;
     if answered_by_hub(list, n, model, bounds, groups, work) {
         clear(work, work_room(n));
-        return Answer::Yes;
+        return Ok(Answer::Yes);
     }
-    decide_by_table(
+    Ok(decide_by_table(
         n,
         list,
         model,
@@ -195,5 +192,5 @@ pub fn decide(
         refutation,
         identifiers,
         work,
-    )
+    ))
 }

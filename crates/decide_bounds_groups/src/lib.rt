@@ -17,7 +17,7 @@ use decide_stored_table::{entry_at, half_at, mirrored_at, tightened};
 use steps::opposite_of;
 
 // Written for a least value that is absent.
-pub const ABSENT_LEAST: i64 = -9223372036854775808;
+pub const ABSENT_LEAST: i64 = i64::MIN;
 
 // The greatest value of x. An absent one is written as the number that stands for no walk.
 fn greatest_at(table: &[i64], n: usize, x: usize) -> i64
@@ -56,10 +56,8 @@ pub fn write_bounds(table: &[i64], n: usize, bounds: &mut [i64])
     ensures { bounds.new ≡ tabulate (2 * n) (bound_at (table_of (2 * n) table.now)) ++ drop (2 * n) bounds.old }
 {
     let count = 2 * n;
-    let mut i = 0;
-    while i < count {
+    for i in 0..count {
         bounds[i] = bound_at(table, n, i);
-        i += 1;
     }
 }
 
@@ -104,19 +102,18 @@ fn same_points(table: &[i64], n: usize, bounds: &[i64], p: usize, q: usize) -> b
 }
 
 // The lowest point that has the value of x in every solution: the plus point of x at the latest.
+#[tactic(auto, using(integers::proofs::Searching::searching))]
 fn group_point(table: &[i64], n: usize, bounds: &[i64], x: usize) -> usize
     requires { GroupsReady n table.now bounds.now × (x < n) }
     ensures { result ≡ group_point_lem (by_rows (2 * n) table.now) x }
 {
     let own = 2 * x;
-    let mut p = 0;
-    while p < own {
+    for p in 0..own {
         if same_points(table, n, bounds, own, p) {
             return p;
         }
-        p += 1;
     }
-    p
+    own
 }
 
 // The groups of all n variables, whose bounds are written: of each the variable of its lowest point, then the sign.
@@ -124,11 +121,9 @@ pub fn write_groups(table: &[i64], n: usize, bounds: &[i64], groups: &mut [u32])
     requires { GroupsReady n table.now bounds.now × (2 * n ≤ length groups.old) }
     ensures { groups.new ≡ tabulate (2 * n) (group_at_lem (by_rows (2 * n) table.now)) ++ drop (2 * n) groups.old }
 {
-    let mut x = 0;
-    while x < n {
+    for x in 0..n {
         let p = group_point(table, n, bounds, x);
         groups[2 * x] = (p / 2) as u32;
         groups[2 * x + 1] = (p % 2) as u32;
-        x += 1;
     }
 }

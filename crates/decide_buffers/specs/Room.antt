@@ -1,16 +1,15 @@
 -- The lent buffers of deciding, in this one place: what is lent, the room that each needs, refusals 7 and 8, and zeros.
-use Rattle.std.specs.Prelude.{◌≡◌, refl, List, [], ◌∷◌, ◌++◌, ℕ, zero, suc, ◌+◌, ◌*◌, ◌<◌, ◌≤◌, ltb, ℤ, length, set, take, drop, replicate}
+use Rattle.std.specs.Prelude.{◌≡◌, refl, List, [], ◌∷◌, ◌++◌, ℕ, zero, suc, ◌+◌, ◌*◌, ◌<◌, ◌≤◌, ltb, ℤ, length, set, take, drop, replicate, Ok, Result}
 use Rattle.std.proofs.Common.{sym, ap, ◌∙◌, mul-le-mul_right, add-one, arith, ltb-false, le-ltb}
 use Rattle.std.proofs.lemmas.List.{length-replicate}
 use Rattle.integers.specs.Sequence.{grow}
 use Rattle.lines.specs.Limits.{max_variables}
 use Rattle.lines.specs.declared.Refusal.{Refusal}
 use Rattle.lines.specs.declared.Refusal.TheVariants.{ShortOutput, ShortWorkArea}
-use Rattle.lines.specs.declared.Validity.{Validity}
-use Rattle.lines.specs.declared.Validity.TheVariants.{Valid}
 use Rattle.lines.specs.Refusal.{place_of, ◌or_else◌, refuse_if, validity_of}
 use Rattle.lines.specs.Valid.{or_valid, not_refused}
 use Rattle.lines.specs.Places.{Placed, valid, placed_or, placed_if}
+use Rattle.decide_buffers.specs.declared.Lengths.{Lengths}
 
 -- ---- what is lent
 pub record Lent : Type 0 where
@@ -22,14 +21,6 @@ pub record Lent : Type 0 where
   pub work : List ℤ
 
 -- how long each is
-pub record Lengths : Type 0 where
-  pub model : ℕ
-  pub bounds : ℕ
-  pub groups : ℕ
-  pub refutation : ℕ
-  pub identifiers : ℕ
-  pub work : ℕ
-
 abbrev pub lengths_of : Lent → Lengths
 lengths_of b = record { model = length b.model; bounds = length b.bounds; groups = length b.groups; refutation = length b.refutation; identifiers = length b.identifiers; work = length b.work }
 
@@ -107,15 +98,15 @@ abbrev pub most_place : ℕ
 most_place = 5
 
 -- ---- the first that is short
-abbrev pub first_short : List Room → ℕ → Lengths → Validity
-first_short [] n s = Valid
+abbrev pub first_short : List Room → ℕ → Lengths → Result Unit Refusal
+first_short [] n s = Ok tt
 first_short (r ∷ rs) n s = refuse_if (ltb (r.size s) (r.room n)) r.refusal or_else first_short rs n s
 
-unfoldable pub rooms_validity : ℕ → Lengths → Validity
+unfoldable pub rooms_validity : ℕ → Lengths → Result Unit Refusal
 rooms_validity n s = first_short lent_rooms n s
 
 -- the list's; then 7, 8
-unfoldable pub decide_validity_lem : ℕ → List ℤ → Lengths → Validity
+unfoldable pub decide_validity_lem : ℕ → List ℤ → Lengths → Result Unit Refusal
 decide_validity_lem n L s = validity_of n L or_else rooms_validity n s
 
 -- ---- none is short exactly if each has its room
@@ -123,21 +114,21 @@ abbrev pub HaveRoom : List Room → ℕ → Lengths → Type 0
 HaveRoom [] n s = Unit {0}
 HaveRoom (r ∷ rs) n s = (r.room n ≤ r.size s) × HaveRoom rs n s
 
-pub none_short : (rs : List Room) (n : ℕ) (s : Lengths) → first_short rs n s ≡ Valid → HaveRoom rs n s
+pub none_short : (rs : List Room) (n : ℕ) (s : Lengths) → first_short rs n s ≡ Ok tt → HaveRoom rs n s
 none_short [] n s e = tt
 none_short (r ∷ rs) n s e =
     let p = or_valid (refuse_if (ltb (r.size s) (r.room n)) r.refusal) (first_short rs n s) e in
     (ltb-false (r.size s) (r.room n) (not_refused (ltb (r.size s) (r.room n)) r.refusal p.0), none_short rs n s p.1)
 
-pub short_none : (rs : List Room) (n : ℕ) (s : Lengths) → HaveRoom rs n s → first_short rs n s ≡ Valid
+pub short_none : (rs : List Room) (n : ℕ) (s : Lengths) → HaveRoom rs n s → first_short rs n s ≡ Ok tt
 short_none [] n s h = refl
 short_none (r ∷ rs) n s h = rw (le-ltb (r.size s) (r.room n) h.0) (short_none rs n s h.1)
 
-pub valid_room : (n : ℕ) (s : Lengths) → rooms_validity n s ≡ Valid → HaveRoom lent_rooms n s
+pub valid_room : (n : ℕ) (s : Lengths) → rooms_validity n s ≡ Ok tt → HaveRoom lent_rooms n s
 unfolding rooms_validity
 valid_room n s e = none_short lent_rooms n s e
 
-pub room_valid : (n : ℕ) (s : Lengths) → HaveRoom lent_rooms n s → rooms_validity n s ≡ Valid
+pub room_valid : (n : ℕ) (s : Lengths) → HaveRoom lent_rooms n s → rooms_validity n s ≡ Ok tt
 unfolding rooms_validity
 room_valid n s h = short_none lent_rooms n s h
 

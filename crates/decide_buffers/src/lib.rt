@@ -7,7 +7,34 @@ ghost use Rattle.lines.specs.Limits.{max_variables};
 ghost use Rattle.decide_buffers.specs.Room.{model_room_lem, bounds_room_lem, groups_room_lem, refutation_room_lem, identifiers_room_lem, work_room_lem, differences_work_room_lem, model_lengths, model_rooms, lent_rooms_by, first_short, decide_validity_lem};
 
 use lines::limits::MAX_VARIABLES;
-use lines::{Refusal, Validity, list_validity};
+use lines::{Refusal, list_validity};
+
+// How long each of the lent buffers is.
+#[derive(Clone, Copy)]
+pub struct Lengths {
+    pub model: usize,
+    pub bounds: usize,
+    pub groups: usize,
+    pub refutation: usize,
+    pub identifiers: usize,
+    pub work: usize,
+}
+
+impl Lengths {
+    // Where deciding is asked for no more than a model: the other buffers have no number.
+    pub fn of_model(model: usize, work: usize) -> Lengths
+        ensures { result ≡ model_lengths model work }
+    {
+        Lengths {
+            model,
+            bounds: 0,
+            groups: 0,
+            refutation: 0,
+            identifiers: 0,
+            work,
+        }
+    }
+}
 
 // The numbers of a room for each variable, for each pair of variables, and besides.
 const MODEL_EACH: usize = 1;
@@ -112,81 +139,51 @@ pub fn differences_work_room(n: usize) -> usize
 }
 
 // Refusals 7 and 8: the first buffer that is too short, of those for output with its place. The work area needs `room`.
-pub fn rooms_validity(
-    n: usize,
-    model: usize,
-    bounds: usize,
-    groups: usize,
-    refutation: usize,
-    identifiers: usize,
-    work: usize,
-    room: usize,
-) -> Validity
+pub fn rooms_validity(n: usize, lengths: Lengths, room: usize) -> Result<(), Refusal>
     requires { n ≤ max_variables }
-    ensures { result ≡ first_short (lent_rooms_by (λ _. room)) n (record { model = model; bounds = bounds; groups = groups; refutation = refutation; identifiers = identifiers; work = work }) }
+    ensures { result ≡ first_short (lent_rooms_by (λ _. room)) n lengths }
 {
-    if model < model_room(n) {
-        return Validity::Refused(Refusal::ShortOutput(1));
+    if lengths.model < model_room(n) {
+        return Err(Refusal::ShortOutput(1));
     }
-    if bounds < bounds_room(n) {
-        return Validity::Refused(Refusal::ShortOutput(2));
+    if lengths.bounds < bounds_room(n) {
+        return Err(Refusal::ShortOutput(2));
     }
-    if groups < groups_room(n) {
-        return Validity::Refused(Refusal::ShortOutput(3));
+    if lengths.groups < groups_room(n) {
+        return Err(Refusal::ShortOutput(3));
     }
-    if refutation < refutation_room(n) {
-        return Validity::Refused(Refusal::ShortOutput(4));
+    if lengths.refutation < refutation_room(n) {
+        return Err(Refusal::ShortOutput(4));
     }
-    if identifiers < identifiers_room(n) {
-        return Validity::Refused(Refusal::ShortOutput(5));
+    if lengths.identifiers < identifiers_room(n) {
+        return Err(Refusal::ShortOutput(5));
     }
-    if work < room {
-        return Validity::Refused(Refusal::ShortWorkArea);
+    if lengths.work < room {
+        return Err(Refusal::ShortWorkArea);
     }
-    Validity::Valid
+    Ok(())
 }
 
 // The same where no more than a model is written: of the model, then of the work area.
-pub fn model_validity(n: usize, model: usize, work: usize) -> Validity
+pub fn model_validity(n: usize, lengths: Lengths) -> Result<(), Refusal>
     requires { n ≤ max_variables }
-    ensures { result ≡ first_short model_rooms n (model_lengths model work) }
+    ensures { result ≡ first_short model_rooms n lengths }
 {
-    if model < model_room(n) {
-        return Validity::Refused(Refusal::ShortOutput(1));
+    if lengths.model < model_room(n) {
+        return Err(Refusal::ShortOutput(1));
     }
-    if work < work_room(n) {
-        return Validity::Refused(Refusal::ShortWorkArea);
+    if lengths.work < work_room(n) {
+        return Err(Refusal::ShortWorkArea);
     }
-    Validity::Valid
+    Ok(())
 }
 
-// The first refusal that applies: the list's, 7 and 8. Buffers are given by their lengths.
-pub fn decide_validity(
-    n: usize,
-    list: &[i32],
-    model: usize,
-    bounds: usize,
-    groups: usize,
-    refutation: usize,
-    identifiers: usize,
-    work: usize,
-) -> Validity
-    ensures { result ≡ decide_validity_lem n list.now (record { model = model; bounds = bounds; groups = groups; refutation = refutation; identifiers = identifiers; work = work }) }
+// The first refusal that applies: the list's, 7 and 8.
+pub fn decide_validity(n: usize, list: &[i32], lengths: Lengths) -> Result<(), Refusal>
+    ensures { result ≡ decide_validity_lem n list.now lengths }
 {
-    let found = list_validity(n, list);
-    if let Validity::Refused(r) = found {
-        return Validity::Refused(r);
-    }
-    rooms_validity(
-        n,
-        model,
-        bounds,
-        groups,
-        refutation,
-        identifiers,
-        work,
-        work_room(n),
-    )
+    list_validity(n, list)?;
+    rooms_validity(n, lengths, work_room(n))
 }
 
 // Zeros in the first room numbers.
@@ -194,9 +191,5 @@ pub fn clear(work: &mut [i64], room: usize)
     requires { room ≤ length work.old }
     ensures { work.new ≡ replicate room (pos 0) ++ drop room work.old }
 {
-    let mut i = 0;
-    while i < room {
-        work[i] = 0;
-        i += 1;
-    }
+    work[..room].fill(0);
 }

@@ -14,12 +14,10 @@ pub fn first_false(list: &[i32]) -> usize
     ensures { result ≡ first_false_lem 0 (lines_of list.now) }
 {
     let count = list.len() / LINE_SIZE;
-    let mut k = 0;
-    while k < count {
+    for k in 0..count {
         if is_false(line_at(list, k)) {
             return k;
         }
-        k += 1;
     }
-    k
+    count
 }

@@ -4,49 +4,31 @@
 
 #![tactic(auto)]
 
-ghost use Rattle.decide_file.specs.Reading.{InBuffer};
+ghost use Rattle.std.specs.Io.{ReadsAtMost};
 
 use file_report::{INPUT_SIZE, TEXT_SIZE, report_input};
 use std::io;
 use std::io::Read;
 
-// How many bytes were read; or a read failed.
-#[derive(Clone, Copy)]
-enum Input {
-    Read(usize),
-    Failed,
-}
-
-// One read into the front of a buffer: none at the end of the input.
-fn read_some<R: Read>(reader: &mut R, buffer: &mut [u8]) -> Input
-    ensures { InBuffer result buffer.new }
-{
-    match reader.read(buffer) {
-        Ok(count) => Input::Read(count),
-        Err(_) => Input::Failed,
-    }
-}
-
-// Reads until the input ends or the buffer is full.
-fn read_input<R: Read>(reader: &mut R, buffer: &mut [u8]) -> Input
-    ensures { InBuffer result buffer.new }
+// Reads until the input ends or the buffer is full, and says how many bytes were read. A read that fails ends it, also one
+// that a signal interrupts, which std's methods would try again.
+fn read_input<R: Read>(reader: &mut R, buffer: &mut [u8]) -> io::Result<usize>
+    ensures { ReadsAtMost result buffer.new }
 {
     let mut count = 0;
     while count < buffer.len() {
-        let Input::Read(more) = read_some(reader, &mut buffer[count..]) else {
-            return Input::Failed;
-        };
+        let more = reader.read(&mut buffer[count..])?;
         if more == 0 {
             break;
         }
         count += more;
     }
-    Input::Read(count)
+    Ok(count)
 }
 
 fn main(rt: HostRuntime) -> io::Result<()> {
     let mut buffer = [0u8; INPUT_SIZE];
-    let Input::Read(count) = read_input(&mut rt.stdin(), &mut buffer) else {
+    let Ok(count) = read_input(&mut rt.stdin(), &mut buffer) else {
         return rt.write_all(b"read failed\n");
     };
     let mut text = [0u8; TEXT_SIZE];

@@ -19,17 +19,16 @@ fn halves_ok(table: &[i64], n: usize, p: usize) -> bool
 }
 
 // The first point whose halves are not consistent, or 2n.
+#[tactic(auto, using(integers::proofs::Searching::searching))]
 pub fn first_bad(table: &[i64], n: usize) -> usize
     requires { ShortTable n table.now }
     ensures { result ≡ first_failing_lem (2 * n) (halves_ok_lem (table_of (2 * n) table.now)) }
 {
     let count = 2 * n;
-    let mut p = 0;
-    while p < count {
+    for p in 0..count {
         if !halves_ok(table, n, p) {
             return p;
         }
-        p += 1;
     }
-    p
+    count
 }

@@ -21,14 +21,13 @@ fn identifier_of(list: &[i32], step: u32) -> u32
 }
 
 // The identifiers of all steps of a refutation, at the front of the buffer.
+#[tactic(auto, unfolding(crate::specs::Identifiers::identifiers_of))]
 pub fn write_identifiers(list: &[i32], refutation: &[u32], identifiers: &mut [u32])
     requires { StepsNamed list.now refutation.now × (steps_in refutation.now ≤ length identifiers.old) }
     ensures { identifiers.new ≡ identifiers_of list.now refutation.now ++ drop (steps_in refutation.now) identifiers.old }
 {
     let count = refutation[1] as usize + refutation[2] as usize;
-    let mut i = 0;
-    while i < count {
+    for i in 0..count {
         identifiers[i] = identifier_of(list, refutation[HEAD_SIZE + i]);
-        i += 1;
     }
 }

@@ -49,10 +49,8 @@ fn limit_at(table: &[i64], n: usize, p: usize, values: &[i32]) -> i64
     ensures { result ≡ stored (limit_of (by_rows (2 * n) table.now) values.now (length values.now) p) }
 {
     let mut limit = half_at(table, n, p);
-    let mut x = 0;
-    while x < values.len() {
+    for x in 0..values.len() {
         limit = limit_step(table, n, p, x, values[x] as i64, limit);
-        x += 1;
     }
     limit
 }
@@ -97,11 +95,9 @@ pub fn write_values(table: &[i64], n: usize, model: &mut [i32])
     requires { ShortTable n table.now × (n ≤ length model.old) }
     ensures { model.new ≡ values_of (by_rows (2 * n) table.now) n ++ drop n model.old }
 {
-    let mut k = 0;
-    while k < n {
+    for k in 0..n {
         let value = small_value(next_value(table, n, &model[0..k])) as i32;
         model[k] = value;
-        k += 1;
     }
 }
 

@@ -1,10 +1,11 @@
 -- One more row behind a row, and whether the two are the same.
 use Rattle.std.specs.Prelude.{◌≡◌, refl, Bool, true, false, List, ◌++◌, ℕ, ◌+◌, ◌*◌, ◌<◌, ◌≤◌, ℤ, pos, length, take, drop}
-use Rattle.std.proofs.Common.{sym, ap, ap₂, subst, ◌∙◌, add-one, arith, length-append, length-take, length-drop, get_or-take, get_or-drop, length-take-le, take_at, drop_at, ext_get_or, take-take, drop-drop}
+use Rattle.std.proofs.Common.{sym, ap, ap₂, subst, ◌∙◌, arith, length-append, length-take, length-drop, get_or-take, get_or-drop, length-take-le, take_at, drop_at, ext_get_or, take-take, drop-drop}
 use Rattle.std.proofs.lemmas.List.{length-map}
 use Rattle.integers.specs.Integer.{eq_z}
-use Rattle.integers.specs.Laws.{never, eq_z_true, both_true}
-use Rattle.integers.specs.Table.{all_below, below_at}
+use Rattle.std.specs.Bool.{Decides}
+use Rattle.integers.specs.Laws.{never, eq_z_true, eq_eq_z}
+use Rattle.integers.specs.Table.{all_below, below_at, below_all}
 use Rattle.lines.specs.Limits.{max_variables}
 use Rattle.lines.specs.Line.{number}
 use Rattle.lines.specs.Valid.{LinesOk}
@@ -22,21 +23,6 @@ same_rows m rows = all_below m (λ k. eq_z (number rows k) (number rows (m + k))
 abbrev pub same_at : ℕ → List ℤ → ℕ → Bool
 same_at m rows k = eq_z (number rows k) (number rows (m + k))
 
-pub same_more : (m : ℕ) (rows : List ℤ) (i : ℕ) → same_at m rows i ≡ true → all_below i (same_at m rows) ≡ true → all_below (i + 1) (same_at m rows) ≡ true
-same_more m rows i e h = ap (λ (k : ℕ). all_below k (same_at m rows)) (add-one i) ∙ both_true _ _ e h
-
-pub same_all : (m : ℕ) (rows : List ℤ) (i : ℕ) → i ≡ m → all_below i (same_at m rows) ≡ true → true ≡ same_rows m rows
-unfolding same_rows
-same_all m rows i e h = sym h ∙ ap (λ (k : ℕ). all_below k (same_at m rows)) e
-
-pub same_not : (m : ℕ) (rows : List ℤ) (i : ℕ) → i < m → same_at m rows i ≡ false → false ≡ same_rows m rows
-unfolding same_rows
-same_not m rows i h e = go (all_below m (same_at m rows)) refl
-  where
-    go : (t : Bool) → all_below m (same_at m rows) ≡ t → false ≡ t
-    go true q = let clash : true ≡ false = sym (below_at m (same_at m rows) q i h) ∙ e in never (cc)
-    go false q = refl
-
 pub same_rows_law : (m : ℕ) (rows : List ℤ) → length rows ≡ 2 * m → same_rows m rows ≡ true → drop m rows ≡ take m rows
 unfolding same_rows
 same_rows_law m rows l e =
@@ -45,6 +31,19 @@ same_rows_law m rows l e =
     (λ i h.
     let k : i < m = omega arith in
     get_or-drop m rows i (pos 0) ∙ sym (eq_z_true _ _ (below_at m (same_at m rows) e i k)) ∙ sym (get_or-take m rows i (pos 0) k))
+
+same_of : (m : ℕ) (rows : List ℤ) → take m rows ≡ drop m rows → same_rows m rows ≡ true
+unfolding same_rows
+same_of m rows e = below_all m (same_at m rows) (λ i h. eq_eq_z _ _ (sym (get_or-take m rows i (pos 0) h) ∙ ap (λ (x : List ℤ). number x i) e ∙ get_or-drop m rows i (pos 0)))
+
+-- what a test of the two rows, as lists, finds
+pub same_found : (m : ℕ) (rows : List ℤ) (r : Bool) → length rows ≡ 2 * m → Decides r (take m rows ≡ drop m rows) → r ≡ same_rows m rows
+same_found m rows r l d = go (same_rows m rows) refl r d
+  where
+    go : (s : Bool) → same_rows m rows ≡ s → (r : Bool) → Decides r (take m rows ≡ drop m rows) → r ≡ s
+    go true q r d = d.1 (sym (same_rows_law m rows l q))
+    go false q true d = let clash : true ≡ false = sym (same_of m rows (d.0 refl)) ∙ q in never (cc)
+    go false q false d = refl
 
 -- ---- one more row
 -- the row at a place

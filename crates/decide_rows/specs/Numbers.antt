@@ -1,5 +1,5 @@
 -- The steps of a list in the order of their numbers, one number at a time, as a loop goes through them.
-use Rattle.std.specs.Prelude.{◌≡◌, ◌⊎◌, Bool, ℤ}
+use Rattle.std.specs.Prelude.{◌≡◌, ◌⊎◌, Bool, ℤ, None, Option, Some}
 use Rattle.std.proofs.Math.Path.{refl, sym, ap, ap₂}
 use Rattle.std.proofs.Common.{◌∙◌, inl, inr, add-one}
 use Rattle.std.proofs.Math.Logic.{⊎_elim}
@@ -16,8 +16,6 @@ use Rattle.lines.specs.declared.Line.{Line}
 use Rattle.lines.specs.Line.{line_at, line_count, lines_of}
 use Rattle.lines.specs.Valid.{LinesOk}
 use Rattle.steps.specs.declared.Step.{Step}
-use Rattle.steps.specs.declared.NamedStep.{NamedStep}
-use Rattle.steps.specs.declared.NamedStep.TheVariants.{Found, Nothing}
 use Rattle.steps.specs.Step.{max_weight, step_of, step_numbered_lem, steps_of, named}
 use Rattle.steps.specs.Laws.{numbered_weight}
 use Rattle.steps.proofs.Mirror.{line_step_known}
@@ -76,7 +74,7 @@ module _ (L : List ℤ) where
       ∙ before_more L (2 * c + 1)
       ∙ ap₂ (λ (x y : List Step). x ++ y) (before_more L (2 * c)) (ap named (numbered_at c 1 h (omega arith)))
       ∙ ap (λ (x : List Step). (x ++ named (step_numbered_lem L (2 * c))) ++ b) (before_lines c (omega arith))
-      ∙ ap (λ (x : NamedStep). (steps_of (tabulate c (line_at L)) ++ named x) ++ b) (ap (step_numbered_lem L) even ∙ numbered_at c 0 h (omega arith))
+      ∙ ap (λ (x : Option Step). (steps_of (tabulate c (line_at L)) ++ named x) ++ b) (ap (step_numbered_lem L) even ∙ numbered_at c 0 h (omega arith))
       ∙ append_assoc (steps_of (tabulate c (line_at L))) a b
       ∙ ap (λ (x : List Step). steps_of (tabulate c (line_at L)) ++ x) (sym (steps_one (line_at L c)))
       ∙ sym (steps_append (tabulate c (line_at L)) (line_at L c ∷ []))
@@ -99,20 +97,20 @@ pub record StepOk (n : ℕ) (t : Step) : Type 0 where
   pub small : Within max_weight t.weight
 
 module _ (n : ℕ) (L : List ℤ) (ok : LinesOk n L) where
-  pub numbered_ok : (k : ℕ) (t : Step) → step_numbered_lem L k ≡ Found t → StepOk n t
+  pub numbered_ok : (k : ℕ) (t : Step) → step_numbered_lem L k ≡ Some t → StepOk n t
   unfolding step_numbered_lem
   numbered_ok k t e = go (ltb (k / 2) (line_count L)) refl e
     where
-      go : (b : Bool) → ltb (k / 2) (line_count L) ≡ b → cond b (step_of (line_at L (k / 2)) (k % 2)) Nothing ≡ Found t → StepOk n t
+      go : (b : Bool) → ltb (k / 2) (line_count L) ≡ b → cond b (step_of (line_at L (k / 2)) (k % 2)) None ≡ Some t → StepOk n t
       go true i q =
           let s = line_step_known n (line_at L (k / 2)) (k % 2) t (ok (k / 2) (ltb-true _ _ i)) (omega arith) q in
           record { from_lt = s.from_lt; to_lt = s.to_lt; small = numbered_weight n L k t (ok (k / 2)) e }
       go false i q = never (cc)
 
-  in_either : (t : Step) (xs : List Step) (s : NamedStep) → In t (xs ++ named s) → In t xs ⊎ (s ≡ Found t)
-  in_either t [] (Found u) (inl e) = inr (ap Found (sym e))
-  in_either t [] (Found u) (inr i) = absurd i
-  in_either t [] Nothing i = absurd i
+  in_either : (t : Step) (xs : List Step) (s : Option Step) → In t (xs ++ named s) → In t xs ⊎ (s ≡ Some t)
+  in_either t [] (Some u) (inl e) = inr (ap Some (sym e))
+  in_either t [] (Some u) (inr i) = absurd i
+  in_either t [] None i = absurd i
   in_either t (x ∷ xs) s (inl e) = inl (inl e)
   in_either t (x ∷ xs) s (inr i) = ⊎_elim (λ j. inl (inr j)) (λ e. inr e) (in_either t xs s i)
 

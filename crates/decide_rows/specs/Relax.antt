@@ -1,5 +1,5 @@
 -- Two rows one behind the other, the old and the new, and what one round does to them. A row may have several columns.
-use Rattle.std.specs.Prelude.{◌≡◌, ℕ, ◌+◌, ◌*◌, ◌<◌, ◌≤◌, ℤ, pos, ◌+ℤ◌, length, set, take, drop}
+use Rattle.std.specs.Prelude.{◌≡◌, ℕ, ◌+◌, ◌*◌, ◌<◌, ◌≤◌, ℤ, pos, ◌+ℤ◌, length, set, take, drop, None, Option, Some}
 use Rattle.std.proofs.Common.{sym, ap, ◌∙◌, mul-le-mul_right, arith, length-append, length-drop, take-append-drop, drop_of_length-le, get_or-take, get_or-drop, length-take-le, take_at}
 use Rattle.std.proofs.Math.Path.{ap₂}
 use mathlib.Core.List.{List, [], ◌∷◌, ◌++◌, append-nil, foldl-append}
@@ -10,8 +10,6 @@ use Rattle.lines.specs.Limits.{max_variables}
 use Rattle.lines.specs.Line.{number, line_count, lines_of}
 use Rattle.lines.specs.Valid.{LinesOk}
 use Rattle.steps.specs.declared.Step.{Step}
-use Rattle.steps.specs.declared.NamedStep.{NamedStep}
-use Rattle.steps.specs.declared.NamedStep.TheVariants.{Found, Nothing}
 use Rattle.steps.specs.Step.{max_weight, step_numbered_lem, steps_of, named}
 use Rattle.theory_walks.specs.Distance.{Distance, min_d, ◌⊕◌}
 use Rattle.theory_walks.specs.Row.{at, relax_step, relax_from, relax_row, from_length}
@@ -163,16 +161,16 @@ module _ (n c : ℕ) (L rows : List ℤ) (r : Ready n c L rows) (k : ℕ) where
   point_fits : (p : ℕ) → p < 2 * n → p * c + c ≤ 2 * n * c
   point_fits p h = omega (arith, mul-le-mul_right c h)
 
-  pub found_ready : (t : Step) → step_numbered_lem L k ≡ Found t → ColumnsReady (2 * n * c) c t rows
+  pub found_ready : (t : Step) → step_numbered_lem L k ≡ Some t → ColumnsReady (2 * n * c) c t rows
   found_ready t e =
       let o = numbered_ok n L r.valid k t e in
       record { long = r.long; short = r.short; from_fits = point_fits t.from o.from_lt; to_fits = point_fits t.to o.to_lt; small = o.small }
 
-  pub step_way : (t : Step) (s : NamedStep) → s ≡ Found t → relaxed_by (2 * n * c) rows (columns c c t) ≡ relaxed_by (2 * n * c) rows (wide c (named s))
-  step_way t s q = ap (relaxed_by (2 * n * c) rows) (sym (wide_step c t) ∙ ap (λ (x : NamedStep). wide c (named x)) (sym q))
+  pub step_way : (t : Step) (s : Option Step) → s ≡ Some t → relaxed_by (2 * n * c) rows (columns c c t) ≡ relaxed_by (2 * n * c) rows (wide c (named s))
+  step_way t s q = ap (relaxed_by (2 * n * c) rows) (sym (wide_step c t) ∙ ap (λ (x : Option Step). wide c (named x)) (sym q))
 
-  pub nothing_way : (s : NamedStep) → s ≡ Nothing → rows ≡ relaxed_by (2 * n * c) rows (wide c (named s))
-  nothing_way s q = no_step (2 * n * c) rows r.long ∙ ap (relaxed_by (2 * n * c) rows) (sym (wide_none c) ∙ ap (λ (x : NamedStep). wide c (named x)) (sym q))
+  pub nothing_way : (s : Option Step) → s ≡ None → rows ≡ relaxed_by (2 * n * c) rows (wide c (named s))
+  nothing_way s q = no_step (2 * n * c) rows r.long ∙ ap (relaxed_by (2 * n * c) rows) (sym (wide_none c) ∙ ap (λ (x : Option Step). wide c (named x)) (sym q))
 
 -- ---- the loop over the steps, after those with the numbers 0 to k - 1; it began with rows₀
 pub record Round (n c : ℕ) (L rows₀ rows : List ℤ) (k : ℕ) : Type 0 where

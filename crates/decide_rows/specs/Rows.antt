@@ -42,10 +42,9 @@ pub record RowsDone (E : List Step) (m u : ℕ) (w w' : List ℤ) (k : ℕ) : Ty
   pub stops : Stops E m u k
 
 -- the loop after k rounds; w₀ is what it began with, the start row and what was behind it
-pub record Turn (E : List Step) (m u : ℕ) (w₀ w : List ℤ) (k from : ℕ) : Type 0 where
+pub record Turn (E : List Step) (m u : ℕ) (w₀ w : List ℤ) (k : ℕ) : Type 0 where
   pub count : k ≤ m
-  pub place : from ≡ k * m
-  pub rows : w ≡ stored_rows E m u (suc k) ++ drop (from + m) w₀
+  pub rows : w ≡ stored_rows E m u (suc k) ++ drop (k * m + m) w₀
 
 -- ---- the rows of a list's steps are small
 pub rows_short : (n : ℕ) (L : List ℤ) → n ≤ max_variables → LinesOk n L → (u k : ℕ) → k ≤ 2 * n → AllShort max_distance (row_at (steps_of (lines_of L)) (2 * n) u k)
@@ -89,21 +88,24 @@ module _ (E : List Step) (m u : ℕ) (w₁ w₀ : List ℤ) (e₀ : w₀ ≡ sto
   beyond : drop m w₀ ≡ drop m w₁
   beyond = ap (drop m) e₀ ∙ drop_at (stored_row (start_row_lem m u)) (drop m w₁) m first_length
 
-  pub turn_start : Turn E m u w₀ w₀ 0 0
+  pub turn_start : Turn E m u w₀ w₀ 0
   unfolding stored_rows
   turn_start =
       record {
         count = omega arith;
-        place = omega arith;
         rows =
             e₀ ∙ ap₂ (λ (x : List Distance) (y : List ℤ). stored_row x ++ y) (sym (row_zero E m u)) (sym beyond)
             ∙ ap (λ (j : ℕ). stored_row (row_at E m u 0) ++ drop j w₀) z;
       }
     where
-      z : m ≡ 0 + m
+      z : m ≡ 0 * m + m
       z = omega arith
 
-  module _ (w : List ℤ) (k from : ℕ) (t : Turn E m u w₀ w k from) where
+  module _ (w : List ℤ) (k : ℕ) (t : Turn E m u w₀ w k) where
+    -- where row k begins
+    abbrev from : ℕ
+    from = k * m
+
     abbrev a : List ℤ
     a = stored_rows E m u k
 
@@ -117,7 +119,7 @@ module _ (E : List Step) (m u : ℕ) (w₁ w₀ : List ℤ) (e₀ : w₀ ≡ sto
     parts = t.rows ∙ ap (λ (x : List ℤ). x ++ c) (rows_suc E m u k)
 
     a_length : length a ≡ from
-    a_length = rows_length E m u k ∙ sym t.place
+    a_length = rows_length E m u k
 
     b_length : length b ≡ m
     b_length = stored_length E m u k
@@ -140,7 +142,7 @@ module _ (E : List Step) (m u : ℕ) (w₁ w₀ : List ℤ) (e₀ : w₀ ≡ sto
         i = omega arith
 
         j : m + from ≡ suc k * m
-        j = omega (arith, t.place)
+        j = omega arith
 
     -- the row is small: it is read back as it was stored, and the next row is row k + 1
     module _ (short : AllShort max_distance (row_at E m u k)) where
@@ -170,22 +172,23 @@ module _ (E : List Step) (m u : ℕ) (w₁ w₀ : List ℤ) (e₀ : w₀ ≡ sto
           ∙ ap (λ (x : List Distance). b ++ stored_row x) (sym (row_suc E m u k))
 
       module _ (w' : List ℤ) (same : Bool) (d : RowDone m E w from w' same) where
-        pub turn_more : k < m → Turn E m u w₀ w' (k + 1) (from + m)
+        pub turn_more : k < m → Turn E m u w₀ w' (k + 1)
         turn_more h =
             let e = stored_row (row_at E m u (suc k)) in
             let f = drop (from + m + m) w₀ in
+            let next : k * m + m + m ≡ (k + 1) * m + m = omega arith in
             let p : take from w ≡ a = ap (take from) parts ∙ before a b c from m a_length b_length in
             let q : drop (from + 2 * m) w ≡ f =
             ap₂ (λ (i : ℕ) (x : List ℤ). drop i x) j parts ∙ sym (drop-drop m (from + m) ((a ++ b) ++ c))
             ∙ ap (drop m) (behind a b c from m a_length b_length) ∙ drop-drop m (from + m) w₀ in
             record {
               count = omega arith;
-              place = omega (arith, t.place);
               rows =
                   d.is ∙ ap₂ (λ (x y : List ℤ). x ++ y) p (ap₂ (λ (x y : List ℤ). x ++ y) next_is q)
                   ∙ sym (append_assoc a (b ++ e) f)
                   ∙ ap (λ (x : List ℤ). x ++ f)
-                  (sym (append_assoc a b e) ∙ ap (λ (x : List ℤ). x ++ e) (sym (rows_suc E m u k)) ∙ sym (rows_suc E m u (suc k)) ∙ ap (λ (i : ℕ). stored_rows E m u (suc i)) (sym (add-one k)));
+                  (sym (append_assoc a b e) ∙ ap (λ (x : List ℤ). x ++ e) (sym (rows_suc E m u k)) ∙ sym (rows_suc E m u (suc k)) ∙ ap (λ (i : ℕ). stored_rows E m u (suc i)) (sym (add-one k)))
+                  ∙ ap (λ (j : ℕ). stored_rows E m u (suc (k + 1)) ++ drop j w₀) next;
             }
           where
             j : from + 2 * m ≡ from + m + m

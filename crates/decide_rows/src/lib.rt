@@ -17,21 +17,17 @@ ghost use Rattle.decide_rows.specs.Next.{same_rows, with_next, RowReady, RowDone
 ghost use Rattle.decide_rows.specs.Rows.{RowsReady, RowsDone};
 
 use lines::limits::LINE_SIZE;
-use steps::{NamedStep, Step, step_numbered};
+use steps::{Step, step_numbered};
 
 // Stands for no walk; no sum gets near it. In specs/ it is `stored none`.
-pub const NO_WALK: i64 = 9223372036854775807;
+pub const NO_WALK: i64 = i64::MAX;
 
 // The size numbers at `from` copied to `to`, apart from them.
 pub fn copy_row(work: &mut [i64], from: usize, to: usize, size: usize)
     requires { CopyReady from to size work.old }
     ensures { work.new ≡ take to work.old ++ take size (drop from work.old) ++ drop (to + size) work.old }
 {
-    let mut i = 0;
-    while i < size {
-        work[to + i] = work[from + i];
-        i += 1;
-    }
+    work.copy_within(from..from + size, to);
 }
 
 // One step, from a point of the old row to one of the new row behind it.
@@ -58,10 +54,8 @@ fn relax_columns(rows: &mut [i64], size: usize, width: usize, step: Step)
 {
     let from = step.from * width;
     let to = step.to * width;
-    let mut j = 0;
-    while j < width {
+    for j in 0..width {
         relax_at(rows, size, from + j, to + j, step.weight);
-        j += 1;
     }
 }
 
@@ -70,8 +64,7 @@ fn relax_one(list: &[i32], n: usize, width: usize, rows: &mut [i64], number: usi
     requires { Ready n width list.now rows.old }
     ensures { rows.new ≡ relaxed_by (2 * n * width) rows.old (wide width (named (step_numbered_lem list.now number))) }
 {
-    let named = step_numbered(list, number);
-    if let NamedStep::Found(t) = named {
+    if let Some(t) = step_numbered(list, number) {
         relax_columns(rows, 2 * n * width, width, t);
     }
 }
@@ -84,10 +77,8 @@ fn relax_row(list: &[i32], n: usize, width: usize, rows: &mut [i64])
     let size = 2 * n * width;
     copy_row(rows, 0, size, size);
     let count = 2 * (list.len() / LINE_SIZE);
-    let mut number = 0;
-    while number < count {
+    for number in 0..count {
         relax_one(list, n, width, rows, number);
-        number += 1;
     }
 }
 
@@ -96,14 +87,7 @@ fn settled(rows: &[i64], size: usize) -> bool
     requires { length rows.now ≡ 2 * size }
     ensures { result ≡ same_rows size rows.now }
 {
-    let mut i = 0;
-    while i < size {
-        if rows[i] != rows[size + i] {
-            return false;
-        }
-        i += 1;
-    }
-    true
+    rows[..size] == rows[size..]
 }
 
 // The start row of the source u: 0 at u, and NO_WALK elsewhere.
@@ -111,11 +95,7 @@ pub fn start_row(work: &mut [i64], size: usize, u: usize)
     requires { (u < size) × (size ≤ length work.old) }
     ensures { work.new ≡ stored_row (start_row_lem size u) ++ drop size work.old }
 {
-    let mut i = 0;
-    while i < size {
-        work[i] = NO_WALK;
-        i += 1;
-    }
+    work[..size].fill(NO_WALK);
     work[u] = 0;
 }
 
@@ -139,18 +119,13 @@ pub fn rows(list: &[i32], n: usize, u: usize, work: &mut [i64]) -> usize
 {
     let size = 2 * n;
     start_row(work, size, u);
-    let mut k = 0;
-    let mut from = 0;
-    while k < size {
+    for k in 0..size {
+        let from = k * size;
         let same = next_row(list, n, 1, work, from);
-        k += 1;
-        from += size;
-        if same {
-            return k;
-        }
-        if work[from + u] < 0 {
-            return k;
+        let own_entry = work[from + size + u];
+        if same || own_entry < 0 {
+            return k + 1;
         }
     }
-    k
+    size
 }

@@ -21,12 +21,9 @@ pub fn start_table(work: &mut [i64], place: usize, size: usize)
     requires { place + size * size ≤ length work.old }
     ensures { work.new ≡ take place work.old ++ stored_row (start_table_lem size size) ++ drop (place + size * size) work.old }
 {
-    let mut v = 0;
-    let mut at = place;
-    while v < size {
+    for v in 0..size {
+        let at = place + v * size;
         start_row(&mut work[at..at + size], size, v);
-        v += 1;
-        at += size;
     }
 }
 
@@ -39,19 +36,18 @@ fn self_ok(table: &[i64], n: usize, u: usize) -> bool
 }
 
 // The first point whose distance to itself is below 0, or 2n.
+#[tactic(auto, using(integers::proofs::Searching::searching))]
 fn first_negative(table: &[i64], n: usize) -> usize
     requires { ShortTable n table.now }
     ensures { result ≡ first_failing_lem (2 * n) (λ u. not_below0 (table_of (2 * n) table.now u u)) }
 {
     let count = 2 * n;
-    let mut u = 0;
-    while u < count {
+    for u in 0..count {
         if !self_ok(table, n, u) {
             return u;
         }
-        u += 1;
     }
-    u
+    count
 }
 
 // The distances between all points, behind the place that the rows of one source take: 2n. Or a point whose distance to
@@ -64,8 +60,7 @@ pub fn distance_table(list: &[i32], n: usize, work: &mut [i64]) -> usize
     let cells = size * size;
     let start = size + cells;
     start_table(work, start, size);
-    let mut k = 0;
-    while k < size {
+    for k in 0..size {
         copy_row(work, start, size, cells);
         let same = next_row(list, n, size, work, size);
         let u = first_negative(&work[start..start + cells], n);
@@ -75,7 +70,6 @@ pub fn distance_table(list: &[i32], n: usize, work: &mut [i64]) -> usize
         if same {
             return size;
         }
-        k += 1;
     }
     size
 }

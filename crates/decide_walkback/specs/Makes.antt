@@ -1,5 +1,5 @@
 -- When a step makes a value: a test over a row as its numbers stand in the work area, which the search for a step back runs, and what it says.
-use Rattle.std.specs.Prelude.{◌≡◌, refl, Bool, true, false, cond, List, ℕ, ◌+◌, ◌*◌, ◌/◌, ◌%◌, ◌<◌, ◌≤◌, eqb, ℤ, pos, ◌+ℤ◌, length, get_or}
+use Rattle.std.specs.Prelude.{◌≡◌, refl, Bool, true, false, cond, List, ℕ, ◌+◌, ◌*◌, ◌/◌, ◌%◌, ◌<◌, ◌≤◌, eqb, ℤ, pos, ◌+ℤ◌, length, get_or, None, Option, Some}
 use Rattle.std.proofs.Common.{sym, ◌∙◌, arith, below_more, eqb-true, eq-eqb, ne_eqb, SFits}
 use Rattle.std.specs.Int.{w64}
 use Rattle.integers.specs.Integer.{eq_z, Within}
@@ -9,8 +9,6 @@ use Rattle.lines.specs.Limits.{max_variables}
 use Rattle.lines.specs.Line.{line_at, line_count}
 use Rattle.lines.specs.Valid.{LinesOk}
 use Rattle.steps.specs.declared.Step.{Step}
-use Rattle.steps.specs.declared.NamedStep.{NamedStep}
-use Rattle.steps.specs.declared.NamedStep.TheVariants.{Found, Nothing}
 use Rattle.steps.specs.Step.{max_weight, step_numbered_lem}
 use Rattle.steps.specs.Laws.{from_line}
 use Rattle.steps.proofs.Mirror.{line_step_known}
@@ -36,18 +34,18 @@ step_makes_lem old v z t =
     (cond (eq_z (entry old t.from) absent_greatest) false (eq_z (entry old t.from +ℤ t.weight) z))
     false
 
-abbrev pub named_makes : List ℤ → ℕ → ℤ → NamedStep → Bool
-named_makes old v z (Found t) = step_makes_lem old v z t
-named_makes old v z Nothing = false
+abbrev pub named_makes : List ℤ → ℕ → ℤ → Option Step → Bool
+named_makes old v z (Some t) = step_makes_lem old v z t
+named_makes old v z None = false
 
 -- the step with a number makes z at v
 abbrev pub makes_value : List ℤ → List ℤ → ℕ → ℤ → ℕ → Bool
 makes_value L old v z number = named_makes old v z (step_numbered_lem L number)
 
 -- where a step starts
-abbrev pub start_of : NamedStep → ℕ
-start_of (Found t) = t.from
-start_of Nothing = 0
+abbrev pub start_of : Option Step → ℕ
+start_of (Some t) = t.from
+start_of None = 0
 
 -- ---- what the functions ask and promise
 -- the old row of a list's points, each entry of it near
@@ -106,7 +104,7 @@ pub sum_fits : (d w : ℤ) → Within max_entry d → Within max_weight w → SF
 sum_fits d w a b = simp ints (omega zs)
 
 -- ---- the step with a number
-pub numbered_start : (n : ℕ) (L : List ℤ) (k : ℕ) (t : Step) → LinesOk n L → step_numbered_lem L k ≡ Found t → t.from < 2 * n
+pub numbered_start : (n : ℕ) (L : List ℤ) (k : ℕ) (t : Step) → LinesOk n L → step_numbered_lem L k ≡ Some t → t.from < 2 * n
 numbered_start n L k t ok e =
     let l = from_line L k t e in
     (line_step_known n (line_at L (k / 2)) (k % 2) t (ok (k / 2) l.0) (omega arith) l.1).from_lt
@@ -140,15 +138,15 @@ step_makes old v z t m = rw (eq-eqb t.to v m.ends, ne_eq_z (entry old t.from) ab
 -- the same of a number
 pub record Made (L old : List ℤ) (v : ℕ) (z : ℤ) (number : ℕ) : Type 0 where
   pub step : Step
-  pub named : step_numbered_lem L number ≡ Found step
+  pub named : step_numbered_lem L number ≡ Some step
   pub is : StepMade old v z step
 
 pub made : (L old : List ℤ) (v : ℕ) (z : ℤ) (number : ℕ) → makes_value L old v z number ≡ true → Made L old v z number
 made L old v z number = go (step_numbered_lem L number) refl
   where
-    go : (s : NamedStep) → step_numbered_lem L number ≡ s → named_makes old v z s ≡ true → Made L old v z number
-    go (Found t) n e = record { step = t; named = n; is = step_made old v z t e }
-    go Nothing n e = never (cc)
+    go : (s : Option Step) → step_numbered_lem L number ≡ s → named_makes old v z s ≡ true → Made L old v z number
+    go (Some t) n e = record { step = t; named = n; is = step_made old v z t e }
+    go None n e = never (cc)
 
 pub makes : (L old : List ℤ) (v : ℕ) (z : ℤ) (number : ℕ) → Made L old v z number → makes_value L old v z number ≡ true
 makes L old v z number m = rw m.named (step_makes old v z m.step m.is)

@@ -1,5 +1,5 @@
 -- One row back: a value of a relaxed row stood in the row before already, or a step makes it.
-use Rattle.std.specs.Prelude.{◌≡◌, refl, ◌⊎◌, List, [], ◌∷◌, ℕ, ◌+◌, ◌*◌, ◌<◌, ◌≤◌, ℤ, pos, ◌+ℤ◌, length, set, take, drop}
+use Rattle.std.specs.Prelude.{◌≡◌, refl, ◌⊎◌, List, [], ◌∷◌, ℕ, ◌+◌, ◌*◌, ◌<◌, ◌≤◌, ℤ, pos, ◌+ℤ◌, length, set, take, drop, Option, Some, MatchOption}
 use Rattle.std.proofs.Common.{sym, ap, ◌∙◌, inl, inr, arith, get_or-take, get_or-drop}
 use Rattle.std.proofs.lemmas.List.{length-map}
 use Rattle.integers.specs.Integer.{◌⩽◌, Within}
@@ -8,7 +8,6 @@ use Rattle.lines.specs.Limits.{max_variables}
 use Rattle.lines.specs.Line.{lines_of}
 use Rattle.lines.specs.Valid.{LinesOk}
 use Rattle.steps.specs.declared.Step.{Step}
-use Rattle.steps.specs.declared.NamedStep.TheVariants.{Found}
 use Rattle.steps.specs.Step.{step_numbered_lem, steps_of}
 use Rattle.steps.specs.Walk.{Names}
 use Rattle.theory_walks.specs.Distance.{Distance, none, some, ⊕_some}
@@ -16,8 +15,7 @@ use Rattle.theory_walks.specs.Row.{at, relax_row, Along, at_lt, relax_one}
 use Rattle.lines.specs.Limits.{absent_greatest}
 use Rattle.theory_walks.specs.Graph.{numbered}
 use Rattle.decide_rows.specs.Stored.{stored, stored_row, stored_at}
-use Rattle.decide_walkback.specs.declared.Move.{Move}
-use Rattle.decide_walkback.specs.Makes.{entry, max_entry, Near, start_of, Maker, SearchOk, IsMaker, makes}
+use Rattle.decide_walkback.specs.Makes.{entry, max_entry, Near, Maker, SearchOk, IsMaker, makes}
 use Rattle.steps.specs.Laws.{number_below}
 
 -- the N numbers of the work area from a place on
@@ -45,25 +43,17 @@ pub record MoveOk (n : ℕ) (L w : List ℤ) (before p slot : ℕ) : Type 0 wher
   pub room : slot < length w
 
 -- the value stood in the row before: nothing is written
-pub record Stays (N : ℕ) (w : List ℤ) (before p : ℕ) (w' : List ℤ) (r : Move) : Type 0 where
-  pub count : r.count ≡ 0
+pub record Stays (N : ℕ) (w : List ℤ) (before p : ℕ) (w' : List ℤ) : Type 0 where
   pub area : w' ≡ w
-  pub point : r.point ≡ p
   pub same : entry w (before + p) ≡ entry w (before + N + p)
 
 -- a step makes it: its number goes to the slot
-pub record Goes (N : ℕ) (L w : List ℤ) (before p slot : ℕ) (w' : List ℤ) (r : Move) : Type 0 where
-  pub count : r.count ≡ 1
-  pub area : w' ≡ set w slot (pos r.number)
-  pub point : r.point ≡ start_of (step_numbered_lem L r.number)
-  pub maker : IsMaker L (row_in N w before) p (entry w (before + N + p)) r.number
+pub record Goes (N : ℕ) (L w : List ℤ) (before p slot : ℕ) (w' : List ℤ) (number : ℕ) : Type 0 where
+  pub area : w' ≡ set w slot (pos number)
+  pub maker : IsMaker L (row_in N w before) p (entry w (before + N + p)) number
 
-abbrev pub Moved : ℕ → List ℤ → List ℤ → ℕ → ℕ → ℕ → List ℤ → Move → Type 0
-Moved N L w before p slot w' r = Stays N w before p w' r ⊎ Goes N L w before p slot w' r
-
-pub at_most_one : {N : ℕ} {L w : List ℤ} {before p slot : ℕ} {w' : List ℤ} {r : Move} → Moved N L w before p slot w' r → r.count ≤ 1
-at_most_one (inl s) = omega (arith, s.count)
-at_most_one (inr g) = omega (arith, g.count)
+abbrev pub Moved : ℕ → List ℤ → List ℤ → ℕ → ℕ → ℕ → List ℤ → Option ℕ → Type 0
+Moved N L w before p slot w' r = MatchOption r (Stays N w before p w') (λ number. Goes N L w before p slot w' number)
 
 -- ---- stored rows
 pub entry_in : (N : ℕ) (w : List ℤ) (from p : ℕ) → p < N → entry (row_in N w from) p ≡ entry w (from + p)
@@ -84,7 +74,7 @@ stored_near : (row : List Distance) → SmallRow row → (p : ℕ) → p < lengt
 stored_near row small p h n = small p (entry (stored_row row) p) (stored_some (at row p) (λ e. n (stored_at row p h ∙ e)) ∙ ap some (sym (stored_at row p h)))
 
 -- ---- the step that makes a value
-one_number : (L : List ℤ) (t : Step) (ks : List ℕ) → Names L ks (t ∷ []) → (k : ℕ) × (step_numbered_lem L k ≡ Found t)
+one_number : (L : List ℤ) (t : Step) (ks : List ℕ) → Names L ks (t ∷ []) → (k : ℕ) × (step_numbered_lem L k ≡ Some t)
 one_number L t [] a = absurd a
 one_number L t (k ∷ ks) a = (k, a.0)
 

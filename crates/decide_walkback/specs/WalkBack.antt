@@ -1,6 +1,6 @@
 -- A walk read back from the rows of its source, and the turns of the loop that does it.
 use Rattle.std.specs.Prelude.{◌≡◌, refl, List, [], ◌∷◌, ◌++◌, map, ℤ, pos, ◌+ℤ◌, length, get_or, set, drop}
-use Rattle.std.proofs.Common.{sym, subst, ◌∙◌, inl, inr, append_assoc, mul-le-mul_right, take-append-drop, take-take, take-suc, drop_at, length-take-le}
+use Rattle.std.proofs.Common.{sym, subst, ◌∙◌, append_assoc, mul-le-mul_right, take-append-drop, take-take, take-suc, drop_at, length-take-le}
 use Rattle.std.proofs.Math.Path.{ap}
 use Prim.Native.Nat.{ℕ, zero, suc, ◌+◌, ◌*◌, ◌-◌, ◌<◌, ◌≤◌}
 use native.Mathlib.Omega.{arith}
@@ -13,7 +13,7 @@ use Rattle.lines.specs.Limits.{max_variables}
 use Rattle.lines.specs.Line.{lines_of}
 use Rattle.lines.specs.Valid.{LinesOk, all_ok}
 use Rattle.steps.specs.declared.Step.{Step}
-use Rattle.steps.specs.Step.{max_weight, steps_of}
+use Rattle.steps.specs.Step.{max_weight, step_numbered_lem, steps_of}
 use Rattle.steps.specs.Walk.{Path, total, Names}
 use Rattle.theory_walks.specs.Distance.{Distance, some}
 use Rattle.theory_walks.specs.Row.{at, relax_row, row_at, at_lt, start_some, row_length, row_zero, row_suc}
@@ -21,9 +21,8 @@ use Rattle.theory_walks.specs.Size.{within_more, row_within}
 use Rattle.lines.specs.Limits.{absent_greatest}
 use Rattle.theory_walks.specs.Graph.{weights_small}
 use Rattle.decide_rows.specs.Stored.{stored, stored_row, stored_at, stored_rows}
-use Rattle.decide_walkback.specs.declared.Move.{Move}
 use Rattle.decide_walkback.specs.Makes.{entry, start_of, made, numbered_start}
-use Rattle.decide_walkback.specs.Move.{row_in, SmallRow, MoveOk, Stays, Goes, Moved, entry_in, stored_some, not_absent}
+use Rattle.decide_walkback.specs.Move.{row_in, SmallRow, MoveOk, Stays, Goes, entry_in, stored_some, not_absent}
 
 -- ---- what the function asks and promises
 -- rows 0 to top of the source u stand at the front, the last one's entry at v is a number, and behind them, from a place on, there is room for
@@ -63,6 +62,10 @@ same_row N from m w w' h e =
     take_drop N from w
     ∙ ap (drop from) (sym (take-take (from + N) m w h) ∙ ap (take (from + N)) e ∙ take-take (from + N) m w' h)
     ∙ sym (take_drop N from w')
+
+row_place : (k N : ℕ) → 0 < k → (k - 1) * N + N ≡ k * N
+row_place zero N h = absurd (omega arith)
+row_place (suc k) N h = let f : suc k - 1 ≡ k = omega arith in rw f (omega arith)
 
 row_end : (j k N : ℕ) → j < k → j * N + N ≤ k * N
 row_end j k N h = omega (arith, mul-le-mul_right N h)
@@ -104,8 +107,7 @@ set_last w ys s z h =
 
 -- ---- the loop
 -- k rows are still to be gone back, from the point p; the numbers from the slot on name a walk from p to v
-pub record Reading (n : ℕ) (L : List ℤ) (u : ℕ) (w₀ : List ℤ) (top v place : ℕ) (w : List ℤ) (k before slot p : ℕ) : Type 0 where
-  pub row_place : before ≡ k * (2 * n)
+pub record Reading (n : ℕ) (L : List ℤ) (u : ℕ) (w₀ : List ℤ) (top v place : ℕ) (w : List ℤ) (k slot p : ℕ) : Type 0 where
   pub few : k ≤ top
   pub free : place + k ≤ slot
   pub numbers : List ℕ
@@ -117,10 +119,6 @@ pub record Reading (n : ℕ) (L : List ℤ) (u : ℕ) (w₀ : List ℤ) (top v p
   pub value : ℤ
   pub reached : at (row_at (steps_of (lines_of L)) (2 * n) u k) p ≡ some value
   pub sum : at (row_at (steps_of (lines_of L)) (2 * n) u top) v ≡ some (value +ℤ total steps)
-
-step_back : (k N before : ℕ) → 0 < k → before ≡ k * N → before - N ≡ (k - 1) * N
-step_back zero N before h e = absurd (omega arith)
-step_back (suc k) N before h e = let f : suc k - 1 ≡ k = omega arith in rw f (omega arith)
 
 plus_zero : (x : ℤ) → x ≡ x +ℤ pos 0
 plus_zero x = simp ints (omega arith)
@@ -144,10 +142,9 @@ module _ (n : ℕ) (L : List ℤ) (u : ℕ) (w₀ : List ℤ) (top v place : ℕ
       within_more (mul-le-mul_right max_weight few) (row_within max_weight E (weights_small n (lines_of L) (all_ok n L a.lines)) (2 * n) u k p z e)
 
   -- nothing is read back yet
-  pub reading_start : Reading n L u w₀ top v place w₀ top (top * (2 * n)) (place + top) v
+  pub reading_start : Reading n L u w₀ top v place w₀ top (place + top) v
   reading_start =
       record {
-        row_place = refl;
         few = omega arith;
         free = omega arith;
         numbers = [];
@@ -161,7 +158,7 @@ module _ (n : ℕ) (L : List ℤ) (u : ℕ) (w₀ : List ℤ) (top v place : ℕ
         sum = a.reached ∙ ap some (plus_zero a.value);
       }
 
-  module _ (w : List ℤ) (k before slot p : ℕ) (b : Reading n L u w₀ top v place w k before slot p) where
+  module _ (w : List ℤ) (k slot p : ℕ) (b : Reading n L u w₀ top v place w k slot p) where
     slot_in : slot ≤ length w₀
     slot_in = omega (arith, b.count, a.room)
 
@@ -188,22 +185,26 @@ module _ (n : ℕ) (L : List ℤ) (u : ℕ) (w₀ : List ℤ) (top v place : ℕ
         ∙ row_of_rows E (2 * n) u j (suc top) (omega arith)
 
     module _ (h : 0 < k) where
-      old_is : row_in (2 * n) w (before - 2 * n) ≡ stored_row (row (k - 1))
-      old_is = ap (row_in (2 * n) w) (step_back k (2 * n) before h b.row_place) ∙ row_is (k - 1) (omega (arith, b.few))
+      -- where the row before begins
+      abbrev before : ℕ
+      before = (k - 1) * (2 * n)
 
-      back_again : before - 2 * n + 2 * n ≡ before
-      back_again = omega (arith, b.row_place, mul-le-mul_right (2 * n) h)
+      old_is : row_in (2 * n) w before ≡ stored_row (row (k - 1))
+      old_is = row_is (k - 1) (omega (arith, b.few))
+
+      next_place : before + 2 * n ≡ k * (2 * n)
+      next_place = row_place k (2 * n) h
 
       row_next : row k ≡ relax_row E (row (k - 1))
       row_next = let e : k ≡ suc (k - 1) = omega arith in ap row e ∙ row_suc E (2 * n) u (k - 1)
 
-      new_is : row_in (2 * n) w (before - 2 * n + 2 * n) ≡ stored_row (row k)
-      new_is = ap (row_in (2 * n) w) (back_again ∙ b.row_place) ∙ row_is k b.few
+      new_is : row_in (2 * n) w (before + 2 * n) ≡ stored_row (row k)
+      new_is = ap (row_in (2 * n) w) next_place ∙ row_is k b.few
 
       inside : p < 2 * n
       inside = rw (row_length E (2 * n) u k) at (at_lt (row k) p b.value b.reached)
 
-      pub reading_move : MoveOk n L w (before - 2 * n) p (slot - 1)
+      pub reading_move : MoveOk n L w before p (slot - 1)
       reading_move =
           record {
             few = a.few;
@@ -216,33 +217,31 @@ module _ (n : ℕ) (L : List ℤ) (u : ℕ) (w₀ : List ℤ) (top v place : ℕ
             within = inside;
             value = b.value;
             reached = ap (λ (r : List Distance). at r p) (sym row_next) ∙ b.reached;
-            behind = omega (arith, back_again, b.row_place, row_end k (suc top) (2 * n) (omega (arith, b.few)), a.behind, b.free);
+            behind = omega (arith, next_place, row_end k (suc top) (2 * n) (omega (arith, b.few)), a.behind, b.free);
             room = omega (arith, same_size, slot_in, b.free);
           }
 
       -- the entry of row k at p, where it stands
-      here_is : entry w (before - 2 * n + 2 * n + p) ≡ b.value
+      here_is : entry w (before + 2 * n + p) ≡ b.value
       here_is =
-          sym (entry_in (2 * n) w (before - 2 * n + 2 * n) p inside)
+          sym (entry_in (2 * n) w (before + 2 * n) p inside)
           ∙ ap (λ (r : List ℤ). entry r p) new_is
           ∙ stored_at (row k) p (at_lt (row k) p b.value b.reached)
           ∙ ap stored b.reached
 
       -- an entry of row k - 1 that is not the number for no walk
-      old_some : (q : ℕ) → q < 2 * n → (entry (row_in (2 * n) w (before - 2 * n)) q ≡ absent_greatest → ⊥) → at (row (k - 1)) q ≡ some (entry (row_in (2 * n) w (before - 2 * n)) q)
+      old_some : (q : ℕ) → q < 2 * n → (entry (row_in (2 * n) w before) q ≡ absent_greatest → ⊥) → at (row (k - 1)) q ≡ some (entry (row_in (2 * n) w before) q)
       old_some q l d =
-          let e : entry (row_in (2 * n) w (before - 2 * n)) q ≡ stored (at (row (k - 1)) q) =
+          let e : entry (row_in (2 * n) w before) q ≡ stored (at (row (k - 1)) q) =
           ap (λ (r : List ℤ). entry r q) old_is ∙ stored_at (row (k - 1)) q (omega (arith, l, row_length E (2 * n) u (k - 1))) in
           stored_some (at (row (k - 1)) q) (λ f. d (e ∙ f)) ∙ ap some (sym e)
 
-      module _ (w' : List ℤ) (r : Move) where
-        reading_stays : Stays (2 * n) w (before - 2 * n) p w' r → Reading n L u w₀ top v place w' (k - 1) (before - 2 * n) (slot - r.count) r.point
+      module _ (w' : List ℤ) where
+        pub reading_stays : Stays (2 * n) w before p w' → Reading n L u w₀ top v place w' (k - 1) slot p
         reading_stays s =
-            let e : slot - r.count ≡ slot = omega (arith, s.count) in
-            let f : entry (row_in (2 * n) w (before - 2 * n)) p ≡ b.value = entry_in (2 * n) w (before - 2 * n) p inside ∙ s.same ∙ here_is in
-            rw (e, s.point, s.area)
+            let f : entry (row_in (2 * n) w before) p ≡ b.value = entry_in (2 * n) w before p inside ∙ s.same ∙ here_is in
+            rw s.area
             (record {
-              row_place = step_back k (2 * n) before h b.row_place;
               few = omega (arith, b.few);
               free = omega (arith, b.free);
               numbers = b.numbers;
@@ -256,19 +255,16 @@ module _ (n : ℕ) (L : List ℤ) (u : ℕ) (w₀ : List ℤ) (top v place : ℕ
               sum = b.sum;
             })
 
-        reading_goes : Goes (2 * n) L w (before - 2 * n) p (slot - 1) w' r → Reading n L u w₀ top v place w' (k - 1) (before - 2 * n) (slot - r.count) r.point
-        reading_goes g =
-            let j = r.number in
-            let m = made L (row_in (2 * n) w (before - 2 * n)) p (entry w (before - 2 * n + 2 * n + p)) j g.maker.makes in
+        pub reading_goes : (j : ℕ) → Goes (2 * n) L w before p (slot - 1) w' j → Reading n L u w₀ top v place w' (k - 1) (slot - 1) (start_of (step_numbered_lem L j))
+        reading_goes j g =
+            let m = made L (row_in (2 * n) w before) p (entry w (before + 2 * n + p)) j g.maker.makes in
             let t = m.step in
-            let x = entry (row_in (2 * n) w (before - 2 * n)) t.from in
-            let e : slot - r.count ≡ slot - 1 = omega (arith, g.count) in
+            let x = entry (row_in (2 * n) w before) t.from in
             let f : slot - 1 + 1 ≡ slot = omega (arith, b.free) in
             let y : x +ℤ t.weight ≡ b.value = m.is.sum ∙ here_is in
-            let from : r.point ≡ t.from = g.point ∙ ap start_of m.named in
-            rw (e, from)
+            let from : start_of (step_numbered_lem L j) ≡ t.from = ap start_of m.named in
+            rw from
             (record {
-              row_place = step_back k (2 * n) before h b.row_place;
               few = omega (arith, b.few);
               free = omega (arith, b.free);
               numbers = j ∷ b.numbers;
@@ -283,10 +279,6 @@ module _ (n : ℕ) (L : List ℤ) (u : ℕ) (w₀ : List ℤ) (top v place : ℕ
               reached = old_some t.from (numbered_start n L j t a.lines m.named) m.is.known;
               sum = b.sum ∙ ap some (regroup x t.weight b.value (total b.steps) y);
             })
-
-        pub reading_more : Moved (2 * n) L w (before - 2 * n) p (slot - 1) w' r → Reading n L u w₀ top v place w' (k - 1) (before - 2 * n) (slot - r.count) r.point
-        reading_more (inl s) = reading_stays s
-        reading_more (inr g) = reading_goes g
 
     -- all rows are gone back: row 0 has a number at u alone, and it is 0
     pub reading_end : k ≡ 0 → Walked n L u w₀ top v place w (place + top - slot)

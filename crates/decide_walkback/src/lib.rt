@@ -11,18 +11,11 @@ ghost use Rattle.decide_walkback.specs.Makes.{entry, Near, step_makes_lem, makes
 ghost use Rattle.decide_walkback.specs.Move.{MoveOk, Moved};
 ghost use Rattle.decide_walkback.specs.WalkBack.{RowsStand, Walked};
 
+use decide_rows::NO_WALK;
 use lines::limits::LINE_SIZE;
-use steps::{NamedStep, Step, step_numbered};
+use steps::{Step, step_numbered};
 
-// What going one row back comes to: how many steps (0 or 1), the step's number, and the point then.
-#[derive(Clone, Copy)]
-pub struct Move {
-    pub count: usize,
-    pub number: usize,
-    pub point: usize,
-}
-
-// Whether a step makes the value z at v from the old row. The highest number stands for no walk: nothing is added to it.
+// Whether a step makes the value z at v from the old row. To no walk nothing is added.
 pub fn step_makes(old: &[i64], t: Step, v: usize, z: i64) -> bool
     requires { (t.from < length old.now) × Near (entry old.now t.from) × Within max_weight t.weight }
     ensures { result ≡ step_makes_lem old.now v z t }
@@ -32,7 +25,7 @@ pub fn step_makes(old: &[i64], t: Step, v: usize, z: i64) -> bool
         return false;
     }
     let there = old[from];
-    if there == i64::MAX {
+    if there == NO_WALK {
         return false;
     }
     there + t.weight == z
@@ -44,8 +37,8 @@ fn makes(list: &[i32], old: &[i64], v: usize, z: i64, number: usize) -> bool
     ensures { result ≡ makes_value list.now old.now v z number }
 {
     match step_numbered(list, number) {
-        NamedStep::Found(t) => step_makes(old, t, v, z),
-        NamedStep::Nothing => false,
+        Some(t) => step_makes(old, t, v, z),
+        None => false,
     }
 }
 
@@ -55,8 +48,8 @@ fn start_of(list: &[i32], number: usize) -> usize
     ensures { result ≡ start_of (step_numbered_lem list.now number) }
 {
     match step_numbered(list, number) {
-        NamedStep::Found(t) => t.from,
-        NamedStep::Nothing => 0,
+        Some(t) => t.from,
+        None => 0,
     }
 }
 
@@ -73,22 +66,27 @@ fn find_step(list: &[i32], old: &[i64], v: usize, z: i64) -> usize
         if count <= line {
             break 0;
         }
-        let mut side = 0;
-        while side < 2 {
+        for side in 0..2 {
             let number = 2 * line + side;
             if makes(list, old, v, z, number) {
                 break 'search number;
             }
-            side += 1;
         }
         line += 1;
     };
     found
 }
 
-// One row back from the row behind the one at `before`: the value at p stood there already, or the number of a step that
-// makes it goes to the slot.
-fn move_back(list: &[i32], n: usize, work: &mut [i64], before: usize, p: usize, slot: usize) -> Move
+// One row back from the row behind the one at `before`: the value at p stood there already, or a step makes it, whose
+// number goes to the slot and is answered.
+fn move_back(
+    list: &[i32],
+    n: usize,
+    work: &mut [i64],
+    before: usize,
+    p: usize,
+    slot: usize,
+) -> Option<usize>
     requires { MoveOk n list.now work.old before p slot }
     ensures { Moved (2 * n) list.now work.old before p slot work.new result }
 {
@@ -96,20 +94,11 @@ fn move_back(list: &[i32], n: usize, work: &mut [i64], before: usize, p: usize, 
     let here = work[row + p];
     let there = work[before + p];
     if there == here {
-        return Move {
-            count: 0,
-            number: 0,
-            point: p,
-        };
+        return None;
     }
     let number = find_step(list, &work[before..row], p, here);
     work[slot] = number as i64;
-    let point = start_of(list, number);
-    Move {
-        count: 1,
-        number,
-        point,
-    }
+    Some(number)
 }
 
 // Reads back a walk from u to v of at most top steps, whose sum is the entry at v of row top, from rows 0 to top of u at
@@ -128,16 +117,13 @@ pub fn walk_back(
     ensures { Walked n list.now u work.old top v at work.new result }
 {
     let size = 2 * n;
-    let mut k = top;
-    let mut before = top * size;
     let mut slot = at + top;
-    let mut p = v;
-    while 0 < k {
-        k -= 1;
-        before -= size;
-        let m = move_back(list, n, work, before, p, slot - 1);
-        slot -= m.count;
-        p = m.point;
+    let mut point = v;
+    for k in (0..top).rev() {
+        if let Some(number) = move_back(list, n, work, k * size, point, slot - 1) {
+            slot -= 1;
+            point = start_of(list, number);
+        }
     }
     at + top - slot
 }

@@ -10,7 +10,7 @@ ghost use Rattle.decide_written_walks.specs.Shortest.{WalkReady, WalkFound};
 ghost use Rattle.decide_written_walks.specs.Written.{WriteReady, WalkWritten};
 ghost use Rattle.decide_written_walks.specs.Refutation.{ClosedReady, HalvesReady, RefutationWritten};
 
-use check_refutation::HEAD_SIZE;
+use check_refutation::{CLOSED, FALSE_LINE, HEAD_SIZE, THERE_AND_BACK};
 use decide_rows::rows;
 use decide_walkback::walk_back;
 use steps::opposite_of;
@@ -20,10 +20,8 @@ pub fn copy_numbers(work: &[i64], from: usize, count: usize, refutation: &mut [u
     requires { (from + count ≤ length work.now) × (to + count ≤ length refutation.old) × StepNumbers work.now from count }
     ensures { refutation.new ≡ copied_to refutation.old to work.now from count }
 {
-    let mut i = 0;
-    while i < count {
+    for i in 0..count {
         refutation[to + i] = work[from + i] as u32;
-        i += 1;
     }
 }
 
@@ -42,7 +40,7 @@ pub fn write_false(refutation: &mut [u32], line: usize)
     requires { (head_size < length refutation.old) × (line < work_lines) }
     ensures { refutation.new ≡ 3 ∷ 1 ∷ 0 ∷ 2 * line ∷ drop (head_size + 1) refutation.old }
 {
-    write_head(refutation, 3, 1, 0);
+    write_head(refutation, FALSE_LINE as u32, 1, 0);
     refutation[HEAD_SIZE] = (2 * line) as u32;
 }
 
@@ -84,7 +82,7 @@ pub fn write_closed(list: &[i32], n: usize, u: usize, refutation: &mut [u32], wo
     ensures { RefutationWritten n list.now 1 refutation.old work.old refutation.new work.new }
 {
     let count = write_walk(list, n, u, u, refutation, HEAD_SIZE, work);
-    write_head(refutation, 1, count, 0);
+    write_head(refutation, CLOSED as u32, count, 0);
 }
 
 // A refutation of kind 2: a walk from p to its opposite, and one back.
@@ -95,5 +93,5 @@ pub fn write_halves(list: &[i32], n: usize, p: usize, refutation: &mut [u32], wo
     let q = opposite_of(p);
     let first = write_walk(list, n, p, q, refutation, HEAD_SIZE, work);
     let second = write_walk(list, n, q, p, refutation, HEAD_SIZE + first, work);
-    write_head(refutation, 2, first, second);
+    write_head(refutation, THERE_AND_BACK as u32, first, second);
 }

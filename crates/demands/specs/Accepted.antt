@@ -1,5 +1,5 @@
 -- What the checkers accept has numbers that fit, so on its bytes the exported checks return 0.
-use Rattle.std.specs.Prelude.{◌≡◌, List, [], ◌∷◌, ◌++◌, ℕ, ◌≤◌, ℤ, pos, length}
+use Rattle.std.specs.Prelude.{◌≡◌, List, [], ◌∷◌, ◌++◌, ℕ, ◌≤◌, ℤ, pos, length, Ok}
 use Rattle.std.proofs.Common.{sym, ap, subst, ◌∙◌, arith, length-append}
 use Rattle.lines.specs.declared.Line.{Line}
 use Rattle.lines.specs.Limits.{work_lines, max_refutation}
@@ -50,21 +50,21 @@ refutes_words L R h l (kind_2 c) =
     (omega arith, (omega arith, (omega arith, words_append c.numbers c.more (names_words L c.numbers c.there.steps h c.there.named) (names_words L c.more c.back.steps h c.back.named))))
 refutes_words L R h l (kind_3 c) = let f = c.false_step in subst Words (sym c.is) (omega arith, (omega arith, (omega arith, (omega (arith, f.is, f.within), tt))))
 
-pub accepted_words : (n : ℕ) (L : List ℤ) (R : List ℕ) → refutation_answer n L R ≡ Yes → Words R
+pub accepted_words : (n : ℕ) (L : List ℤ) (R : List ℕ) → refutation_answer n L R ≡ Ok Yes → Words R
 accepted_words n L R e = let a = (accepted_when n L R).0 e in refutes_words L R (omega (arith, (valid_list n L a.0).count)) a.1 a.2
 
 -- ---- so on the bytes of what is accepted, 0 is returned
-pub accepted_refutation : (n : ℕ) (L : List ℤ) (R : List ℕ) → refutation_answer n L R ≡ Yes → check_refutation_lem n (int32_bytes L) (nat32_bytes R) ≡ pos 0
+pub accepted_refutation : (n : ℕ) (L : List ℤ) (R : List ℕ) → refutation_answer n L R ≡ Ok Yes → check_refutation_lem n (int32_bytes L) (nat32_bytes R) ≡ pos 0
 accepted_refutation n L R e = ap check_code_lem (refutation_in_bytes n L (numbers_fit n L ((accepted_when n L R).0 e).0) R (accepted_words n L R e) ∙ e)
 
-pub accepted_model : (n : ℕ) (L m : List ℤ) → model_answer n L m ≡ Yes → check_model_lem n (int32_bytes L) (int64_bytes m) ≡ pos 0
+pub accepted_model : (n : ℕ) (L m : List ℤ) → model_answer n L m ≡ Ok Yes → check_model_lem n (int32_bytes L) (int64_bytes m) ≡ pos 0
 unfolding model_validity_lem
 accepted_model n L m e =
     let v = ((yes_exactly n L m).0 e).0 in
     let values = (valid_model n L m v).values in
     ap check_code_lem (model_in_bytes n L (numbers_fit n L (or_valid (validity_of n L) _ v).0) m (λ i. value_fits _ (values i)) ∙ e)
 
-pub accepted_showing : (n : ℕ) (L : List ℤ) (l : Line) (R : List ℕ) → shown_answer n L l R ≡ Yes → check_shown_lem n (int32_bytes L) (int32_bytes (line_numbers_lem l)) (nat32_bytes R) ≡ pos 0
+pub accepted_showing : (n : ℕ) (L : List ℤ) (l : Line) (R : List ℕ) → shown_answer n L l R ≡ Ok Yes → check_shown_lem n (int32_bytes L) (int32_bytes (line_numbers_lem l)) (nat32_bytes R) ≡ pos 0
 accepted_showing n L l R e =
     let a = (shown_yes n L l R).0 e in
     let o = list_ok n L l a.asked in

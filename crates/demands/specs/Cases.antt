@@ -1,8 +1,7 @@
 -- The specification's starred cases, 1 to 10, as one table with one statement over it: what every call on such a list answers and leaves, proved by
 -- computing the definitions.
-use Rattle.std.specs.Prelude.{◌≡◌, refl, true, false, List, [], ◌∷◌, ◌++◌, ℕ, ◌*◌, ◌≤◌, ℤ, pos, neg_ℤ, length, take, drop, replicate}
+use Rattle.std.specs.Prelude.{◌≡◌, refl, true, false, List, [], ◌∷◌, ◌++◌, ℕ, ◌*◌, ◌≤◌, ℤ, pos, neg_ℤ, length, take, drop, replicate, Ok}
 use Rattle.std.proofs.Common.{ap, ◌∙◌, arith}
-use Rattle.lines.specs.declared.Validity.TheVariants.{Valid}
 use Rattle.lines.specs.Line.{line_at, lines_of, is_false_lem}
 use Rattle.lines.specs.Refusal.{line_tests, lines_validity_lem, validity_of}
 use Rattle.steps.specs.declared.Step.{Step}
@@ -57,7 +56,7 @@ WalkSums L R (S ∷ T ∷ zs) = SumsTo L (take (first_count R) (drop head_size R
 -- refutation named is one that it allows
 abbrev pub Gives : (n : ℕ) (L : List ℤ) → Call n L → Expected → Type 0
 Gives n L c (on_yes m b g) =
-    (c.answer ≡ Yes)
+    (c.answer ≡ Ok Yes)
     × (c.after
     ≡ record {
       model = m ++ drop (model_room_lem n) c.before.model;
@@ -67,11 +66,11 @@ Gives n L c (on_yes m b g) =
       identifiers = c.before.identifiers;
       work = replicate (work_room_lem n) (pos 0) ++ drop (work_room_lem n) c.before.work;
     })
-Gives n L c (on_no R sums) = (c.answer ≡ No) × OnNo n L c.before c.after × Due n L R × WalkSums L R sums
+Gives n L c (on_no R sums) = (c.answer ≡ Ok No) × OnNo n L c.before c.after × Due n L R × WalkSums L R sums
 
 -- the list is valid for its n, and every call gives what is expected
 abbrev pub Holds : Case → Type 0
-Holds c = (validity_of c.n c.list ≡ Valid) × ((k : Call c.n c.list) → Gives c.n c.list k c.expected)
+Holds c = (validity_of c.n c.list ≡ Ok tt) × ((k : Call c.n c.list) → Gives c.n c.list k c.expected)
 
 abbrev pub AllHold : List Case → Type 0
 AllHold [] = Unit {0}
@@ -188,7 +187,7 @@ gives_yes : (n : ℕ) (L m bs : List ℤ) (g : List ℕ) → verdict_of n (lines
 gives_yes n L m bs g v e f h c = let y = verdict_yes c v in (y, leaves_yes (call-on-yes c y) m bs g e f h)
 
 -- on a no: the refutation is accepted, of the due kind, and short
-due_here : (n : ℕ) (L : List ℤ) (R : List ℕ) → refutation_answer n L R ≡ accepted-yes → kind_of R ≡ due_kind n (lines_of L)
+due_here : (n : ℕ) (L : List ℤ) (R : List ℕ) → refutation_answer n L R ≡ Ok accepted-yes → kind_of R ≡ due_kind n (lines_of L)
     → (due_kind n (lines_of L) ≡ 3 → R ≡ 3 ∷ 1 ∷ 0 ∷ 2 * first_false_lem 0 (lines_of L) ∷ []) → ((due_kind n (lines_of L) ≡ 3 → ⊥) → steps_in R ≤ 4 * n) → length R ≤ refutation_room_lem n → Due n L R
 due_here n L R e k l f s = record { refutes = ((accepted_when n L R).0 e).2; kind = k; lowest = l; few = f; size = s }
 

@@ -14,14 +14,13 @@
 -- `check_model_lem`, `check_refutation_lem`, `refutation_begin`, `refutation_take`, `refutation_end` and `shorter_returned`, and `report_input`, which the program calls,
 -- promises `InputReported` (file_report/specs/Input.antt). src/lib.rt calls both checkers and `shorter` on buffers that could be written, and proves that
 -- every buffer is left as it was.
-use Rattle.std.specs.Prelude.{◌≡◌, refl, ◌⊎◌, ◌↔◌, Bool, true, false, cond, List, [], ◌∷◌, ◌++◌, ℕ, ◌+◌, ◌*◌, ◌/◌, ◌%◌, ◌<◌, ◌≤◌, ℤ, pos, nat_abs, length, drop, get_or}
+use Rattle.std.specs.Prelude.{◌≡◌, refl, ◌⊎◌, ◌↔◌, Bool, true, false, cond, List, [], ◌∷◌, ◌++◌, ℕ, ◌+◌, ◌*◌, ◌/◌, ◌%◌, ◌<◌, ◌≤◌, ℤ, pos, nat_abs, length, drop, get_or, Err, Ok, Result}
 use Rattle.std.proofs.Common.{sym, ap, subst, ◌∙◌}
 use mathlib.Core.Logic.Iff
 use Rattle.integers.specs.Integer.{◌⩽◌}
 use Rattle.integers.specs.Laws.{never}
 use Rattle.lines.specs.declared.Refusal.{Refusal}
 use Rattle.lines.specs.declared.Refusal.TheVariants.{MisplacedCoefficient}
-use Rattle.lines.specs.declared.Validity.TheVariants.{Valid, Refused}
 use Rattle.lines.specs.Limits.{line_size, max_refutation, max_identifier}
 use Rattle.lines.specs.Line.{Assignment, Solves, Solvable, SameSolutions, line_at, line_count, lines_of, assignment_of, is_false_lem, number}
 use Rattle.lines.specs.Refusal.{line_tests, lines_validity_lem, validity_of}
@@ -71,11 +70,11 @@ use Rattle.demands.specs.Refused.{table_refuses, table_valid, table_passes, list
 
 -- A list is valid for its n if no refusal of the list itself applies.
 abbrev pub ValidFor : ℕ → List ℤ → Type 0
-ValidFor n L = validity_of n L ≡ Valid
+ValidFor n L = validity_of n L ≡ Ok tt
 
 -- A refutation is accepted against a list if the refutation checker, given that list and its n, says yes.
 abbrev pub Accepted : ℕ → List ℤ → List ℕ → Type 0
-Accepted n L R = refutation_answer n L R ≡ Yes
+Accepted n L R = refutation_answer n L R ≡ Ok Yes
 
 -- ---- demand 1: any list gets an answer or a numbered refusal, and a refusal changes no lent buffer
 
@@ -93,13 +92,13 @@ pub valid_exactly_if : (n : ℕ) (L : List ℤ) → ValidFor n L ↔ NoneApplies
 valid_exactly_if n L = list_valid n L
 
 -- Of a call of `decide`: it answers by the first refusal that applies, and by yes or no exactly if none does. That it ends is part of every promise.
-pub refused_exactly_if : (n : ℕ) (L : List ℤ) (answer : Answer) (before after : Lent) → Decided n L answer before after
-    → (r : Refusal) → (answer ≡ decide.Refused r) ↔ FirstApplies (refusal_table (deciding n L before)) r
+pub refused_exactly_if : (n : ℕ) (L : List ℤ) (answer : Result Answer Refusal) (before after : Lent) → Decided n L answer before after
+    → (r : Refusal) → (answer ≡ Err r) ↔ FirstApplies (refusal_table (deciding n L before)) r
 refused_exactly_if n L answer before after d r =
     let t = table_refuses (deciding n L before) r in ((λ e. t.0 (sym d.is ∙ e)), (λ f. d.is ∙ t.1 f))
 
 -- A refusal leaves every lent buffer as it was.
-pub refusal_changes_nothing : (n : ℕ) (L : List ℤ) (r : Refusal) (before after : Lent) → Decided n L (decide.Refused r) before after → after ≡ before
+pub refusal_changes_nothing : (n : ℕ) (L : List ℤ) (r : Refusal) (before after : Lent) → Decided n L (Err r) before after → after ≡ before
 refusal_changes_nothing n L r before after d = d.leaves
 
 -- No number of a variable is masked or folded: where a line is not refused, a variable with a coefficient is named by its own number, below n.
@@ -118,23 +117,23 @@ calls_exist n L before ok = a_call n L before ok
 -- ---- demand 2: the answer is yes exactly if whole numbers exist that meet every line
 
 pub record RightAnswer {e : Engine} (n : ℕ) (L : List ℤ) (c : CallOf e n L) : Type 0 where
-  pub yes_exactly : (c.answer ≡ decide.Yes) ↔ Solvable (lines_of L)
-  pub no_exactly : (c.answer ≡ decide.No) ↔ (Solvable (lines_of L) → ⊥)
+  pub yes_exactly : (c.answer ≡ Ok decide.Yes) ↔ Solvable (lines_of L)
+  pub no_exactly : (c.answer ≡ Ok decide.No) ↔ (Solvable (lines_of L) → ⊥)
   -- On a yes the one model, the tightest bounds and the groups are written; what lies beyond them, and the refutation, is untouched.
-  pub written : c.answer ≡ decide.Yes → Written n (lines_of L) (model_in_lem n c.after) (bounds_in n c.after) (groups_in n c.after)
+  pub written : c.answer ≡ Ok decide.Yes → Written n (lines_of L) (model_in_lem n c.after) (bounds_in n c.after) (groups_in n c.after)
   -- A bound's number is the absent one exactly if there is no bound.
-  pub least_absent_exactly : c.answer ≡ decide.Yes → (x : ℕ) → x < n → (get_or (bounds_in n c.after) (2 * x) (pos 0) ≡ absent_least) ↔ NoLeast (lines_of L) x
-  pub greatest_absent_exactly : c.answer ≡ decide.Yes → (x : ℕ) → x < n → (get_or (bounds_in n c.after) (2 * x + 1) (pos 0) ≡ absent_greatest) ↔ NoGreatest (lines_of L) (value_of x)
+  pub least_absent_exactly : c.answer ≡ Ok decide.Yes → (x : ℕ) → x < n → (get_or (bounds_in n c.after) (2 * x) (pos 0) ≡ absent_least) ↔ NoLeast (lines_of L) x
+  pub greatest_absent_exactly : c.answer ≡ Ok decide.Yes → (x : ℕ) → x < n → (get_or (bounds_in n c.after) (2 * x + 1) (pos 0) ≡ absent_greatest) ↔ NoGreatest (lines_of L) (value_of x)
   -- A yes is shown too: the model checker accepts the model, its limits included.
-  pub yes_is_shown : c.answer ≡ decide.Yes → model_answer n L (model_in_lem n c.after) ≡ Yes
+  pub yes_is_shown : c.answer ≡ Ok decide.Yes → model_answer n L (model_in_lem n c.after) ≡ Ok Yes
   pub beyond_model : drop (model_room_lem n) c.after.model ≡ drop (model_room_lem n) c.before.model
   pub beyond_bounds : drop (bounds_room_lem n) c.after.bounds ≡ drop (bounds_room_lem n) c.before.bounds
   pub beyond_groups : drop (groups_room_lem n) c.after.groups ≡ drop (groups_room_lem n) c.before.groups
-  pub no_refutation : c.answer ≡ decide.Yes → (c.after.refutation ≡ c.before.refutation) × (c.after.identifiers ≡ c.before.identifiers)
+  pub no_refutation : c.answer ≡ Ok decide.Yes → (c.after.refutation ≡ c.before.refutation) × (c.after.identifiers ≡ c.before.identifiers)
   -- On a no the refutation and the identifiers of its steps are written and nothing else, and only as many numbers as they have.
-  pub no_model : c.answer ≡ decide.No → (c.after.model ≡ c.before.model) × (c.after.bounds ≡ c.before.bounds) × (c.after.groups ≡ c.before.groups)
-  pub refutation_only : c.answer ≡ decide.No → c.after.refutation ≡ refutation_in c.after ++ drop (length (refutation_in c.after)) c.before.refutation
-  pub identifiers_only : c.answer ≡ decide.No → c.after.identifiers ≡ identifiers_in c.after ++ drop (length (identifiers_in c.after)) c.before.identifiers
+  pub no_model : c.answer ≡ Ok decide.No → (c.after.model ≡ c.before.model) × (c.after.bounds ≡ c.before.bounds) × (c.after.groups ≡ c.before.groups)
+  pub refutation_only : c.answer ≡ Ok decide.No → c.after.refutation ≡ refutation_in c.after ++ drop (length (refutation_in c.after)) c.before.refutation
+  pub identifiers_only : c.answer ≡ Ok decide.No → c.after.identifiers ≡ identifiers_in c.after ++ drop (length (identifiers_in c.after)) c.before.identifiers
   -- The named part of the work area is all zeros, and the rest is untouched.
   pub work : c.after.work ≡ cleared_to (room_of e n) c.before.work
 
@@ -195,24 +194,24 @@ pub record GoOnSharing (K : List ℤ) (before after : List ℕ) (x y : ℕ) : Ty
 -- One claim over any two calls that were not refused, each of either engine, on a list and on one that begins with all its lines.
 pub record NothingUnlearned {e f : Engine} (n : ℕ) (L M : List ℤ) (c : CallOf e n L) (d : CallOf f n (L ++ M)) : Type 0 where
   -- A no hands over a refutation of the due kind, and the checker accepts it.
-  pub shown : c.answer ≡ decide.No → ShowsNo n L (refutation_in c.after)
+  pub shown : c.answer ≡ Ok decide.No → ShowsNo n L (refutation_in c.after)
   -- The answer is no exactly if the checker accepts some refutation, whoever proposed it.
-  pub no_exactly_if_refuted : (c.answer ≡ decide.No) ↔ ((R : List ℕ) × Accepted n L R)
+  pub no_exactly_if_refuted : (c.answer ≡ Ok decide.No) ↔ ((R : List ℕ) × Accepted n L R)
   -- Accepted refutations stay accepted, unchanged.
   pub accepted_stays : (R : List ℕ) → Accepted n L R → Accepted n (L ++ M) R
   -- A no stays a no; and if the longer is a yes, so is the shorter.
-  pub no_stays_no : c.answer ≡ decide.No → d.answer ≡ decide.No
-  pub yes_was_yes : d.answer ≡ decide.Yes → c.answer ≡ decide.Yes
+  pub no_stays_no : c.answer ≡ Ok decide.No → d.answer ≡ Ok decide.No
+  pub yes_was_yes : d.answer ≡ Ok decide.Yes → c.answer ≡ Ok decide.Yes
   -- Where both are a yes: least values stay or rise and greatest stay or fall, as the numbers written, absent ones included.
-  pub least : c.answer ≡ decide.Yes → d.answer ≡ decide.Yes → (x : ℕ) → x < n
+  pub least : c.answer ≡ Ok decide.Yes → d.answer ≡ Ok decide.Yes → (x : ℕ) → x < n
       → get_or (bounds_in n c.after) (2 * x) (pos 0) ⩽ get_or (bounds_in n d.after) (2 * x) (pos 0)
-  pub greatest : c.answer ≡ decide.Yes → d.answer ≡ decide.Yes → (x : ℕ) → x < n
+  pub greatest : c.answer ≡ Ok decide.Yes → d.answer ≡ Ok decide.Yes → (x : ℕ) → x < n
       → get_or (bounds_in n d.after) (2 * x + 1) (pos 0) ⩽ get_or (bounds_in n c.after) (2 * x + 1) (pos 0)
   -- Two events in one group stay in one group, equal ones equal and mirrored ones mirrored.
-  pub groups : c.answer ≡ decide.Yes → d.answer ≡ decide.Yes → (x y : ℕ) → x < n → y < n
+  pub groups : c.answer ≡ Ok decide.Yes → d.answer ≡ Ok decide.Yes → (x y : ℕ) → x < n → y < n
       → SameVariable (groups_in n c.after) x y → GoOnSharing (L ++ M) (groups_in n c.after) (groups_in n d.after) x y
   -- The model is the same exactly if the shorter list's model meets every added line.
-  pub model : c.answer ≡ decide.Yes → d.answer ≡ decide.Yes
+  pub model : c.answer ≡ Ok decide.Yes → d.answer ≡ Ok decide.Yes
       → (model_in_lem n d.after ≡ model_in_lem n c.after) ↔ Solves (lines_of M) (assignment_of (model_in_lem n c.after))
 
 pub nothing_unlearned : {e f : Engine} (n : ℕ) (L M : List ℤ) (c : CallOf e n L) (d : CallOf f n (L ++ M)) → NothingUnlearned n L M c d
@@ -245,16 +244,16 @@ nothing_unlearned n L M c d =
           ((λ e. ((solves_both L M whole _).0 (k.0 e)).1), (λ s. k.1 ((solves_both L M whole _).1 (w.model_is.solves, s))));
     }
   where
-    shown : c.answer ≡ decide.No → ShowsNo n L (refutation_in c.after)
+    shown : c.answer ≡ Ok decide.No → ShowsNo n L (refutation_in c.after)
     shown e = shows_no n L (refutation_in c.after) (call_valid c) (call_due c e)
 
 -- Answers depend on the solutions alone: two lists with the same solutions have the same verdict, model, bounds and groups, whatever stood in the buffers
 -- and whichever engine was asked.
 pub record SameAnswers {e f : Engine} (n : ℕ) (L M : List ℤ) (c : CallOf e n L) (d : CallOf f n M) : Type 0 where
   pub answer : c.answer ≡ d.answer
-  pub model : c.answer ≡ decide.Yes → model_in_lem n c.after ≡ model_in_lem n d.after
-  pub bounds : c.answer ≡ decide.Yes → bounds_in n c.after ≡ bounds_in n d.after
-  pub groups : c.answer ≡ decide.Yes → groups_in n c.after ≡ groups_in n d.after
+  pub model : c.answer ≡ Ok decide.Yes → model_in_lem n c.after ≡ model_in_lem n d.after
+  pub bounds : c.answer ≡ Ok decide.Yes → bounds_in n c.after ≡ bounds_in n d.after
+  pub groups : c.answer ≡ Ok decide.Yes → groups_in n c.after ≡ groups_in n d.after
 
 pub answers_by_solutions_alone : {e f : Engine} (n : ℕ) (L M : List ℤ) (c : CallOf e n L) (d : CallOf f n M) → SameSolutions (lines_of L) (lines_of M) → SameAnswers n L M c d
 answers_by_solutions_alone n L M c d same =
@@ -275,7 +274,7 @@ answers_by_solutions_alone n L M c d same =
         go true e = verdict_yes c e ∙ sym (verdict_yes d (sym verdicts ∙ e))
         go false e = verdict_no c e ∙ sym (verdict_no d (sym verdicts ∙ e))
 
-    written : c.answer ≡ decide.Yes → (model_of n (lines_of L) ≡ model_of n (lines_of M)) × (bounds_of n (lines_of L) ≡ bounds_of n (lines_of M)) × (groups_of n (lines_of L) ≡ groups_of n (lines_of M))
+    written : c.answer ≡ Ok decide.Yes → (model_of n (lines_of L) ≡ model_of n (lines_of M)) × (bounds_of n (lines_of L) ≡ bounds_of n (lines_of M)) × (groups_of n (lines_of L) ≡ groups_of n (lines_of M))
     written e = same_written n L M (workable n L (call_valid c)) (workable n M (call_valid d)) same (call_yes c e)
 
 -- ---- what the answers mean
@@ -303,7 +302,7 @@ pub record GroupsTell {e : Engine} (n : ℕ) (L : List ℤ) (c : CallOf e n L) (
   pub mirrored : ((SameVariable (groups_in n c.after) x y × (SameSign (groups_in n c.after) x y → ⊥)) ⊎ (AlwaysZero (lines_of L) x × AlwaysZero (lines_of L) y))
       ↔ Mirrored (lines_of L) x y
 
-pub groups_tell : {e : Engine} (n : ℕ) (L : List ℤ) (c : CallOf e n L) → c.answer ≡ decide.Yes → (x y : ℕ) → x < n → y < n → GroupsTell n L c x y
+pub groups_tell : {e : Engine} (n : ℕ) (L : List ℤ) (c : CallOf e n L) → c.answer ≡ Ok decide.Yes → (x y : ℕ) → x < n → y < n → GroupsTell n L c x y
 groups_tell n L c e x y h k =
     let w = call_written c e in
     record {
@@ -361,7 +360,7 @@ accepted_stays_accepted n L M R = answers_longer n L M R
 -- bad counts 1, a total length that disagrees with the counts 2; then, in reading order, the first step number that names no step or doesn't join, or the
 -- last step of a walk that ends wrong; last, sums that aren't low enough give the index of the last number. In kind 3 a wrong step number is index 3. Fewer
 -- than three numbers gives index 0.
-pub no_exactly_where_it_breaks : (n : ℕ) (L : List ℤ) (R : List ℕ) (k : ℕ) → (refutation_answer n L R ≡ No k) ↔ (ValidFor n L × (length R ≤ max_refutation) × BreaksAt L R k)
+pub no_exactly_where_it_breaks : (n : ℕ) (L : List ℤ) (R : List ℕ) (k : ℕ) → (refutation_answer n L R ≡ Ok (No k)) ↔ (ValidFor n L × (length R ≤ max_refutation) × BreaksAt L R k)
 no_exactly_where_it_breaks n L R k = no_exactly_where n L R k
 
 -- What is of none of the three kinds breaks somewhere, and nothing else does.
@@ -388,7 +387,7 @@ pub record EachIdentifier (L : List ℤ) (R I : List ℕ) : Type 0 where
   pub each : (i : ℕ) → i < steps_in R → pos (get_or I i 0) ≡ (line_at L (step_at R i / 2)).identifier
 
 -- Nothing falls out: so it is of every no.
-pub identifiers_come_back : {e : Engine} (n : ℕ) (L : List ℤ) (c : CallOf e n L) → c.answer ≡ decide.No → EachIdentifier L (refutation_in c.after) (identifiers_in c.after)
+pub identifiers_come_back : {e : Engine} (n : ℕ) (L : List ℤ) (c : CallOf e n L) → c.answer ≡ Ok decide.No → EachIdentifier L (refutation_in c.after) (identifiers_in c.after)
 identifiers_come_back n L c e =
     let R = refutation_in c.after in
     rw (call_identifiers c e)
@@ -398,16 +397,16 @@ identifiers_come_back n L c e =
 -- gives every refutation the same answer against both.
 pub record NothingElseChanges {e f : Engine} (n : ℕ) (L M : List ℤ) (c : CallOf e n L) (d : CallOf f n M) : Type 0 where
   pub same_answer : c.answer ≡ d.answer
-  pub same_model : c.answer ≡ decide.Yes → model_in_lem n c.after ≡ model_in_lem n d.after
-  pub same_bounds : c.answer ≡ decide.Yes → bounds_in n c.after ≡ bounds_in n d.after
-  pub same_groups : c.answer ≡ decide.Yes → groups_in n c.after ≡ groups_in n d.after
-  pub same_kind : c.answer ≡ decide.No → kind_of (refutation_in c.after) ≡ kind_of (refutation_in d.after)
+  pub same_model : c.answer ≡ Ok decide.Yes → model_in_lem n c.after ≡ model_in_lem n d.after
+  pub same_bounds : c.answer ≡ Ok decide.Yes → bounds_in n c.after ≡ bounds_in n d.after
+  pub same_groups : c.answer ≡ Ok decide.Yes → groups_in n c.after ≡ groups_in n d.after
+  pub same_kind : c.answer ≡ Ok decide.No → kind_of (refutation_in c.after) ≡ kind_of (refutation_in d.after)
   pub checked_alike : (R : List ℕ) → refutation_answer n L R ≡ refutation_answer n M R
 
 pub identifiers_change_nothing : {e f : Engine} (n : ℕ) (L M : List ℤ) → OnlyIdentifiers L M → (c : CallOf e n L) (d : CallOf f n M) → NothingElseChanges n L M c d
 identifiers_change_nothing n L M o c d =
     let s = lines_same L M o in
-    let same = call_answer c ∙ ap (λ (t : Bool). cond t decide.Yes decide.No) (same-verdict-bare n (lines_of L) (lines_of M) s) ∙ sym (call_answer d) in
+    let same = call_answer c ∙ ap (λ (t : Bool). cond t (Ok decide.Yes) (Ok decide.No)) (same-verdict-bare n (lines_of L) (lines_of M) s) ∙ sym (call_answer d) in
     record {
       same_answer = same;
       same_model = λ e. model_in (on_yes c e) ∙ same_model n (lines_of L) (lines_of M) s ∙ sym (model_in (on_yes d (sym same ∙ e)));
@@ -433,7 +432,7 @@ lone_first = pos 1 ∷ pos 0 ∷ pos 0 ∷ pos 0 ∷ pos 5 ∷ pos 0 ∷ []
 abbrev pub lone_second : List ℤ
 lone_second = pos 0 ∷ pos 0 ∷ pos 1 ∷ pos 0 ∷ pos 5 ∷ pos 0 ∷ []
 
-pub second_place_is_refused : (terms_of (line_at lone_first 0) ≡ terms_of (line_at lone_second 0)) × ValidFor 1 lone_first × (validity_of 1 lone_second ≡ Refused (MisplacedCoefficient 0))
+pub second_place_is_refused : (terms_of (line_at lone_first 0) ≡ terms_of (line_at lone_second 0)) × ValidFor 1 lone_first × (validity_of 1 lone_second ≡ Err (MisplacedCoefficient 0))
 unfolding validity_of lines_validity_lem line_tests line_at terms_of
 second_place_is_refused = (refl, refl, refl)
 
@@ -451,9 +450,9 @@ terms_in_either_order = (refl, refl, (λ e. let x : pos 0 ≡ pos 1 = ap (λ (L 
 -- ---- the model checker
 
 -- Yes: nothing is refused, and the values meet every line.
-pub model_yes : (n : ℕ) (L m : List ℤ) → (model_answer n L m ≡ Yes) ↔ (NoneApplies (refusal_table (checking_model n L m)) × Solves (lines_of L) (assignment_of m))
+pub model_yes : (n : ℕ) (L m : List ℤ) → (model_answer n L m ≡ Ok Yes) ↔ (NoneApplies (refusal_table (checking_model n L m)) × Solves (lines_of L) (assignment_of m))
 model_yes n L m = Iff.trans (yes_exactly n L m) (Iff.and (table_valid (checking_model n L m)) Iff.rfl)
 
 -- No: with the first line that fails, in list order.
-pub model_no : (n : ℕ) (L m : List ℤ) (k : ℕ) → (model_answer n L m ≡ No k) ↔ (NoneApplies (refusal_table (checking_model n L m)) × FirstFails L (assignment_of m) k)
+pub model_no : (n : ℕ) (L m : List ℤ) (k : ℕ) → (model_answer n L m ≡ Ok (No k)) ↔ (NoneApplies (refusal_table (checking_model n L m)) × FirstFails L (assignment_of m) k)
 model_no n L m k = Iff.trans (no_exactly n L m k) (Iff.and (table_valid (checking_model n L m)) Iff.rfl)

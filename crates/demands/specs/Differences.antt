@@ -5,15 +5,13 @@
 -- of lines does not matter (`order_does_not_matter`), values are small (`model_within`), and what C gets is a call (`returned_is_a_call`). Here is what is its
 -- own: what it refuses and takes, that it answers as the first engine does, and what holds of lists of differences. `decide_differences` promises
 -- `DifferencesDecided` (differences/specs/Decided.antt), an equation for every input; the exported function returns `DifferencesReturn`.
-use Rattle.std.specs.Prelude.{◌≡◌, refl, ◌↔◌, Bool, true, false, cond, List, ◌++◌, ℕ, zero, suc, ◌+◌, ◌*◌, ◌%◌, ◌<◌, ◌≤◌, eqb, ℤ, pos, length, get_or}
+use Rattle.std.specs.Prelude.{◌≡◌, refl, ◌↔◌, Bool, true, false, cond, List, ◌++◌, ℕ, zero, suc, ◌+◌, ◌*◌, ◌%◌, ◌<◌, ◌≤◌, eqb, ℤ, pos, length, get_or, Err, Ok, Result}
 use Rattle.std.proofs.Common.{sym, ap, subst, ◌∙◌, arith}
 use Rattle.integers.specs.Laws.{never}
 use Rattle.integers.specs.Table.{below_at, below_all}
 use Rattle.integers.specs.Lowest.{IsFirstFailing}
 use Rattle.lines.specs.declared.Refusal.{Refusal}
 use Rattle.lines.specs.declared.Refusal.TheVariants.{NotDifference}
-use Rattle.lines.specs.declared.Validity.{Validity}
-use Rattle.lines.specs.declared.Validity.TheVariants as validity
 use Rattle.lines.specs.Limits.{line_size, absent_least, absent_greatest}
 use Rattle.lines.specs.Line.{Solvable, line_at, line_count, lines_of}
 use Rattle.lines.specs.Refusal.{number_of, validity_of}
@@ -27,7 +25,8 @@ use Rattle.theory_differences.specs.Plain.{Differences, all_differences, is_diff
 use Rattle.theory_differences.specs.Answers.{verdict_plain, kind_plain}
 use Rattle.theory_differences.specs.Shift.{no_least, no_greatest, never_mirrored}
 use Rattle.theory_order.specs.Rearranged.{Rearranged, includes, turned_back, same_solutions, rearranged_valid}
-use Rattle.decide_buffers.specs.Room.{Lent, Lengths, lengths_of, lent_rooms_by, differences_work_room_lem, HaveRoom}
+use Rattle.decide_buffers.specs.declared.Lengths.{Lengths}
+use Rattle.decide_buffers.specs.Room.{Lent, lengths_of, lent_rooms_by, differences_work_room_lem, HaveRoom}
 use Rattle.decide.specs.declared.Answer.{Answer}
 use Rattle.decide.specs.declared.Answer.TheVariants as decide
 use Rattle.decide.specs.Decided.{unless_refused, judged}
@@ -59,13 +58,13 @@ told L e k h = (difference_test (line_at L k)).0 (below_at (line_count L) (λ k.
 -- ---- demand 1: what is refused
 
 -- It answers by the first refusal of its table that applies, and by yes or no exactly if none does.
-pub differences_refused_exactly_if : (n : ℕ) (L : List ℤ) (answer : Answer) (before after : Lent) → DifferencesDecided n L answer before after
-    → (r : Refusal) → (answer ≡ decide.Refused r) ↔ FirstApplies (refusal_table (deciding_differences n L before)) r
+pub differences_refused_exactly_if : (n : ℕ) (L : List ℤ) (answer : Result Answer Refusal) (before after : Lent) → DifferencesDecided n L answer before after
+    → (r : Refusal) → (answer ≡ Err r) ↔ FirstApplies (refusal_table (deciding_differences n L before)) r
 differences_refused_exactly_if n L answer before after d r =
     let t = table_refuses (deciding_differences n L before) r in ((λ e. t.0 (sym d.is ∙ e)), (λ f. d.is ∙ t.1 f))
 
 -- A refusal leaves every lent buffer as it was.
-pub differences_refusal_changes_nothing : (n : ℕ) (L : List ℤ) (r : Refusal) (before after : Lent) → DifferencesDecided n L (decide.Refused r) before after → after ≡ before
+pub differences_refusal_changes_nothing : (n : ℕ) (L : List ℤ) (r : Refusal) (before after : Lent) → DifferencesDecided n L (Err r) before after → after ≡ before
 differences_refusal_changes_nothing n L r before after d = d.leaves
 
 -- 60 at line k, said without the table: the list is valid, line k is no difference, and each line before it is one. So 60 goes after every line's rules and
@@ -87,22 +86,22 @@ list_not_sixty n L = (refl, (refl, (refl, each_from NotSixty 0 (line_count L) (�
 rooms_not_sixty : (n : ℕ) (s : Lengths) → EachRow NotSixty (rooms_table (lent_rooms_by differences_work_room_lem) n s)
 rooms_not_sixty n s = search
 
-pub sixty_exactly_if : (n : ℕ) (L : List ℤ) (lent : Lent) (k : ℕ) → (differences_answer_for n L lent ≡ decide.Refused (NotDifference k)) ↔ FirstOther n L k
+pub sixty_exactly_if : (n : ℕ) (L : List ℤ) (lent : Lent) (k : ℕ) → (differences_answer_for n L lent ≡ Err (NotDifference k)) ↔ FirstOther n L k
 sixty_exactly_if n L lent k = (
   (λ e. by_list ((differences_refused n L lent (NotDifference k)).0 e) (validity_of n L) refl),
   (λ f. (differences_refused n L lent (NotDifference k)).1 (sym (other_refused n L (lengths_of lent) f.valid k (is_first f (some_other f)) (some_other f)))),
 )
   where
-    same : (j : ℕ) → validity.Refused (NotDifference j) ≡ validity.Refused (NotDifference k) → j ≡ k
+    same : (j : ℕ) → ◌≡◌ {A = Result Unit Refusal} (Err (NotDifference j)) (Err (NotDifference k)) → j ≡ k
     same j e = cc
 
     not_sixty : NotSixty (NotDifference k) → FirstOther n L k
     not_sixty e = never (cc)
 
-    by_list : plain_validity_for n L lent ≡ validity.Refused (NotDifference k) → (v : Validity) → validity_of n L ≡ v → FirstOther n L k
-    by_list given (validity.Refused r) q =
+    by_list : plain_validity_for n L lent ≡ Err (NotDifference k) → (v : Result Unit Refusal) → validity_of n L ≡ v → FirstOther n L k
+    by_list given (Err r) q =
         not_sixty (given_row NotSixty (list_gives n L) (list_not_sixty n L) (NotDifference k) (q ∙ list_refused n L (lengths_of lent) r q ∙ given))
-    by_list given validity.Valid q = by_lines (all_differences L) refl
+    by_list given (Ok _) q = by_lines (all_differences L) refl
       where
         by_lines : (t : Bool) → all_differences L ≡ t → FirstOther n L k
         by_lines true a =
@@ -151,10 +150,10 @@ differences_calls_exist n L before v all rooms = (
   refl,
 )
   where
-    valid : plain_validity_for n L before ≡ validity.Valid
+    valid : plain_validity_for n L before ≡ Ok tt
     valid = ok_differences n L (lengths_of before) (record { list = v; all = computed L all; rooms = rooms })
 
-    never_refused : (r : Refusal) → differences_answer_for n L before ≡ decide.Refused r → ⊥
+    never_refused : (r : Refusal) → differences_answer_for n L before ≡ Err r → ⊥
     never_refused r e = never (cc (sym valid ∙ (differences_refused n L before r).0 e))
 
 -- ---- both engines
@@ -184,18 +183,18 @@ module _ (n : ℕ) (L : List ℤ) (all : AllDifferences L) where
   differences_never_mirrored s x y = never_mirrored (lines_of L) plain_lines s x y
 
   module _ {e : Engine} (c : CallOf e n L) where
-    solvable : c.answer ≡ decide.Yes → Solvable (lines_of L)
+    solvable : c.answer ≡ Ok decide.Yes → Solvable (lines_of L)
     solvable q = (right_answer n L c).yes_exactly.0 q
 
     -- So every bound that is written is the absent one, and every sign is plus.
-    pub no_bound_written : c.answer ≡ decide.Yes → (x : ℕ) → x < n
+    pub no_bound_written : c.answer ≡ Ok decide.Yes → (x : ℕ) → x < n
         → (get_or (bounds_in n c.after) (2 * x) (pos 0) ≡ absent_least) × (get_or (bounds_in n c.after) (2 * x + 1) (pos 0) ≡ absent_greatest)
     no_bound_written q x h =
         let r = right_answer n L c in
         let b = differences_have_no_bounds (solvable q) x in
         ((r.least_absent_exactly q x h).1 b.0, (r.greatest_absent_exactly q x h).1 b.1)
 
-    pub no_minus_written : c.answer ≡ decide.Yes → (x : ℕ) → x < n → group_sign (groups_in n c.after) x ≡ 0
+    pub no_minus_written : c.answer ≡ Ok decide.Yes → (x : ℕ) → x < n → group_sign (groups_in n c.after) x ≡ 0
     no_minus_written q x h = go _ _ ((call_written c q).group_is x h)
       where
         go : (r sign : ℕ) → IsGroup (lines_of L) x r sign → sign ≡ 0
@@ -204,7 +203,7 @@ module _ (n : ℕ) (L : List ℤ) (all : AllDifferences L) where
         go r (suc (suc sign)) g = absurd (omega (arith, g.a_sign))
 
     -- A no is of kind 1, has at most 4n steps, and is accepted.
-    pub no_is_a_closed_walk : c.answer ≡ decide.No → (kind_of (refutation_in c.after) ≡ 1) × (steps_in (refutation_in c.after) ≤ 4 * n) × Accepted n L (refutation_in c.after)
+    pub no_is_a_closed_walk : c.answer ≡ Ok decide.No → (kind_of (refutation_in c.after) ≡ 1) × (steps_in (refutation_in c.after) ≤ 4 * n) × Accepted n L (refutation_in c.after)
     no_is_a_closed_walk q =
         let ok = lines_ok n L (workable n L (call_valid c)) in
         let kind = kind_plain n (lines_of L) ok plain_lines (sym (verdict_plain n (lines_of L) ok plain_lines) ∙ call_no c q) in
@@ -229,12 +228,12 @@ differences_alike n L M v all whole p b =
     let rooms : plain_validity_for n L b ≡ plain_validity_for n M b = sym (rooms_left n L (lengths_of b) v (computed L all)) ∙ rooms_left n M (lengths_of b) w (computed M (rearranged_differences L M p all)) in
     let verdicts = same_verdict n L M (workable n L v) (workable n M w) (same_solutions (lines_of L) (lines_of M) p) in
     differences_judged n L b
-    ∙ ap (λ (u : Validity). judged u n L) rooms
-    ∙ ap (λ (t : Bool). unless_refused (plain_validity_for n M b) (cond t decide.Yes decide.No)) verdicts
+    ∙ ap (λ (u : Result Unit Refusal). judged u n L) rooms
+    ∙ ap (λ (t : Bool). unless_refused (plain_validity_for n M b) (cond t (Ok decide.Yes) (Ok decide.No))) verdicts
     ∙ sym (differences_judged n M b)
 
 pub differences_answered_or_refused_alike : (n : ℕ) (L M : List ℤ) → ValidFor n L → AllDifferences L → length M % line_size ≡ 0 → Rearranged (lines_of L) (lines_of M)
-    → (x y : Answer) (b a e : Lent) → DifferencesDecided n L x b a → DifferencesDecided n M y b e → x ≡ y
+    → (x y : Result Answer Refusal) (b a e : Lent) → DifferencesDecided n L x b a → DifferencesDecided n M y b e → x ≡ y
 differences_answered_or_refused_alike n L M v all whole p x y b a e c d = c.is ∙ differences_alike n L M v all whole p b ∙ sym d.is
 
 pub differences_returned_alike : (n : ℕ) (L M : List ℤ) → ValidFor n L → AllDifferences L → length M % line_size ≡ 0 → Rearranged (lines_of L) (lines_of M)

@@ -1,13 +1,12 @@
 -- Calls exist: every valid list, with buffers that have room, is answered by yes or no, whatever stood in the buffers.
-use Rattle.std.specs.Prelude.{◌≡◌, refl, Bool, true, false, cond, List, ℕ, ℤ}
+use Rattle.std.specs.Prelude.{◌≡◌, refl, Bool, true, false, cond, List, ℕ, ℤ, Err, Ok, Result}
 use Rattle.std.proofs.Common.{sym, ap, ◌∙◌}
 use Rattle.integers.specs.Laws.{never}
 use Rattle.lines.specs.declared.Refusal.{Refusal}
-use Rattle.lines.specs.declared.Validity.{Validity}
 use Rattle.lines.specs.Line.{lines_of}
 use Rattle.theory_bounds.specs.Verdict.{verdict_of}
 use Rattle.decide_buffers.specs.Room.{Lent}
-use Rattle.decide.specs.declared.Answer.TheVariants.{Yes, No, Refused}
+use Rattle.decide.specs.declared.Answer.TheVariants.{Yes, No}
 use Rattle.decide.specs.Decided.{unless_refused, decide_answer, DecideOk, ok_decide}
 use Rattle.demands.specs.Calls.{Call}
 use Rattle.demands.specs.RightVersion.{right, right_keeps}
@@ -21,10 +20,10 @@ call_from n L b ok =
       before = b;
       after = (right n L b).after;
       decided = right_keeps n L b;
-      not_refused = λ r e. go (verdict_of n (lines_of L)) r (sym (ap (λ (v : Validity). unless_refused v (cond (verdict_of n (lines_of L)) Yes No)) (ok_decide n L b ok)) ∙ sym (right_keeps n L b).is ∙ e);
+      not_refused = λ r e. go (verdict_of n (lines_of L)) r (sym (ap (λ (v : Result Unit Refusal). unless_refused v (cond (verdict_of n (lines_of L)) (Ok Yes) (Ok No))) (ok_decide n L b ok)) ∙ sym (right_keeps n L b).is ∙ e);
     }
   where
-    go : (t : Bool) (r : Refusal) → cond t Yes No ≡ Refused r → ⊥
+    go : (t : Bool) (r : Refusal) → cond t (Ok Yes) (Ok No) ≡ Err r → ⊥
     go true r e = never (cc)
     go false r e = never (cc)
 

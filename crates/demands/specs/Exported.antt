@@ -1,10 +1,9 @@
 -- What was demanded of the exported functions, in the words of docs/SPECIFICATION.md, each statement proved by citing the rest.
-use Rattle.std.specs.Prelude.{◌≡◌, refl, ◌↔◌, List, ℕ, ◌+◌, ◌*◌, ◌%◌, ◌<◌, ◌≤◌, ℤ, pos, neg_ℤ, length}
+use Rattle.std.specs.Prelude.{◌≡◌, refl, ◌↔◌, List, ℕ, ◌+◌, ◌*◌, ◌%◌, ◌<◌, ◌≤◌, ℤ, pos, neg_ℤ, length, Ok}
 use Rattle.std.proofs.Common.{ap, subst, ◌∙◌, arith, SFits}
 use mathlib.Core.Logic.Iff
 use Rattle.integers.specs.Integer.{◌⩽◌, ◌⋖◌}
 use Rattle.lines.specs.declared.Refusal.{Refusal}
-use Rattle.lines.specs.declared.Validity.TheVariants.{Valid}
 use Rattle.lines.specs.Limits.{max_refutation}
 use Rattle.lines.specs.Line.{Solvable, lines_of, assignment_of, number}
 use Rattle.lines.specs.Refusal.{validity_of, number_of, place_of}
@@ -63,10 +62,10 @@ returned_no_is_shown_in_pieces e n L b a d =
     each_answered n L (refutation_in a) (accepted_words n L (refutation_in a) s) ∙ ap check_code_lem s
 
 -- After a yes, the model checker says yes to the model that was left.
-pub left_model_is_accepted : (e : Engine) (n : ℕ) (L : List ℤ) (b a : Lent) → ReturnsBy e n L (pos 0) b a → model_answer n L (model_in_lem n a) ≡ Yes
+pub left_model_is_accepted : (e : Engine) (n : ℕ) (L : List ℤ) (b a : Lent) → ReturnsBy e n L (pos 0) b a → model_answer n L (model_in_lem n a) ≡ Ok Yes
 left_model_is_accepted e n L b a d =
     let c = returned_call e n L _ b a d (omega arith) in
-    subst (λ (x : Lent). model_answer n L (model_in_lem n x) ≡ Yes) c.after ((right_answer n L c.call).yes_is_shown (c.yes.1 refl))
+    subst (λ (x : Lent). model_answer n L (model_in_lem n x) ≡ Ok Yes) c.after ((right_answer n L c.call).yes_is_shown (c.yes.1 refl))
 
 -- So the exported check of the list and of that model, each as its bytes, returns 0.
 pub returned_yes_is_shown : (e : Engine) (n : ℕ) (L : List ℤ) (b a : Lent) → ReturnsBy e n L (pos 0) b a → check_model_lem n (int32_bytes L) (int64_bytes (model_in_lem n a)) ≡ pos 0
@@ -85,7 +84,7 @@ pub model_bytes_as_numbers : (n : ℕ) (L m : List ℤ) → ((i : ℕ) → SFits
 model_bytes_as_numbers n L m f = model_in_bytes n L f m
 
 -- A valid list has such numbers: its bytes are those of a valid list, and it is read from them.
-pub valid_list_in_bytes : (n : ℕ) (L : List ℤ) → ValidFor n L → (bytes_validity n (int32_bytes L) ≡ Valid) × (int32s (int32_bytes L) ≡ L)
+pub valid_list_in_bytes : (n : ℕ) (L : List ℤ) → ValidFor n L → (bytes_validity n (int32_bytes L) ≡ Ok tt) × (int32s (int32_bytes L) ≡ L)
 valid_list_in_bytes n L v = let f = numbers_fit n L v in (list_in_bytes n L f ∙ v, int32s_back L f)
 
 -- The bytes of numbers are bytes: each is below 256.
@@ -94,7 +93,7 @@ bytes_are_bytes L m R = (int32_bytes_small L, nat32_bytes_small R, int64_bytes_s
 
 -- The number returned is 0 exactly if the bytes are those of a valid list and of a refutation that is accepted against it.
 pub returned_yes_is_accepted : (n : ℕ) (b r : List ℕ) → (check_refutation_lem n b r ≡ pos 0)
-    ↔ ((bytes_validity n b ≡ Valid) × (length r ≤ number_bytes * max_refutation) × (length r % number_bytes ≡ 0) × Accepted n (int32s b) (nat32s r))
+    ↔ ((bytes_validity n b ≡ Ok tt) × (length r ≤ number_bytes * max_refutation) × (length r % number_bytes ≡ 0) × Accepted n (int32s b) (nat32s r))
 returned_yes_is_accepted n b r = returned_yes n b r
 
 -- So a returned yes is never against a list that has a solution.
@@ -104,7 +103,7 @@ returned_yes_not_against_a_solution n b r e = nothing_against_a_solution n (int3
 -- The number is 1,000,000 + k exactly if the list's bytes are those of a valid list, there are no more bytes than the longest refutation has, and they
 -- break at k: they are no multiple of four and k is 0, or they are one and their numbers break at k.
 pub returned_no_says_where : (n : ℕ) (b r : List ℕ) (k : ℕ) → (check_refutation_lem n b r ≡ pos (no_code + k))
-    ↔ ((bytes_validity n b ≡ Valid) × (length r ≤ number_bytes * max_refutation) × BytesBreakAt b r k)
+    ↔ ((bytes_validity n b ≡ Ok tt) × (length r ≤ number_bytes * max_refutation) × BytesBreakAt b r k)
 returned_no_says_where n b r k = returned_no n b r k
 
 -- A refusal is returned as minus its number times 100,000, and its place: exactly where it is the first of the table that applies.

@@ -1,5 +1,6 @@
 -- What was demanded of files and of the program that reports on one, in the words of docs/SPECIFICATION.md, each statement proved by citing the rest.
-use Rattle.std.specs.Prelude.{◌≡◌, refl, ◌↔◌, List, [], ◌∷◌, ◌++◌, ℕ, ◌*◌, ◌<◌, ◌≤◌, ℤ, pos, length, drop, take}
+use Rattle.file_records.specs.declared.FileRefusal.{FileRefusal}
+use Rattle.std.specs.Prelude.{◌≡◌, refl, ◌↔◌, List, [], ◌∷◌, ◌++◌, ℕ, ◌*◌, ◌<◌, ◌≤◌, ℤ, pos, length, drop, take, Ok, Result}
 use Rattle.std.proofs.Common.{ap}
 use Rattle.lines.specs.Limits.{line_size, max_variables}
 use Rattle.lines.specs.Line.{line_numbers_lem, line_at, line_count}
@@ -8,10 +9,6 @@ use Rattle.little_endian.specs.Bytes.{AreBytes}
 use Rattle.little_endian.specs.Writing.{bytes_of}
 use Rattle.theory_answers.specs.Semantics.{Written}
 use Rattle.file_list.specs.declared.Listed.{Listed}
-use Rattle.file_list.specs.declared.ReadAnswer.{ReadAnswer}
-use Rattle.file_list.specs.declared.ReadAnswer.TheVariants.{Read}
-use Rattle.file_list.specs.declared.WriteAnswer.{WriteAnswer}
-use Rattle.file_list.specs.declared.WriteAnswer.TheVariants as write
 use Rattle.file_records.specs.Table.{body_size_lem}
 use Rattle.file_list.specs.File.{file_of, file_list_lem, line_records, line_body}
 use Rattle.file_list.specs.Read.{read_answer, ReadDone}
@@ -33,11 +30,11 @@ use Rattle.demands.specs.Demands.{ValidFor}
 
 -- Reading what was written gives n and the list back.
 pub written_is_read_back : (n : ℕ) (L : List ℤ) → ValidFor n L → (most room : ℕ) → n ≤ most → length L ≤ room
-    → (read_answer most (file_of n L) room ≡ Read (record { n = n; lines = line_count L })) × (file_list_lem (file_of n L) (line_count L) ≡ L)
+    → (read_answer most (file_of n L) room ≡ Ok (record { n = n; lines = line_count L })) × (file_list_lem (file_of n L) (line_count L) ≡ L)
 written_is_read_back n L v most room h k = (written_read n L v most room h k, list_in_file n L v)
 
 -- Whatever is read is the list of valid lines whose one file these bytes are.
-pub read_is_written_again : (most : ℕ) (b : List ℕ) (room : ℕ) (z : Listed) → AreBytes b → read_answer most b room ≡ Read z
+pub read_is_written_again : (most : ℕ) (b : List ℕ) (room : ℕ) (z : Listed) → AreBytes b → read_answer most b room ≡ Ok z
     → ValidFor z.n (file_list_lem b z.lines) × (file_of z.n (file_list_lem b z.lines) ≡ b)
 read_is_written_again most b room z h e = read_written most b room z h e
 
@@ -60,15 +57,15 @@ pub same_terms_same_file : (n : ℕ) (L M : List ℤ) → ValidFor n L → Valid
 same_terms_same_file n L M v w same = let e = list_by_terms n n L M v w same in (e, ap (file_of n) e)
 
 -- What a call of the writer wrote, a call of the reader reads back into any buffer with room: n and the list, and what lies beyond it is untouched.
-pub written_then_read : (n : ℕ) (L : List ℤ) (k : ℕ) (b a : List ℕ) (answer : ReadAnswer) (before after : List ℤ)
-    → WriteDone n L (write.Written k) b a → ReadDone max_variables (take k a) answer before after → length L ≤ length before
-    → (answer ≡ Read (record { n = n; lines = line_count L })) × (after ≡ L ++ drop (length L) before)
+pub written_then_read : (n : ℕ) (L : List ℤ) (k : ℕ) (b a : List ℕ) (answer : Result Listed FileRefusal) (before after : List ℤ)
+    → WriteDone n L (Ok k) b a → ReadDone max_variables (take k a) answer before after → length L ≤ length before
+    → (answer ≡ Ok (record { n = n; lines = line_count L })) × (after ≡ L ++ drop (length L) before)
 written_then_read = write_then_read
 
 -- What a call of the reader read, a call of the writer writes again as the same bytes.
-pub read_then_written : (most : ℕ) (bytes : List ℕ) (z : Listed) (before after : List ℤ) (answer : WriteAnswer) (b a : List ℕ)
-    → AreBytes bytes → ReadDone most bytes (Read z) before after → WriteDone z.n (take (line_size * z.lines) after) answer b a → length bytes ≤ length b
-    → (answer ≡ write.Written (length bytes)) × (a ≡ bytes ++ drop (length bytes) b)
+pub read_then_written : (most : ℕ) (bytes : List ℕ) (z : Listed) (before after : List ℤ) (answer : Result ℕ FileRefusal) (b a : List ℕ)
+    → AreBytes bytes → ReadDone most bytes (Ok z) before after → WriteDone z.n (take (line_size * z.lines) after) answer b a → length bytes ≤ length b
+    → (answer ≡ Ok (length bytes)) × (a ≡ bytes ++ drop (length bytes) b)
 read_then_written = read_then_write
 
 -- The same of what the exported functions return, where the refusal that they return is 0.

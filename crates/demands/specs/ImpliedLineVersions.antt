@@ -1,5 +1,6 @@
 -- Versions of the line question that go wrong in one thing, each a definition, and at a named list and line what breaks the promise.
-use Rattle.std.specs.Prelude.{◌≡◌, refl, Bool, true, false, List, [], ◌∷◌, ◌++◌, ℕ, ℤ, pos, neg_ℤ, length, drop, replicate}
+use Rattle.lines.specs.declared.Refusal.{Refusal}
+use Rattle.std.specs.Prelude.{◌≡◌, refl, Bool, true, false, List, [], ◌∷◌, ◌++◌, ℕ, ℤ, pos, neg_ℤ, length, drop, replicate, Err, Ok, Result}
 use Rattle.integers.specs.Laws.{never}
 use Rattle.lines.specs.declared.Line.{Line}
 use Rattle.lines.specs.Line.{line_numbers_lem, line_at, lines_of, is_false_lem}
@@ -19,13 +20,13 @@ use Rattle.theory_bounds.specs.Verdict.{has_false, distances, consistent_halves,
 use Rattle.theory_bounds.specs.Answers.{model_of}
 use Rattle.decide_buffers.specs.Room.{model_room_lem, work_room_lem, ModelLent, model_lengths_of}
 use Rattle.implied_line.specs.declared.LineAnswer.{LineAnswer}
-use Rattle.implied_line.specs.declared.LineAnswer.TheVariants.{Implied, NotImplied, Unsolvable, Refused}
+use Rattle.implied_line.specs.declared.LineAnswer.TheVariants.{Implied, NotImplied, Unsolvable}
 use Rattle.opposite_line.specs.Opposite.{opposite, opposed}
 use Rattle.implied_line.specs.Answer.{question_validity_lem, judged_by, judged, unless_refused, implied_answer, answer_for, model_left, work_left, AnswersLine}
 
 -- what a call gives back: its answer, and what the lent buffers hold after
 pub record Outcome : Type 0 where
-  pub answer : LineAnswer
+  pub answer : Result LineAnswer Refusal
   pub after : ModelLent
 
 abbrev pub Version : Type 0
@@ -36,13 +37,13 @@ abbrev pub Keeps : Version → Type 0
 Keeps f = (n : ℕ) (L : List ℤ) (l : Line) (b : ModelLent) → AnswersLine n L l (f n L l b).answer b (f n L l b).after
 
 -- by the answer: a no writes this model, each answer that is no refusal clears the work area
-abbrev written_by : ℕ → LineAnswer → (model before : List ℤ) → List ℤ
-written_by n Implied m b = b
-written_by n NotImplied m b = m ++ drop (model_room_lem n) b
-written_by n Unsolvable m b = b
-written_by n (Refused r) m b = b
+abbrev written_by : ℕ → Result LineAnswer Refusal → (model before : List ℤ) → List ℤ
+written_by n (Ok Implied) m b = b
+written_by n (Ok NotImplied) m b = m ++ drop (model_room_lem n) b
+written_by n (Ok Unsolvable) m b = b
+written_by n (Err r) m b = b
 
-abbrev outcome : ℕ → LineAnswer → List ℤ → ModelLent → Outcome
+abbrev outcome : ℕ → Result LineAnswer Refusal → List ℤ → ModelLent → Outcome
 outcome n x m b = record { answer = x; after = record { model = written_by n x m b.model; work = work_left n x b.work } }
 
 -- it refuses right, and else answers this, with this model on a no
@@ -60,11 +61,11 @@ pub right_keeps : Keeps right
 unfolding right implied_answer
 right_keeps n L l b = record { is = refl; model = left (answer_for n L l b); work = refl }
   where
-    left : (x : LineAnswer) → written_by n x (opposed_model n L l) b.model ≡ model_left n L l x b.model
-    left Implied = refl
-    left NotImplied = refl
-    left Unsolvable = refl
-    left (Refused r) = refl
+    left : (x : Result LineAnswer Refusal) → written_by n x (opposed_model n L l) b.model ≡ model_left n L l x b.model
+    left (Ok Implied) = refl
+    left (Ok NotImplied) = refl
+    left (Ok Unsolvable) = refl
+    left (Err r) = refl
 
 -- ---- the inputs: one variable, and buffers of exactly the room needed, all zeros
 abbrev room : ModelLent
@@ -85,7 +86,7 @@ always_yes = answering (λ n L l. Implied) opposed_model
 pub always_yes_breaks : Keeps always_yes → ⊥
 unfolding always_yes implied_answer question_validity_lem validity_of lines_validity_lem line_tests line_numbers_lem line_at opposite is_false_lem verdict_of has_false no_negative consistent_halves
     entry digit step_of steps_of relax_row start_row_lem rounds row_at best opposite-point
-always_yes_breaks k = let e : Implied ≡ NotImplied = (k 1 [] most room).is in never (cc)
+always_yes_breaks k = let e : ◌≡◌ {A = Result LineAnswer Refusal} (Ok Implied) (Ok NotImplied) = (k 1 [] most room).is in never (cc)
 
 -- ---- the model of the list without the opposite line
 pub without_opposite : Version
@@ -104,7 +105,7 @@ only_opposed = answering (λ n L l. judged_by true (verdict_of n (lines_of (oppo
 pub only_opposed_breaks : Keeps only_opposed → ⊥
 unfolding only_opposed implied_answer question_validity_lem validity_of lines_validity_lem line_tests line_numbers_lem line_at opposite is_false_lem verdict_of has_false no_negative consistent_halves
     entry digit step_of steps_of relax_row start_row_lem rounds row_at best opposite-point
-only_opposed_breaks k = let e : Implied ≡ Unsolvable = (k 1 (line_numbers_lem most ++ line_numbers_lem least) most room).is in never (cc)
+only_opposed_breaks k = let e : ◌≡◌ {A = Result LineAnswer Refusal} (Ok Implied) (Ok Unsolvable) = (k 1 (line_numbers_lem most ++ line_numbers_lem least) most room).is in never (cc)
 
 -- ---- its opposite line has -d, which what takes d meets too
 abbrev pub with_bound : Line → Line
@@ -117,4 +118,4 @@ meets_both = answering (λ n L l. judged_by (verdict_of n (lines_of L)) (verdict
 pub meets_both_breaks : Keeps meets_both → ⊥
 unfolding meets_both implied_answer question_validity_lem validity_of lines_validity_lem line_tests line_numbers_lem line_at opposite is_false_lem verdict_of has_false no_negative consistent_halves
     entry digit step_of steps_of relax_row start_row_lem rounds row_at best opposite-point
-meets_both_breaks k = let e : NotImplied ≡ Implied = (k 1 (line_numbers_lem most) most room).is in never (cc)
+meets_both_breaks k = let e : ◌≡◌ {A = Result LineAnswer Refusal} (Ok NotImplied) (Ok Implied) = (k 1 (line_numbers_lem most) most room).is in never (cc)

@@ -1,5 +1,5 @@
 -- Versions of the pair that answer by guessing, each a definition, and at a named input what breaks the promise.
-use Rattle.std.specs.Prelude.{◌≡◌, refl, List, [], ◌∷◌, ℕ, ◌-◌, ◌^◌, ℤ, pos, length, get_or, replicate}
+use Rattle.std.specs.Prelude.{◌≡◌, refl, List, [], ◌∷◌, ℕ, ◌-◌, ◌^◌, ℤ, pos, length, get_or, replicate, Ok}
 use Rattle.std.proofs.Common.{ap, arith}
 use Rattle.integers.specs.Laws.{never}
 use Rattle.lines.specs.Limits.{absent_greatest}
@@ -19,6 +19,7 @@ use Rattle.decide.specs.Decided.{cleared}
 use Rattle.implied_pair.specs.declared.Pair.{Pair}
 use Rattle.implied_pair.specs.Pair.{pair_in_lem, pair_validity_lem, PairCall, called, judged, unless_refused, pair_call}
 use Rattle.c_codes.specs.Apart.{same_pos}
+use Rattle.c_implied.specs.Calls.{given_pair}
 use Rattle.demands.specs.RightVersion.{at_most5, equal_pair}
 
 abbrev pub Version : Type 0
@@ -30,7 +31,7 @@ Keeps f = (n : ℕ) (L : List ℤ) (x y : ℕ) (w : List ℤ) → f n L x y w �
 
 -- it refuses right and tells a list without a solution, and else gives this pair, from the distances
 abbrev giving : (Table → ℕ → ℕ → Pair) → Version
-giving pair n L x y w = unless_refused (pair_validity_lem n L x y (length w)) (called (judged (verdict_of n (lines_of L)) (pair (distances n (lines_of L)) x y)) (cleared n w)) w
+giving pair n L x y w = unless_refused (pair_validity_lem n L x y (length w)) (called (Ok (judged (verdict_of n (lines_of L)) (pair (distances n (lines_of L)) x y))) (cleared n w)) w
 
 -- ---- a version that keeps the promise, so that those below break it only by what they do otherwise
 pub right : Version
@@ -46,7 +47,7 @@ room n = replicate (work_room_lem n) (pos 0)
 
 -- what it answered, as the row of x
 abbrev plus_row : PairCall → List ℤ
-plus_row c = c.answer.pair.plus
+plus_row c = (given_pair c.answer).plus
 
 -- ---- it gives the row of -x for that of x
 abbrev swapped : Table → ℕ → ℕ → Pair

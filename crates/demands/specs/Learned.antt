@@ -3,7 +3,7 @@
 --
 -- A greatest value b of x is the line x ≤ b, a least a the line -x ≤ -a, a group two lines with d = 0, a greatest sum its own line. Each is a greatest value of a
 -- line's left side, so that one law serves for all: the line with it for d is met by all, and a solution that takes it breaks the line with one less.
-use Rattle.std.specs.Prelude.{◌≡◌, refl, ◌⊎◌, true, List, ℕ, zero, suc, ◌+◌, ◌*◌, ◌-◌, ◌<◌, ℤ, pos, neg_ℤ, ◌+ℤ◌, ◌-ℤ◌, ◌*ℤ◌, get_or}
+use Rattle.std.specs.Prelude.{◌≡◌, refl, ◌⊎◌, true, List, ℕ, zero, suc, ◌+◌, ◌*◌, ◌-◌, ◌<◌, ℤ, pos, neg_ℤ, ◌+ℤ◌, ◌-ℤ◌, ◌*ℤ◌, get_or, Ok}
 use Rattle.std.proofs.Common.{ap, ap₂, ◌∙◌, inl, inr, arith}
 use Rattle.std.proofs.Math.Decide.{dec_lt}
 use Rattle.std.specs.Int.Signed.{le_z, lt_z}
@@ -12,7 +12,6 @@ use Rattle.integers.proofs.Linear.{ints}
 use Rattle.integers.specs.Laws.{both_true}
 use Rattle.integers.proofs.Halving.{within_is}
 use Rattle.lines.specs.declared.Line.{Line}
-use Rattle.lines.specs.declared.Validity.TheVariants.{Valid}
 use Rattle.lines.specs.Limits.{max_constant, shown_constant_lem, absent_least, absent_greatest}
 use Rattle.lines.specs.Line.{line_count, lines_of, Assignment, left_side_lem, Solves, Breaks}
 use Rattle.lines.specs.Refusal.{coefficients_ok_lem, variable_ok_lem, variables_ok_lem, lone_ok_lem, constant_ok_lem, identifier_ok_lem, shown_validity_lem, validity_of}
@@ -26,7 +25,7 @@ use Rattle.theory_answers.specs.Small.{valid_within, value_small, sum_small}
 use Rattle.theory_answers.specs.Decided.{Some, lines_ok}
 use Rattle.decide.specs.declared.Answer.TheVariants as decide
 use Rattle.decide.specs.Parts.{bounds_in, groups_in}
-use Rattle.implied_pair.specs.declared.PairOutcome.TheVariants.{Implied}
+use Rattle.c_implied.specs.Calls.{outcome_of, given_pair}
 use Rattle.implied_pair.specs.Meaning.{number_for}
 use Rattle.check_shown.specs.Answer.{shown_answer}
 use Rattle.check_shown.specs.Asked.{ShownAsked}
@@ -52,9 +51,9 @@ tighter l = record { a = l.a; x = l.x; b = l.b; y = l.y; d = l.d -ℤ pos 1; ide
 -- A line that is shown, where some solution breaks the line one tighter, so that nothing shows that one.
 pub record Tightest (n : ℕ) (L : List ℤ) (l : Line) : Type 0 where
   pub asked : ShownAsked n L l
-  pub shown : Some (λ R. shown_answer n L l R ≡ Yes)
+  pub shown : Some (λ R. shown_answer n L l R ≡ Ok Yes)
   pub broken : Breaks (lines_of L) (tighter l)
-  pub not_shown : (R : List ℕ) → shown_answer n L (tighter l) R ≡ Yes → ⊥
+  pub not_shown : (R : List ℕ) → shown_answer n L (tighter l) R ≡ Ok Yes → ⊥
 
 -- What a number z says that is written for the greatest d of a line: that line is the tightest; or z is the number for none, and some solution breaks the line
 -- whatever d is.
@@ -71,12 +70,12 @@ none_right : (n : ℕ) → variable_ok_lem n (pos 0) (pos 0) ≡ true
 unfolding variable_ok_lem
 none_right n = refl
 
-value_valid : (n k s x : ℕ) (d : ℤ) → x < n → Within (shown_constant_lem n) d → shown_validity_lem n k (value_line s x d) ≡ Valid
+value_valid : (n k s x : ℕ) (d : ℤ) → x < n → Within (shown_constant_lem n) d → shown_validity_lem n k (value_line s x d) ≡ Ok tt
 unfolding coefficients_ok_lem variables_ok_lem lone_ok_lem constant_ok_lem identifier_ok_lem
 value_valid n k zero x d h w = rw (one_right n 0 x h, none_right n, within_is (shown_constant_lem n) d w)
 value_valid n k (suc s) x d h w = rw (one_right n 1 x h, none_right n, within_is (shown_constant_lem n) d w)
 
-sum_valid : (n k s x u y : ℕ) (d : ℤ) → x < n → y < n → Within (shown_constant_lem n) d → shown_validity_lem n k (sum_line s x u y d) ≡ Valid
+sum_valid : (n k s x u y : ℕ) (d : ℤ) → x < n → y < n → Within (shown_constant_lem n) d → shown_validity_lem n k (sum_line s x u y d) ≡ Ok tt
 unfolding coefficients_ok_lem variables_ok_lem lone_ok_lem constant_ok_lem identifier_ok_lem
 sum_valid n k zero x zero y d h i w = rw (one_right n 0 x h, one_right n 0 y i, within_is (shown_constant_lem n) d w)
 sum_valid n k zero x (suc u) y d h i w = rw (one_right n 0 x h, one_right n 1 y i, within_is (shown_constant_lem n) d w)
@@ -107,7 +106,7 @@ module _ (n : ℕ) (L : List ℤ) (line : ℤ → Line) (form : Form) (side : (d
       clash : (f z d : ℤ) → z ⩽ f → d ⋖ z → f ⩽ d → ⊥
       clash f z d = simp ints (omega arith)
 
-  tightest : (z : ℤ) → validity_of n L ≡ Valid → shown_validity_lem n (line_count L) (line z) ≡ Valid → tighter (line z) ≡ line (z -ℤ pos 1) → IsGreatest (lines_of L) form z → Tightest n L (line z)
+  tightest : (z : ℤ) → validity_of n L ≡ Ok tt → shown_validity_lem n (line_count L) (line z) ≡ Ok tt → tighter (line z) ≡ line (z -ℤ pos 1) → IsGreatest (lines_of L) form z → Tightest n L (line z)
   tightest z v w lower g =
       let a : ShownAsked n L (line z) = record { list = v; line = w } in
       let broken : Breaks (lines_of L) (tighter (line z)) = rw lower (breaks_below z (z -ℤ pos 1) g.taken_by g.solves (same (form g.taken_by) z g.taken) (less z)) in
@@ -131,7 +130,7 @@ module _ (n : ℕ) (L : List ℤ) (line : ℤ → Line) (form : Form) (side : (d
       more d = simp ints (omega arith)
 
 -- ---- of a list that has a solution
-module _ (n : ℕ) (L : List ℤ) (v : validity_of n L ≡ Valid) (m : Assignment) (model : IsModel n (lines_of L) m) where
+module _ (n : ℕ) (L : List ℤ) (v : validity_of n L ≡ Ok tt) (m : Assignment) (model : IsModel n (lines_of L) m) where
   abbrev ls : List Line
   ls = lines_of L
 
@@ -218,7 +217,7 @@ pub record EverythingShown {e : Engine} (n : ℕ) (L : List ℤ) (c : CallOf e n
       → Tightest n L (sum_line 0 x (1 - group_sign (groups_in n c.after) x) (group_variable (groups_in n c.after) x) (pos 0))
       × Tightest n L (sum_line 1 x (group_sign (groups_in n c.after) x) (group_variable (groups_in n c.after) x) (pos 0))
 
-pub everything_is_shown : {e : Engine} (n : ℕ) (L : List ℤ) (c : CallOf e n L) → c.answer ≡ decide.Yes → EverythingShown n L c
+pub everything_is_shown : {e : Engine} (n : ℕ) (L : List ℤ) (c : CallOf e n L) → c.answer ≡ Ok decide.Yes → EverythingShown n L c
 everything_is_shown n L c e =
     let v = call_valid c in
     let w = call_written c e in
@@ -229,8 +228,8 @@ everything_is_shown n L c e =
     }
 
 -- So is each of the four numbers of a pair, by the line of its sum.
-pub pair_is_shown : (n : ℕ) (L : List ℤ) (x y : ℕ) (c : PairAsked n L x y) → c.answer.outcome ≡ Implied
-    → (s u : ℕ) → s < 2 → u < 2 → Says n L absent_greatest (sum_line s x u y) (number_for c.answer.pair s u) (number_for c.answer.pair s u)
+pub pair_is_shown : (n : ℕ) (L : List ℤ) (x y : ℕ) (c : PairAsked n L x y) → outcome_of c.answer ≡ Ok true
+    → (s u : ℕ) → s < 2 → u < 2 → Says n L absent_greatest (sum_line s x u y) (number_for (given_pair c.answer) s u) (number_for (given_pair c.answer) s u)
 pair_is_shown n L x y c i s u hs hu =
     let o = asked_ok c in
     let model = model_is_model n (lines_of L) (lines_ok n L (workable n L o.list)) (implied_verdict c i) in

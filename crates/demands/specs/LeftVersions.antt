@@ -1,17 +1,15 @@
 -- Versions of deciding that answer right and are caught by what they leave, each a definition, and at a named input what breaks the promise.
-use Rattle.std.specs.Prelude.{◌≡◌, refl, cond, List, [], ◌∷◌, ◌++◌, map, ℕ, zero, suc, ◌+◌, ◌*◌, ◌-◌, ◌/◌, ◌%◌, ◌^◌, ◌<◌, eqb, ℤ, pos, negsuc, neg_ℤ, length, get_or, take, drop, replicate}
+use Rattle.std.specs.Prelude.{◌≡◌, refl, cond, List, [], ◌∷◌, ◌++◌, map, ℕ, zero, suc, ◌+◌, ◌*◌, ◌-◌, ◌/◌, ◌%◌, ◌^◌, ◌<◌, eqb, ℤ, pos, negsuc, neg_ℤ, length, get_or, take, drop, replicate, None, Ok, Some}
 use Rattle.std.proofs.Common.{sym, ap, subst, ◌∙◌, arith}
 use Rattle.std.specs.Int.{w16, w64}
 use mir.Val.{bits, of_z, to_z}
 use Rattle.integers.specs.Laws.{never}
 use Rattle.integers.specs.Sequence.{tabulate}
 use Rattle.integers.specs.Lowest.{lowest}
-use Rattle.lines.specs.declared.Validity.TheVariants as validity
 use Rattle.lines.specs.Limits.{absent_least, absent_greatest}
 use Rattle.lines.specs.Line.{line_at, lines_of, is_false_lem}
 use Rattle.lines.specs.Refusal.{line_tests, lines_validity_lem, validity_of}
 use Rattle.steps.specs.declared.Step.{Step}
-use Rattle.steps.specs.declared.NamedStep.TheVariants.{Found, Nothing}
 use Rattle.steps.specs.Point.{opposite}
 use Rattle.steps.specs.Table.{entry, digit}
 use Rattle.steps.specs.Step.{step_of, step_numbered_lem, steps_of}
@@ -88,7 +86,7 @@ record FirstStep (R : List ℕ) : Type 0 where
   numbers : List ℕ
   is : R ≡ 1 ∷ count ∷ 0 ∷ number ∷ numbers
   step : Step
-  named : step_numbered_lem list_8 number ≡ Found step
+  named : step_numbered_lem list_8 number ≡ Some step
 
 first_step : (R : List ℕ) → Due 1 list_8 R → FirstStep R
 unfolding due_kind has_false no_negative line_at is_false_lem entry digit step_of steps_of relax_row start_row_lem rounds row_at best
@@ -107,7 +105,7 @@ first_step R d = go d.refutes
     go (kind_2 c) = let e : ◌≡◌ {A = ℕ} 2 1 = sym (ap kind_of c.is) ∙ kind_is_1 in never (cc)
     go (kind_3 c) = let e : ◌≡◌ {A = ℕ} 3 1 = sym (ap kind_of c.is) ∙ kind_is_1 in never (cc)
 
-no_step_9 : step_numbered_lem list_8 9 ≡ Nothing
+no_step_9 : step_numbered_lem list_8 9 ≡ None
 unfolding step_numbered_lem
 no_step_9 = refl
 
@@ -121,7 +119,7 @@ counts_not_written_breaks k =
     let g = first_step o.numbers o.due in
     let unwritten : ◌≡◌ {A = ℕ} (fourth (take head_size (due_numbers 1 list_8))) 9 = ap (λ (R : List ℕ). fourth (take head_size R)) f.is in
     let same : ◌≡◌ {A = ℕ} 9 g.number = sym unwritten ∙ ap (λ (R : List ℕ). get_or R head_size 0) o.refutation ∙ ap fourth g.is in
-    let e : Nothing ≡ Found g.step = sym no_step_9 ∙ ap (step_numbered_lem list_8) same ∙ g.named in never (cc)
+    let e : None ≡ Some g.step = sym no_step_9 ∙ ap (step_numbered_lem list_8) same ∙ g.named in never (cc)
   where
     -- the number behind the head, with R in front
     fourth : List ℕ → ℕ
@@ -152,12 +150,12 @@ stock_no n L = refuted n L (stock (due_kind n (lines_of L)))
 pub stock_refutation : Version
 stock_refutation = leaving right_yes stock_no
 
-list_4_no : answer_for 3 list_4 (room 3) ≡ No
+list_4_no : answer_for 3 list_4 (room 3) ≡ Ok No
 unfolding decide_answer decide_validity_lem rooms_validity validity_of lines_validity_lem line_tests line_at is_false_lem verdict_of has_false no_negative consistent_halves
     entry digit step_of steps_of relax_row start_row_lem rounds row_at best opposite halves
 list_4_no = refl
 
-valid_4 : validity_of 3 list_4 ≡ validity.Valid
+valid_4 : validity_of 3 list_4 ≡ Ok tt
 unfolding validity_of lines_validity_lem line_tests line_at
 valid_4 = refl
 
@@ -166,7 +164,7 @@ unfolding due_kind has_false no_negative line_at is_false_lem entry digit step_o
 kind_of_4 = refl
 
 -- case 4: what was written is no refutation, since the first step does not lead to the opposite of its start
-stock_not_accepted : refutation_answer 3 list_4 (stock 2) ≡ check.No 3
+stock_not_accepted : refutation_answer 3 list_4 (stock 2) ≡ Ok (check.No 3)
 unfolding refutation_answer refutation_validity validity_of lines_validity_lem line_tests line_at is_false_lem counts_ok_lem head_on joins turns along advance run closes accepted broken_at_lem verdict
     opposite entry digit step_of step_numbered_lem wrong_after
 stock_not_accepted = refl
@@ -177,7 +175,7 @@ stock_refutation_breaks k =
     let o = on_no right_yes stock_no k 3 list_4 (room 3) list_4_no in
     let written : refutation_in (stock_no 3 list_4 (room 3)) ≡ stock 2 = ap (λ (j : ℕ). refutation_in (refuted 3 list_4 (stock j) (room 3))) kind_of_4 in
     let d : Due 3 list_4 (stock 2) = subst (Due 3 list_4) (sym (refutation_in_law o) ∙ written) o.due in
-    let e : check.No 3 ≡ check.Yes = sym stock_not_accepted ∙ due_accepted 3 list_4 valid_4 (stock 2) d in never (cc)
+    let e : Ok (check.No 3) ≡ Ok check.Yes = sym stock_not_accepted ∙ due_accepted 3 list_4 valid_4 (stock 2) d in never (cc)
 
 -- ---- versions with other groups
 -- on a yes it finds each variable's group variable and its sign, from the distances, so
@@ -283,7 +281,7 @@ identified_list = pos 0 ∷ pos 0 ∷ pos 0 ∷ pos 0 ∷ neg_ℤ (pos 1) ∷ po
 abbrev identified_refutation : List ℕ
 identified_refutation = 3 ∷ 1 ∷ 0 ∷ 0 ∷ []
 
-identified_no : answer_for 0 identified_list (room 0) ≡ No
+identified_no : answer_for 0 identified_list (room 0) ≡ Ok No
 unfolding decide_answer decide_validity_lem rooms_validity validity_of lines_validity_lem line_tests line_at is_false_lem verdict_of has_false
 identified_no = refl
 

@@ -3,11 +3,11 @@
 --
 -- A reader has to believe what a rearrangement is (`Rearranged` in theory_order/specs/Rearranged.antt), and the words of Demands.antt, Implied.antt,
 -- ImpliedLine.antt and Sessions.antt: deciding, both questions and sessions promise what is stated there, and nothing is added here.
-use Rattle.std.specs.Prelude.{◌≡◌, refl, ◌↔◌, Bool, cond, List, [], ◌∷◌, ◌++◌, ℕ, ◌%◌, ℤ, length, take, drop}
+use Rattle.lines.specs.declared.Refusal.{Refusal}
+use Rattle.std.specs.Prelude.{◌≡◌, refl, ◌↔◌, Bool, cond, List, [], ◌∷◌, ◌++◌, ℕ, ◌%◌, ℤ, length, take, drop, Ok, Result}
 use Rattle.std.proofs.Common.{sym, ap, ◌∙◌}
 use Rattle.integers.specs.Laws.{never}
 use Rattle.lines.specs.declared.Line.{Line}
-use Rattle.lines.specs.declared.Validity.{Validity}
 use Rattle.lines.specs.Limits.{line_size}
 use Rattle.lines.specs.Line.{line_at, lines_of, numbers_of}
 use Rattle.lines.specs.LineNumbers.{lines_of_numbers}
@@ -52,12 +52,12 @@ rearranged_is_valid = rearranged_valid
 -- ---- deciding
 
 -- x and y are what two calls answered, a and e what they left.
-pub record SameButWalks (n : ℕ) (x : Answer) (a : Lent) (y : Answer) (e : Lent) : Type 0 where
+pub record SameButWalks (n : ℕ) (x : Result Answer Refusal) (a : Lent) (y : Result Answer Refusal) (e : Lent) : Type 0 where
   pub answer : x ≡ y
-  pub model : x ≡ decide.Yes → model_in_lem n a ≡ model_in_lem n e
-  pub bounds : x ≡ decide.Yes → bounds_in n a ≡ bounds_in n e
-  pub groups : x ≡ decide.Yes → groups_in n a ≡ groups_in n e
-  pub kind : x ≡ decide.No → kind_of (refutation_in a) ≡ kind_of (refutation_in e)
+  pub model : x ≡ Ok decide.Yes → model_in_lem n a ≡ model_in_lem n e
+  pub bounds : x ≡ Ok decide.Yes → bounds_in n a ≡ bounds_in n e
+  pub groups : x ≡ Ok decide.Yes → groups_in n a ≡ groups_in n e
+  pub kind : x ≡ Ok decide.No → kind_of (refutation_in a) ≡ kind_of (refutation_in e)
 
 -- Two calls that were not refused, on a list and on a rearrangement of it, whatever stood in the buffers, and of either engine each.
 pub order_does_not_matter : {e f : Engine} (n : ℕ) (L M : List ℤ) → Rearranged (lines_of L) (lines_of M) → (c : CallOf e n L) (d : CallOf f n M) → SameButWalks n c.answer c.after d.answer d.after
@@ -75,9 +75,9 @@ order_does_not_matter n L M p c d =
     }
 
 -- Handed the same buffers, two calls of one engine leave the same in all of them, but for the refutation and the identifiers of a no.
-pub record LeftAlike (x : Answer) (a e : Lent) : Type 0 where
-  pub yes : x ≡ decide.Yes → a ≡ e
-  pub no : x ≡ decide.No → (a.model ≡ e.model) × (a.bounds ≡ e.bounds) × (a.groups ≡ e.groups) × (a.work ≡ e.work)
+pub record LeftAlike (x : Result Answer Refusal) (a e : Lent) : Type 0 where
+  pub yes : x ≡ Ok decide.Yes → a ≡ e
+  pub no : x ≡ Ok decide.No → (a.model ≡ e.model) × (a.bounds ≡ e.bounds) × (a.groups ≡ e.groups) × (a.work ≡ e.work)
 
 pub nothing_else_differs : {e : Engine} (n : ℕ) (L M : List ℤ) → Rearranged (lines_of L) (lines_of M) → (c : CallOf e n L) (d : CallOf e n M) → c.before ≡ d.before → LeftAlike c.answer c.after d.after
 nothing_else_differs {e = e} n L M p c d same = record { yes = after_yes; no = after_no }
@@ -88,7 +88,7 @@ nothing_else_differs {e = e} n L M p c d same = record { yes = after_yes; no = a
     both : {A : Type 0} (f : Lent → List A) (room : ℕ) {u v : List A} → u ≡ v → u ++ drop room (f c.before) ≡ v ++ drop room (f d.before)
     both {A} f room {u} {v} e = ap (λ (w : List A). w ++ drop room (f c.before)) e ∙ ap (λ (b : Lent). v ++ drop room (f b)) same
 
-    after_yes : c.answer ≡ decide.Yes → c.after ≡ d.after
+    after_yes : c.answer ≡ Ok decide.Yes → c.after ≡ d.after
     after_yes q =
         let v = on_yes c q in
         let w = on_yes d (sym answers ∙ q) in
@@ -101,7 +101,7 @@ nothing_else_differs {e = e} n L M p c d same = record { yes = after_yes; no = a
         let work : c.after.work ≡ d.after.work = v.work ∙ ap (λ (b : Lent). cleared_to (room_of e n) b.work) same ∙ sym w.work in
         λ j. record { model = model j; bounds = bounds j; groups = groups j; refutation = refutation j; identifiers = identifiers j; work = work j }
 
-    after_no : c.answer ≡ decide.No → (c.after.model ≡ d.after.model) × (c.after.bounds ≡ d.after.bounds) × (c.after.groups ≡ d.after.groups) × (c.after.work ≡ d.after.work)
+    after_no : c.answer ≡ Ok decide.No → (c.after.model ≡ d.after.model) × (c.after.bounds ≡ d.after.bounds) × (c.after.groups ≡ d.after.groups) × (c.after.work ≡ d.after.work)
     after_no q =
         let v = on_no c q in
         let w = on_no d (sym answers ∙ q) in (
@@ -116,11 +116,11 @@ answers_alike : (n : ℕ) (L M : List ℤ) → ValidFor n L → ValidFor n M →
 unfolding decide_answer decide_validity_lem
 answers_alike n L M v w p b =
     let t = same_verdict n L M (workable n L v) (workable n M w) (same_solutions (lines_of L) (lines_of M) p) in
-    ap (λ (u : Validity). unless_refused (u or_else rooms_validity n (lengths_of b)) (cond (verdict_of n (lines_of L)) decide.Yes decide.No)) (v ∙ sym w)
-    ∙ ap (λ (u : Bool). unless_refused (decide_validity_lem n M (lengths_of b)) (cond u decide.Yes decide.No)) t
+    ap (λ (u : Result Unit Refusal). unless_refused (u or_else rooms_validity n (lengths_of b)) (cond (verdict_of n (lines_of L)) (Ok decide.Yes) (Ok decide.No))) (v ∙ sym w)
+    ∙ ap (λ (u : Bool). unless_refused (decide_validity_lem n M (lengths_of b)) (cond u (Ok decide.Yes) (Ok decide.No))) t
 
 pub answered_or_refused_alike : (n : ℕ) (L M : List ℤ) → ValidFor n L → length M % line_size ≡ 0 → Rearranged (lines_of L) (lines_of M)
-    → (x y : Answer) (b a e : Lent) → Decided n L x b a → Decided n M y b e → x ≡ y
+    → (x y : Result Answer Refusal) (b a e : Lent) → Decided n L x b a → Decided n M y b e → x ≡ y
 answered_or_refused_alike n L M v whole p x y b a e c d = c.is ∙ answers_alike n L M v (rearranged_valid n L M p whole v) p b ∙ sym d.is
 
 pub returned_alike : (n : ℕ) (L M : List ℤ) → ValidFor n L → length M % line_size ≡ 0 → Rearranged (lines_of L) (lines_of M)
@@ -138,7 +138,7 @@ kept_in_any_order f k n L M v w p b = (k n L b).is ∙ answers_alike n L M v w p
 pub first_line_only_by_order : InAnyOrder first_line_only → ⊥
 unfolding validity_of lines_validity_lem line_tests line_at
 first_line_only_by_order h =
-    let e : decide.No ≡ decide.Yes = sym first_line_no ∙ h 1 (false_list ++ at_most5) (at_most5 ++ false_list) refl refl swapped (room_with 1 0) ∙ first_line_yes in never (cc)
+    let e : Ok decide.No ≡ Ok decide.Yes = sym first_line_no ∙ h 1 (false_list ++ at_most5) (at_most5 ++ false_list) refl refl swapped (room_with 1 0) ∙ first_line_yes in never (cc)
 
 -- ---- what a list implies
 
@@ -148,7 +148,7 @@ pair_in_any_order n L M x y p c d = pair_by_solutions_alone n L M x y c d (same_
 
 -- The line: one answer, and on a no one model.
 pub line_in_any_order : (n : ℕ) (L M : List ℤ) (l : Line) → Rearranged (lines_of L) (lines_of M) → (c : LineCall n L l) (d : LineCall n M l)
-    → (c.answer ≡ d.answer) × (c.answer ≡ NotImplied → take (model_room_lem n) c.after.model ≡ take (model_room_lem n) d.after.model)
+    → (c.answer ≡ d.answer) × (c.answer ≡ Ok NotImplied → take (model_room_lem n) c.after.model ≡ take (model_room_lem n) d.after.model)
 line_in_any_order n L M l p c d = line_by_solutions_alone n L M l c d (same_solutions (lines_of L) (lines_of M) p)
 
 -- ---- sessions
@@ -156,8 +156,8 @@ line_in_any_order n L M l p c d = line_by_solutions_alone n L M l c d (same_solu
 -- Two sessions of which one has taken the lines of the other in another order, whatever was added and withdrawn between: the answers to their last adds, where
 -- both were answered.
 pub session_in_any_order : (n : ℕ) (ls ms : List Line) (q r : Bool) (s u : List ℤ) → Reached n ls q s → Reached n ms r u
-    → (l : Line) (x : Answer) (b : Lent) (t : List ℤ) (a : Lent) → Adds s l x b t a → NotRefused x
-    → (m : Line) (y : Answer) (c : Lent) (v : List ℤ) (e : Lent) → Adds u m y c v e → NotRefused y
+    → (l : Line) (x : Result Answer Refusal) (b : Lent) (t : List ℤ) (a : Lent) → Adds s l x b t a → NotRefused x
+    → (m : Line) (y : Result Answer Refusal) (c : Lent) (v : List ℤ) (e : Lent) → Adds u m y c v e → NotRefused y
     → Rearranged (ls ++ l ∷ []) (ms ++ m ∷ []) → SameButWalks n x a y e
 session_in_any_order n ls ms q r s u reached reached' l x b t a d h m y c v e f k p =
     order_does_not_matter n (numbers_of (ls ++ l ∷ [])) (numbers_of (ms ++ m ∷ [])) (rw (lines_of_numbers (ls ++ l ∷ []), lines_of_numbers (ms ++ m ∷ [])) p)

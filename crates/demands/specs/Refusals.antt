@@ -1,7 +1,7 @@
 -- The specification's table of refusals: when each applies, in the order in which they go, and what it is to be the first that applies.
 -- The number and the place of each are `number_of` and `place_of` (lines/specs/Refusal.antt); the rooms of the lent buffers, with their refusals 7 and 8 in
 -- their order, are `lent_rooms_by` the room of an engine's work area (decide_buffers/specs/Room.antt).
-use Rattle.std.specs.Prelude.{◌≡◌, ◌⊎◌, List, [], ◌∷◌, ◌++◌, ℕ, zero, suc, ◌+◌, ◌*◌, ◌%◌, ◌<◌, ◌≤◌, ℤ, pos, neg_ℤ, length}
+use Rattle.std.specs.Prelude.{◌≡◌, ◌⊎◌, List, [], ◌∷◌, ◌++◌, ℕ, zero, suc, ◌+◌, ◌*◌, ◌%◌, ◌<◌, ◌≤◌, ℤ, pos, neg_ℤ, length, Err}
 use Rattle.integers.specs.Integer.{◌⩽◌, ◌⋖◌}
 use Rattle.lines.specs.declared.Line.{Line}
 use Rattle.lines.specs.declared.Refusal.{Refusal}
@@ -10,13 +10,13 @@ use Rattle.lines.specs.Limits.{line_size, max_variables, max_lines, max_constant
 use Rattle.lines.specs.Line.{number, line_at, line_count}
 use Rattle.little_endian.specs.Bytes.{int32s, int64s}
 use Rattle.check_answers.specs.declared.CheckAnswer.TheVariants as check
-use Rattle.decide_buffers.specs.Room.{Lent, Lengths, lengths_of, Room, work_room_lem, differences_work_room_lem, lent_rooms_by, lent_rooms}
+use Rattle.decide_buffers.specs.declared.Lengths.{Lengths}
+use Rattle.decide_buffers.specs.Room.{Lent, lengths_of, Room, work_room_lem, differences_work_room_lem, lent_rooms_by, lent_rooms}
 use Rattle.check_model.specs.Model.{model_answer}
 use Rattle.check_refutation.specs.Answer.{refutation_answer}
 use Rattle.decide.specs.declared.Answer.TheVariants as decide
 use Rattle.decide.specs.Decided.{answer_for}
 use Rattle.differences.specs.Decided.{differences_answer_for}
-use Rattle.implied_pair.specs.declared.PairOutcome.TheVariants as implied
 use Rattle.implied_pair.specs.Pair.{pair_call}
 use Rattle.c_codes.specs.CheckCode.{check_code_lem}
 use Rattle.c_codes.specs.ListBytes.{number_bytes}
@@ -142,19 +142,19 @@ pub record FirstApplies (rows : List Row) (r : Refusal) : Type 1 where
 
 -- ---- what is answered
 abbrev pub IsRefused : Asked → Refusal → Type 0
-IsRefused (deciding n L lent) r = answer_for n L lent ≡ decide.Refused r
-IsRefused (deciding_differences n L lent) r = differences_answer_for n L lent ≡ decide.Refused r
-IsRefused (asking_pair n L x y w) r = (pair_call n L x y w).answer.outcome ≡ implied.Refused r
-IsRefused (checking_model n L m) r = model_answer n L m ≡ check.Refused r
-IsRefused (checking_refutation n L R) r = refutation_answer n L R ≡ check.Refused r
-IsRefused (checking_model_bytes n b m) r = model_of_bytes n b m ≡ check.Refused r
-IsRefused (checking_refutation_bytes n b R) r = refutation_of_bytes n b R ≡ check.Refused r
+IsRefused (deciding n L lent) r = answer_for n L lent ≡ Err r
+IsRefused (deciding_differences n L lent) r = differences_answer_for n L lent ≡ Err r
+IsRefused (asking_pair n L x y w) r = (pair_call n L x y w).answer ≡ Err r
+IsRefused (checking_model n L m) r = model_answer n L m ≡ Err r
+IsRefused (checking_refutation n L R) r = refutation_answer n L R ≡ Err r
+IsRefused (checking_model_bytes n b m) r = model_of_bytes n b m ≡ Err r
+IsRefused (checking_refutation_bytes n b R) r = refutation_of_bytes n b R ≡ Err r
 
 -- the number that stands for the answer in C
 abbrev pub returned : Asked → ℤ
 returned (deciding n L lent) = decide_code_lem (answer_for n L lent)
 returned (deciding_differences n L lent) = decide_code_lem (differences_answer_for n L lent)
-returned (asking_pair n L x y w) = outcome_code_lem (pair_call n L x y w).answer.outcome
+returned (asking_pair n L x y w) = outcome_code_lem (pair_call n L x y w).answer
 returned (checking_model n L m) = check_code_lem (model_answer n L m)
 returned (checking_refutation n L R) = check_code_lem (refutation_answer n L R)
 returned (checking_model_bytes n b m) = check_model_lem n b m

@@ -2,7 +2,7 @@
 --
 -- `Gives rows v` reads a computed validity along the rows: v is the refusal of the first row that applies, or valid if none does. A test that tells
 -- whether a condition holds makes one row, and one validity or else another makes the rows of both.
-use Rattle.std.specs.Prelude.{◌≡◌, refl, ◌↔◌, ◌⊎◌, Bool, true, false, not, cond, ◌&&◌, List, [], ◌∷◌, ◌++◌, ℕ, zero, suc, ◌+◌, ◌*◌, ◌/◌, ◌%◌, ◌<◌, ◌≤◌, eqb, ltb, ℤ, pos, negsuc, neg_ℤ, length, drop}
+use Rattle.std.specs.Prelude.{◌≡◌, refl, ◌↔◌, ◌⊎◌, Bool, true, false, not, cond, ◌&&◌, List, [], ◌∷◌, ◌++◌, ℕ, zero, suc, ◌+◌, ◌*◌, ◌/◌, ◌%◌, ◌<◌, ◌≤◌, eqb, ltb, ℤ, pos, negsuc, neg_ℤ, length, drop, Err, Ok, Result}
 use Rattle.std.proofs.Common.{ap, subst, ◌∙◌, inl, inr, ⊎_elim, arith, ltb-true, ltb-false, lt-ltb, le-ltb, eqb-true, eq-eqb}
 use mathlib.Core.Logic.Iff
 use Rattle.std.proofs.lemmas.Bool.{false≢true, not-true}
@@ -17,16 +17,15 @@ use Rattle.integers.specs.Lowest.{first_failing_lem, first_failing}
 use Rattle.lines.specs.declared.Line.{Line}
 use Rattle.lines.specs.declared.Refusal.{Refusal}
 use Rattle.lines.specs.declared.Refusal.TheVariants.{TooManyVariables, BrokenLength, WrongModelLength, BadValue, LongRefutation, NotDifference}
-use Rattle.lines.specs.declared.Validity.{Validity}
-use Rattle.lines.specs.declared.Validity.TheVariants.{Valid, Refused}
 use Rattle.lines.specs.Limits.{line_size, max_variables, max_lines, max_constant, max_identifier, max_value, max_refutation}
 use Rattle.lines.specs.Line.{number, line_at, line_count, lines_of}
 use Rattle.lines.specs.Refusal.{place_of, ◌or_else◌, refuse_if, coefficients_ok_lem, variable_ok_lem, variables_ok_lem, lone_ok_lem, constant_ok_lem, identifier_ok_lem, Rule, rules_within, first_broken, line_validity_lem, lines_validity_lem, validity_of}
 use Rattle.lines.specs.Laws.{validity_from, validity_past}
 use Rattle.check_answers.specs.declared.CheckAnswer.{CheckAnswer}
 use Rattle.check_answers.specs.declared.CheckAnswer.TheVariants as check
-use Rattle.check_answers.specs.Answer.{NotRefused, unless_refused, refused_when}
-use Rattle.decide_buffers.specs.Room.{Lent, Lengths, lengths_of, Room, work_room_lem, differences_work_room_lem, lent_rooms_by, lent_rooms, first_short, rooms_validity, decide_validity_lem}
+use Rattle.check_answers.specs.Answer.{unless_refused, refused_when}
+use Rattle.decide_buffers.specs.declared.Lengths.{Lengths}
+use Rattle.decide_buffers.specs.Room.{Lent, lengths_of, Room, work_room_lem, differences_work_room_lem, lent_rooms_by, lent_rooms, first_short, rooms_validity, decide_validity_lem}
 use Rattle.theory_bounds.specs.Verdict.{distances, verdict_of}
 use Rattle.little_endian.specs.Bytes.{le32, int32, int64, int32s, nat32s, int64s, length_first_of}
 use Rattle.check_model.specs.Model.{values_validity_lem, model_validity_lem}
@@ -44,7 +43,6 @@ use Rattle.theory_differences.specs.Plain.{is_difference_lem, Difference, forwar
 use Rattle.differences_lines.specs.Others.{first_other_lem}
 use Rattle.differences_lines.specs.Refused.{others_validity, differences_validity_lem}
 use Rattle.differences.specs.Decided.{differences_answer, differences_answer_for, plain_validity_for}
-use Rattle.implied_pair.specs.declared.PairOutcome.TheVariants as implied
 use Rattle.implied_pair.specs.Pair as pair
 use Rattle.implied_pair.specs.Pair.{pair_in_lem, pair_validity_lem, called, judged, pair_call}
 use Rattle.c_codes.specs.Codes.{refusal_unit, refusal_code_lem}
@@ -56,20 +54,20 @@ use Rattle.c_deciding.specs.Calls.{decide_code_lem}
 use Rattle.c_deciding.specs.Laws.{decision_below, decisions_apart}
 use Rattle.c_differences.specs.Laws.{plain_decision_below}
 use Rattle.c_implied.specs.Calls.{outcome_code_lem}
-use Rattle.c_implied.specs.Laws.{pair_below, outcomes_apart}
+use Rattle.c_implied.specs.Laws.{pair_below, outcomes_apart, refused_outcome}
 use Rattle.demands.specs.Refusals.{Asked, deciding, deciding_differences, asking_pair, checking_model, checking_refutation, checking_model_bytes, checking_refutation_bytes, IsCoefficient, WrongVariable, LoneSecond, IsDifference, WrongIdentifier, Outside, Row, ◌when◌, rows_from, table_within, line_table, lines_table, list_table, differences_table, bytes_table, values_table, rooms_table, refusal_table, NoneApplies, FirstApplies, IsRefused, returned}
 
 -- ---- a validity, read along the rows
-pub data Gives : List Row → Validity → Type 1 where
-  none : Gives [] Valid
-  this : {r : Refusal} {C : Type 0} {rows : List Row} → C → Gives (r when C ∷ rows) (Refused r)
-  later : {row : Row} {rows : List Row} {v : Validity} → (row.condition → ⊥) → Gives rows v → Gives (row ∷ rows) v
+pub data Gives : List Row → Result Unit Refusal → Type 1 where
+  none : Gives [] (Ok tt)
+  this : {r : Refusal} {C : Type 0} {rows : List Row} → C → Gives (r when C ∷ rows) (Err r)
+  later : {row : Row} {rows : List Row} {v : Result Unit Refusal} → (row.condition → ⊥) → Gives rows v → Gives (row ∷ rows) v
 
 -- the test is passed exactly if the condition holds
 abbrev pub Tells : Bool → Type 0 → Type 0
 Tells t C = (t ≡ true) ↔ C
 
-pub gives_row : {r : Refusal} {t : Bool} {C : Type 0} {rows : List Row} {v : Validity} → Tells t C → Gives rows v → Gives (r when C ∷ rows) (refuse_if t r or_else v)
+pub gives_row : {r : Refusal} {t : Bool} {C : Type 0} {rows : List Row} {v : Result Unit Refusal} → Tells t C → Gives rows v → Gives (r when C ∷ rows) (refuse_if t r or_else v)
 gives_row {t = true} h g = this (h.0 refl)
 gives_row {t = false} h g = later (λ c. false≢true (h.1 c)) g
 
@@ -78,27 +76,27 @@ gives_last {t = true} h = this (h.0 refl)
 gives_last {t = false} h = later (λ c. false≢true (h.1 c)) none
 
 -- what comes after counts only where none before it applies
-gives_past : {rows rest : List Row} {u v : Validity} → Gives rows u → (NoneApplies rows → Gives rest v) → Gives (rows ++ rest) (u or_else v)
+gives_past : {rows rest : List Row} {u v : Result Unit Refusal} → Gives rows u → (NoneApplies rows → Gives rest v) → Gives (rows ++ rest) (u or_else v)
 gives_past none h = h tt
 gives_past (this c) h = this c
 gives_past (later n g) h = later n (gives_past g (λ k. h (n, k)))
 
-pub gives_or : {rows rest : List Row} {u v : Validity} → Gives rows u → Gives rest v → Gives (rows ++ rest) (u or_else v)
+pub gives_or : {rows rest : List Row} {u v : Result Unit Refusal} → Gives rows u → Gives rest v → Gives (rows ++ rest) (u or_else v)
 gives_or g h = gives_past g (λ _. h)
 
 -- rows that do not apply may be left out
-gives_rest : (rows rest : List Row) {v : Validity} → Gives (rows ++ rest) v → NoneApplies rows → Gives rest v
+gives_rest : (rows rest : List Row) {v : Result Unit Refusal} → Gives (rows ++ rest) v → NoneApplies rows → Gives rest v
 gives_rest [] rest g n = g
 gives_rest (row ∷ rows) rest (this c) n = absurd (n.0 c)
 gives_rest (row ∷ rows) rest (later f g) n = gives_rest rows rest g n.1
 
 -- it is refused exactly by the first that applies
-first_row : {rows : List Row} {v : Validity} → Gives rows v → (r : Refusal) → v ≡ Refused r → FirstApplies rows r
+first_row : {rows : List Row} {v : Result Unit Refusal} → Gives rows v → (r : Refusal) → v ≡ Err r → FirstApplies rows r
 first_row none r e = absurd (never {A = ⊥} (cc))
 first_row (this {r = q} {C} {rows} c) r e =
     record { before = []; condition = C; after = rows; stands = ap (λ (s : Refusal). s when C ∷ rows) (same e); applies = c; none_before = tt }
   where
-    same : Refused q ≡ Refused r → q ≡ r
+    same : ◌≡◌ {A = Result Unit Refusal} (Err q) (Err r) → q ≡ r
     same e = cc
 first_row (later {row} n g) r e =
     let f = first_row g r e in
@@ -111,29 +109,29 @@ first_row (later {row} n g) r e =
       none_before = (n, f.none_before);
     }
 
-row_first : (before : List Row) (r : Refusal) (C : Type 0) (after : List Row) {v : Validity}
-    → Gives (before ++ r when C ∷ after) v → C → NoneApplies before → v ≡ Refused r
+row_first : (before : List Row) (r : Refusal) (C : Type 0) (after : List Row) {v : Result Unit Refusal}
+    → Gives (before ++ r when C ∷ after) v → C → NoneApplies before → v ≡ Err r
 row_first [] r C after (this c) h n = refl
 row_first [] r C after (later f g) h n = absurd (f h)
 row_first (row ∷ rows) r C after (this c) h n = absurd (n.0 c)
 row_first (row ∷ rows) r C after (later f g) h n = row_first rows r C after g h n.1
 
-pub gives_refused : {rows : List Row} {v : Validity} → Gives rows v → (r : Refusal) → (v ≡ Refused r) ↔ FirstApplies rows r
+pub gives_refused : {rows : List Row} {v : Result Unit Refusal} → Gives rows v → (r : Refusal) → (v ≡ Err r) ↔ FirstApplies rows r
 gives_refused {rows} {v} g r = (
   first_row g r,
   (λ f. row_first f.before r f.condition f.after (subst (λ (t : List Row). Gives t v) f.stands g) f.applies f.none_before),
 )
 
 -- it is valid exactly if none applies
-gives_valid : {rows : List Row} {v : Validity} → Gives rows v → (v ≡ Valid) ↔ NoneApplies rows
+gives_valid : {rows : List Row} {v : Result Unit Refusal} → Gives rows v → (v ≡ Ok tt) ↔ NoneApplies rows
 gives_valid g = (fore g, back g)
   where
-    fore : {rows : List Row} {v : Validity} → Gives rows v → v ≡ Valid → NoneApplies rows
+    fore : {rows : List Row} {v : Result Unit Refusal} → Gives rows v → v ≡ Ok tt → NoneApplies rows
     fore none e = tt
     fore (this c) e = never (cc)
     fore (later n g) e = (n, fore g e)
 
-    back : {rows : List Row} {v : Validity} → Gives rows v → NoneApplies rows → v ≡ Valid
+    back : {rows : List Row} {v : Result Unit Refusal} → Gives rows v → NoneApplies rows → v ≡ Ok tt
     back none n = refl
     back (this c) n = absurd (n.0 c)
     back (later f g) n = back g n.1
@@ -151,11 +149,11 @@ pub each_from : (P : Refusal → Type 0) (k count : ℕ) (rows : ℕ → List Ro
 each_from P k zero rows h = tt
 each_from P k (suc count) rows h = each_append P (rows k) (rows_from (k + 1) count rows) (h k) (each_from P (k + 1) count rows h)
 
-pub given_row : (P : Refusal → Type 0) {rows : List Row} {v : Validity} → Gives rows v → EachRow P rows → (r : Refusal) → v ≡ Refused r → P r
+pub given_row : (P : Refusal → Type 0) {rows : List Row} {v : Result Unit Refusal} → Gives rows v → EachRow P rows → (r : Refusal) → v ≡ Err r → P r
 given_row P none a r e = never (cc)
 given_row P (this {r = q} c) a r e = subst P (same e) a.0
   where
-    same : Refused q ≡ Refused r → q ≡ r
+    same : ◌≡◌ {A = Result Unit Refusal} (Err q) (Err r) → q ≡ r
     same e = cc
 given_row P (later n g) a r e = given_row P g a.1 r e
 
@@ -269,16 +267,16 @@ module _ (refusal : ℕ → Refusal) (ok : ℕ → Bool) (C : ℕ → Type 0) (t
   passes : (k : ℕ) → ok k ≡ true → C k → ⊥
   passes k e c = false≢true (rw e at ((tells k).1 c))
 
-  all_pass : (k count : ℕ) → ((q : ℕ) → k ≤ q → q < k + count → ok q ≡ true) → Gives (rows_from k count (λ i. refusal i when C i ∷ [])) Valid
+  all_pass : (k count : ℕ) → ((q : ℕ) → k ≤ q → q < k + count → ok q ≡ true) → Gives (rows_from k count (λ i. refusal i when C i ∷ [])) (Ok tt)
   all_pass k zero h = none
   all_pass k (suc count) h = later (passes k (h k (omega arith) (omega arith))) (all_pass (k + 1) count (λ q l m. h q (omega arith) (omega arith)))
 
-  one_fails : (k count r : ℕ) → k ≤ r → r < k + count → ok r ≡ false → ((q : ℕ) → k ≤ q → q < r → ok q ≡ true) → Gives (rows_from k count (λ i. refusal i when C i ∷ [])) (Refused (refusal r))
+  one_fails : (k count r : ℕ) → k ≤ r → r < k + count → ok r ≡ false → ((q : ℕ) → k ≤ q → q < r → ok q ≡ true) → Gives (rows_from k count (λ i. refusal i when C i ∷ [])) (Err (refusal r))
   one_fails k zero r h l e before = absurd (omega arith)
   one_fails k (suc count) r h l e before = go (ℕ_discrete k r) (λ m. one_fails (k + 1) count r m (omega arith) e (λ i o j. before i (omega arith) j))
     where
-      go : Dec (k ≡ r) → (k + 1 ≤ r → Gives (rows_from (k + 1) count rows) (Refused (refusal r))) → Gives (rows k ++ rows_from (k + 1) count rows) (Refused (refusal r))
-      go (yes q) rest = subst (λ (j : ℕ). Gives (rows k ++ rows_from (k + 1) count rows) (Refused (refusal j))) q (this ((tells k).0 (rw (ap ok q ∙ e))))
+      go : Dec (k ≡ r) → (k + 1 ≤ r → Gives (rows_from (k + 1) count rows) (Err (refusal r))) → Gives (rows k ++ rows_from (k + 1) count rows) (Err (refusal r))
+      go (yes q) rest = subst (λ (j : ℕ). Gives (rows k ++ rows_from (k + 1) count rows) (Err (refusal j))) q (this ((tells k).0 (rw (ap ok q ∙ e))))
       go (no q) rest = later (passes k (before k (omega arith) (omega arith))) (rest (omega arith))
 
   lowest_gives : (count : ℕ) → Gives (rows_from 0 count (λ i. refusal i when C i ∷ [])) (refuse_if (not (all_below count ok)) (refusal (first_failing_lem count ok)))
@@ -337,7 +335,7 @@ module _ (n : ℕ) (b : List ℕ) where
   none_of_numbers k = (k.0, ((λ h. k.1.0 (λ e. h (whole_numbers e))), k.1.1))
 
 -- the first refusal that applies, as it is computed
-abbrev pub computed : Asked → Validity
+abbrev pub computed : Asked → Result Unit Refusal
 computed (deciding n L lent) = validity_for n L lent
 computed (deciding_differences n L lent) = plain_validity_for n L lent
 computed (asking_pair n L x y w) = pair_validity_lem n L x y (length w)
@@ -348,7 +346,7 @@ computed (checking_model_bytes n b m) =
 computed (checking_refutation_bytes n b R) =
     bytes_validity n b
     or_else refuse_if (ltb (number_bytes * max_refutation) (length R)) LongRefutation
-    or_else cond (eqb (length R % number_bytes) 0) (refutation_validity n (int32s b) (nat32s R)) Valid
+    or_else cond (eqb (length R % number_bytes) 0) (refutation_validity n (int32s b) (nat32s R)) (Ok tt)
 
 table_gives : (a : Asked) → Gives (refusal_table a) (computed a)
 unfolding decide_validity_lem rooms_validity differences_validity_lem pair_validity_lem model_validity_lem refutation_validity
@@ -373,7 +371,7 @@ table_gives (checking_refutation_bytes n b R) =
     short : (number_bytes * max_refutation < length R → ⊥) → max_refutation < length (nat32s R) → ⊥
     short f h = let k : length (nat32s R) ≡ length R / number_bytes = length_first_of number_bytes le32 R _ in f (omega arith)
 
-    go : (t : Bool) → NoneApplies (bytes_table n b) → (number_bytes * max_refutation < length R → ⊥) → Gives [] (cond t (refutation_validity n (int32s b) (nat32s R)) Valid)
+    go : (t : Bool) → NoneApplies (bytes_table n b) → (number_bytes * max_refutation < length R → ⊥) → Gives [] (cond t (refutation_validity n (int32s b) (nat32s R)) (Ok tt))
     go true k f =
         gives_rest (LongRefutation when (max_refutation < length (nat32s R)) ∷ []) []
         (gives_rest (list_table n (int32s b)) _ (gives_or (list_gives n (int32s b)) (gives_last (less_test max_refutation (length (nat32s R))))) (none_of_numbers n b k))
@@ -382,33 +380,33 @@ table_gives (checking_refutation_bytes n b R) =
 
 -- ---- the answers
 -- an answer is refused exactly as its validity is
-pub decision_refused : (n : ℕ) (L : List ℤ) (lent : Lent) (r : Refusal) → (answer_for n L lent ≡ decide.Refused r) ↔ (validity_for n L lent ≡ Refused r)
+pub decision_refused : (n : ℕ) (L : List ℤ) (lent : Lent) (r : Refusal) → (answer_for n L lent ≡ Err r) ↔ (validity_for n L lent ≡ Err r)
 unfolding decide_answer
 decision_refused n L lent r = judged_refuses n L (validity_for n L lent) r
 
-pub differences_refused : (n : ℕ) (L : List ℤ) (lent : Lent) (r : Refusal) → (differences_answer_for n L lent ≡ decide.Refused r) ↔ (plain_validity_for n L lent ≡ Refused r)
+pub differences_refused : (n : ℕ) (L : List ℤ) (lent : Lent) (r : Refusal) → (differences_answer_for n L lent ≡ Err r) ↔ (plain_validity_for n L lent ≡ Err r)
 unfolding differences_answer
 differences_refused n L lent r = judged_refuses n L (plain_validity_for n L lent) r
 
 pair_refused : (n : ℕ) (L : List ℤ) (x y : ℕ) (w : List ℤ) (r : Refusal)
-    → ((pair_call n L x y w).answer.outcome ≡ implied.Refused r) ↔ (pair_validity_lem n L x y (length w) ≡ Refused r)
+    → ((pair_call n L x y w).answer ≡ Err r) ↔ (pair_validity_lem n L x y (length w) ≡ Err r)
 unfolding pair_call
 pair_refused n L x y w r = (fore (pair_validity_lem n L x y (length w)) (verdict_of n (lines_of L)), (λ e. rw e))
   where
-    fore : (v : Validity) (t : Bool) → (pair.unless_refused v (called (judged t (pair_in_lem (distances n (lines_of L)) x y)) (cleared n w)) w).answer.outcome ≡ implied.Refused r → v ≡ Refused r
-    fore Valid true e = never (cc)
-    fore Valid false e = never (cc)
-    fore (Refused q) t e = cc
+    fore : (v : Result Unit Refusal) (t : Bool) → (pair.unless_refused v (called (Ok (judged t (pair_in_lem (distances n (lines_of L)) x y))) (cleared n w)) w).answer ≡ Err r → v ≡ Err r
+    fore (Ok _) true e = never (cc)
+    fore (Ok _) false e = never (cc)
+    fore (Err q) t e = cc
 
-refutation_refused : (n : ℕ) (L : List ℤ) (R : List ℕ) (r : Refusal) → (refutation_answer n L R ≡ check.Refused r) ↔ (refutation_validity n L R ≡ Refused r)
+refutation_refused : (n : ℕ) (L : List ℤ) (R : List ℕ) (r : Refusal) → (refutation_answer n L R ≡ Err r) ↔ (refutation_validity n L R ≡ Err r)
 unfolding refutation_answer verdict
-refutation_refused n L R = refused_when (refutation_validity n L R) (verdict (run L start R)) (either NotRefused (accepted (run L start R)) tt tt)
+refutation_refused n L R = refused_when (refutation_validity n L R) (Ok (verdict (run L start R))) tt
 
-check_unless : (u v : Validity) (a : CheckAnswer) (r : Refusal) → (a ≡ check.Refused r) ↔ (v ≡ Refused r) → (unless_refused u a ≡ check.Refused r) ↔ ((u or_else v) ≡ Refused r)
-check_unless Valid v a r h = h
-check_unless (Refused q) v a r h = ((λ e. cc), (λ e. cc))
+check_unless : (u v : Result Unit Refusal) (a : Result CheckAnswer Refusal) (r : Refusal) → (a ≡ Err r) ↔ (v ≡ Err r) → (unless_refused u a ≡ Err r) ↔ ((u or_else v) ≡ Err r)
+check_unless (Ok _) v a r h = h
+check_unless (Err q) v a r h = ((λ e. cc), (λ e. cc))
 
-answer_refused : (a : Asked) (r : Refusal) → IsRefused a r ↔ (computed a ≡ Refused r)
+answer_refused : (a : Asked) (r : Refusal) → IsRefused a r ↔ (computed a ≡ Err r)
 unfolding model_of_bytes model_of_values_lem refutation_of_bytes refutation_of_numbers_lem
 answer_refused (deciding n L lent) r = decision_refused n L lent r
 answer_refused (deciding_differences n L lent) r = differences_refused n L lent r
@@ -421,7 +419,7 @@ answer_refused (checking_refutation_bytes n b R) r =
     check_unless (bytes_validity n b) _ _ r
     (check_unless (refuse_if (ltb (number_bytes * max_refutation) (length R)) LongRefutation) _ _ r (go (eqb (length R % number_bytes) 0)))
   where
-    go : (t : Bool) → (cond t (refutation_answer n (int32s b) (nat32s R)) (check.No 0) ≡ check.Refused r) ↔ (cond t (refutation_validity n (int32s b) (nat32s R)) Valid ≡ Refused r)
+    go : (t : Bool) → (cond t (refutation_answer n (int32s b) (nat32s R)) (Ok (check.No 0)) ≡ Err r) ↔ (cond t (refutation_validity n (int32s b) (nat32s R)) (Ok tt) ≡ Err r)
     go true = refutation_refused n (int32s b) (nat32s R) r
     go false = ((λ e. never (cc)), (λ e. never (cc)))
 
@@ -430,29 +428,29 @@ pub table_refuses : (a : Asked) (r : Refusal) → IsRefused a r ↔ FirstApplies
 table_refuses a r = Iff.trans (answer_refused a r) (gives_refused (table_gives a) r)
 
 -- none is given exactly if none applies
-pub table_valid : (a : Asked) → (computed a ≡ Valid) ↔ NoneApplies (refusal_table a)
+pub table_valid : (a : Asked) → (computed a ≡ Ok tt) ↔ NoneApplies (refusal_table a)
 table_valid a = gives_valid (table_gives a)
 
 pub table_passes : (a : Asked) → ((r : Refusal) → IsRefused a r → ⊥) ↔ NoneApplies (refusal_table a)
 table_passes a = Iff.trans (fore, (λ e r h. never (cc ((answer_refused a r).0 h)))) (table_valid a)
   where
-    go : (v : Validity) → ((r : Refusal) → v ≡ Refused r → ⊥) → v ≡ Valid
-    go Valid f = refl
-    go (Refused r) f = absurd (f r refl)
+    go : (v : Result Unit Refusal) → ((r : Refusal) → v ≡ Err r → ⊥) → v ≡ Ok tt
+    go (Ok _) f = refl
+    go (Err r) f = absurd (f r refl)
 
-    fore : ((r : Refusal) → IsRefused a r → ⊥) → computed a ≡ Valid
+    fore : ((r : Refusal) → IsRefused a r → ⊥) → computed a ≡ Ok tt
     fore f = go (computed a) (λ r e. f r ((answer_refused a r).1 e))
 
 -- a list is valid exactly if no refusal of the list itself applies
-pub list_valid : (n : ℕ) (L : List ℤ) → (validity_of n L ≡ Valid) ↔ NoneApplies (list_table n L)
+pub list_valid : (n : ℕ) (L : List ℤ) → (validity_of n L ≡ Ok tt) ↔ NoneApplies (list_table n L)
 list_valid n L = gives_valid (list_gives n L)
 
 -- the number returned is a refusal's exactly if that refusal is given
 pub code_refused : (a : Asked) (r : Refusal) → place_of r < refusal_unit → (returned a ≡ refusal_code_lem r) ↔ IsRefused a r
-code_refused (deciding n L lent) r h = (decisions_apart _ (decide.Refused r) (decision_below n L lent) h, ap decide_code_lem)
-code_refused (deciding_differences n L lent) r h = (decisions_apart _ (decide.Refused r) (plain_decision_below n L lent) h, ap decide_code_lem)
-code_refused (asking_pair n L x y w) r h = (outcomes_apart _ (implied.Refused r) (pair_below n L x y w) h, ap outcome_code_lem)
-code_refused (checking_model n L m) r h = (answers_apart _ (check.Refused r) (model-places.answer_below refusal_unit (omega arith) (omega arith) n L m) h, ap check_code_lem)
-code_refused (checking_refutation n L R) r h = (answers_apart _ (check.Refused r) (refutation-places.answer_below refusal_unit (omega arith) (omega arith) n L R) h, ap check_code_lem)
-code_refused (checking_model_bytes n b m) r h = (answers_apart _ (check.Refused r) (model_bytes_below n b m) h, ap check_code_lem)
-code_refused (checking_refutation_bytes n b R) r h = (answers_apart _ (check.Refused r) (refutation_bytes_below n b R) h, ap check_code_lem)
+code_refused (deciding n L lent) r h = (decisions_apart _ (Err r) (decision_below n L lent) h, ap decide_code_lem)
+code_refused (deciding_differences n L lent) r h = (decisions_apart _ (Err r) (plain_decision_below n L lent) h, ap decide_code_lem)
+code_refused (asking_pair n L x y w) r h = ((λ q. refused_outcome _ r (outcomes_apart _ (Err r) (pair_below n L x y w) h q)), ap outcome_code_lem)
+code_refused (checking_model n L m) r h = (answers_apart _ (Err r) (model-places.answer_below refusal_unit (omega arith) (omega arith) n L m) h, ap check_code_lem)
+code_refused (checking_refutation n L R) r h = (answers_apart _ (Err r) (refutation-places.answer_below refusal_unit (omega arith) (omega arith) n L R) h, ap check_code_lem)
+code_refused (checking_model_bytes n b m) r h = (answers_apart _ (Err r) (model_bytes_below n b m) h, ap check_code_lem)
+code_refused (checking_refutation_bytes n b R) r h = (answers_apart _ (Err r) (refutation_bytes_below n b R) h, ap check_code_lem)

@@ -1,5 +1,6 @@
 -- What a version of deciding is and what it leaves, one that keeps the promise, and inputs that versions are held to.
-use Rattle.std.specs.Prelude.{◌≡◌, refl, Bool, true, false, List, [], ◌∷◌, ◌++◌, ℕ, ℤ, pos, neg_ℤ, length, drop, replicate}
+use Rattle.lines.specs.declared.Refusal.{Refusal}
+use Rattle.std.specs.Prelude.{◌≡◌, refl, Bool, true, false, List, [], ◌∷◌, ◌++◌, ℕ, ℤ, pos, neg_ℤ, length, drop, replicate, Err, Ok, Result}
 use Rattle.std.proofs.Common.{ap, subst}
 use Rattle.integers.specs.Laws.{never}
 use Rattle.lines.specs.Line.{line_at, lines_of, is_false_lem}
@@ -14,14 +15,14 @@ use Rattle.theory_answers.specs.Refuted.{Due, due_refutation}
 use Rattle.decide_buffers.specs.Room.{Lent, model_room_lem, bounds_room_lem, groups_room_lem, refutation_room_lem, identifiers_room_lem, work_room_lem, rooms_validity, decide_validity_lem}
 use Rattle.decide_identifiers.specs.Identifiers.{identifiers_of, length_identifiers}
 use Rattle.decide.specs.declared.Answer.{Answer}
-use Rattle.decide.specs.declared.Answer.TheVariants.{Yes, No, Refused}
+use Rattle.decide.specs.declared.Answer.TheVariants.{Yes, No}
 use Rattle.decide.specs.Parts.{no_verdict}
 use Rattle.decide.specs.Decided.{OnYes, OnNo, Leaves, LeavesIn, Decided, cleared_to, decide_answer, answer_for}
 use Rattle.demands.specs.Cases.{list_8}
 
 -- what a call gives back: its answer, and what the lent buffers hold after
 pub record Outcome : Type 0 where
-  pub answer : Answer
+  pub answer : Result Answer Refusal
   pub after : Lent
 
 abbrev pub Version : Type 0
@@ -66,12 +67,12 @@ abbrev pub refuted : ℕ → List ℤ → List ℕ → Lent → Lent
 refuted n L R = refuted_with n R (identifiers_of L R)
 
 -- by the answer; a refusal leaves everything as it was
-abbrev pub left_by : Answer → (before onYes onNo : Lent) → Lent
-left_by Yes b y m = y
-left_by No b y m = m
-left_by (Refused r) b y m = b
+abbrev pub left_by : Result Answer Refusal → (before onYes onNo : Lent) → Lent
+left_by (Ok Yes) b y m = y
+left_by (Ok No) b y m = m
+left_by (Err r) b y m = b
 
-abbrev pub outcome : Answer → (before onYes onNo : Lent) → Outcome
+abbrev pub outcome : Result Answer Refusal → (before onYes onNo : Lent) → Outcome
 outcome a b y m = record { answer = a; after = left_by a b y m }
 
 -- the right answer, and by it what these two say
@@ -104,9 +105,9 @@ right_yes_in room n L = written_in room n (model_of n (lines_of L)) (bounds_of n
 abbrev pub right_no_in : ℕ → Left
 right_no_in room n L = refuted_in room (due_numbers n L) (identifiers_of L (due_numbers n L))
 
-pub right_leaves : (room n : ℕ) (L : List ℤ) (b : Lent) (x : Answer) → (x ≡ No → verdict_of n (lines_of L) ≡ false) → LeavesIn room n L x b (left_by x b (right_yes_in room n L b) (right_no_in room n L b))
-right_leaves room n L b Yes verdict = record { model = refl; bounds = refl; groups = refl; refutation = refl; identifiers = refl; work = refl }
-right_leaves room n L b No verdict =
+pub right_leaves : (room n : ℕ) (L : List ℤ) (b : Lent) (x : Result Answer Refusal) → (x ≡ Ok No → verdict_of n (lines_of L) ≡ false) → LeavesIn room n L x b (left_by x b (right_yes_in room n L b) (right_no_in room n L b))
+right_leaves room n L b (Ok Yes) verdict = record { model = refl; bounds = refl; groups = refl; refutation = refl; identifiers = refl; work = refl }
+right_leaves room n L b (Ok No) verdict =
     let R = due_numbers n L in
     record {
       numbers = R;
@@ -118,7 +119,7 @@ right_leaves room n L b No verdict =
       groups = refl;
       work = refl;
     }
-right_leaves room n L b (Refused r) verdict = refl
+right_leaves room n L b (Err r) verdict = refl
 
 abbrev pub right_yes : Left
 right_yes n L = right_yes_in (work_room_lem n) n L
@@ -134,11 +135,11 @@ unfolding right
 right_keeps n L b = record { is = refl; leaves = right_leaves (work_room_lem n) n L b (answer_for n L b) (no_verdict n L b) }
 
 -- ---- what the promise says of a version with the right answer
-pub on_yes : (y m : Left) → Keeps (leaving y m) → (n : ℕ) (L : List ℤ) (b : Lent) → answer_for n L b ≡ Yes → OnYes n L b (y n L b)
-on_yes y m k n L b e = subst (λ (a : Answer). Leaves n L a b (left_by a b (y n L b) (m n L b))) e (k n L b).leaves
+pub on_yes : (y m : Left) → Keeps (leaving y m) → (n : ℕ) (L : List ℤ) (b : Lent) → answer_for n L b ≡ Ok Yes → OnYes n L b (y n L b)
+on_yes y m k n L b e = subst (λ (a : Result Answer Refusal). Leaves n L a b (left_by a b (y n L b) (m n L b))) e (k n L b).leaves
 
-pub on_no : (y m : Left) → Keeps (leaving y m) → (n : ℕ) (L : List ℤ) (b : Lent) → answer_for n L b ≡ No → OnNo n L b (m n L b)
-on_no y m k n L b e = subst (λ (a : Answer). Leaves n L a b (left_by a b (y n L b) (m n L b))) e (k n L b).leaves
+pub on_no : (y m : Left) → Keeps (leaving y m) → (n : ℕ) (L : List ℤ) (b : Lent) → answer_for n L b ≡ Ok No → OnNo n L b (m n L b)
+on_no y m k n L b e = subst (λ (a : Result Answer Refusal). Leaves n L a b (left_by a b (y n L b) (m n L b))) e (k n L b).leaves
 
 -- ---- the inputs
 -- buffers of exactly the room needed, all zeros, but for the refutation buffer, which holds r everywhere
@@ -167,7 +168,7 @@ equal_pair =
     ∷ neg_ℤ (pos 1) ∷ pos 0 ∷ pos 1 ∷ pos 1 ∷ pos 0 ∷ pos 0
     ∷ []
 
-pub list_8_no : answer_for 1 list_8 (room_with 1 9) ≡ No
+pub list_8_no : answer_for 1 list_8 (room_with 1 9) ≡ Ok No
 unfolding decide_answer decide_validity_lem rooms_validity validity_of lines_validity_lem line_tests line_at is_false_lem verdict_of has_false no_negative
     entry digit step_of steps_of relax_row start_row_lem rounds row_at best
 list_8_no = refl

@@ -1,6 +1,7 @@
 -- Versions of writing seconds that go wrong in one thing, each a definition, and at named counts what breaks the promise. Beside them the versions that keep
 -- it, so that those break it only by what they do otherwise. A float is written by its bits.
-use Rattle.std.specs.Prelude.{◌≡◌, refl, List, [], ◌∷◌, ℕ, Float, ℤ, pos, length, get_or}
+use Rattle.seconds.specs.declared.SecondsRefusal.{SecondsRefusal}
+use Rattle.std.specs.Prelude.{◌≡◌, refl, List, [], ◌∷◌, ℕ, Float, ℤ, pos, length, get_or, Err, Result}
 use Rattle.std.proofs.Common.{ap, arith}
 use Rattle.std.specs.Float.{nan, inf, fin, binary64}
 use Rattle.std.specs.Float.Ieee.{of_bits, of_int, mul, div}
@@ -8,14 +9,12 @@ use Rattle.integers.specs.Laws.{never}
 use Rattle.seconds.specs.declared.Clock.{Clock}
 use Rattle.seconds.specs.declared.Clock.TheVariants.{SecondsPerTick, TicksPerSecond}
 use Rattle.seconds.specs.declared.SecondsRefusal.TheVariants.{UnusableClock, NoRecorder, NoTable}
-use Rattle.seconds.specs.declared.SecondsAnswer.{SecondsAnswer}
-use Rattle.seconds.specs.declared.SecondsAnswer.TheVariants.{Refused}
 use Rattle.seconds.specs.Clock.{seconds_of_lem, rate_of}
 use Rattle.seconds.specs.Promise.{usable_at, named_at, is_table_lem, tested, searched, counts_answer_lem, model_answer, events_answer_lem, clock_at, left_by, ModelWritten, EventsWritten}
 
 -- what a call gives back
 pub record Done : Type 0 where
-  pub answer : SecondsAnswer
+  pub answer : Result Unit SecondsRefusal
   pub after : List Float
 
 -- the promises, of any version of the calls
@@ -95,7 +94,7 @@ first_for_all_breaks k =
     omega (arith, e)
 
 -- ---- 53 before 50
-abbrev names_first : List ℕ → List Float → List ℕ → List ℤ → ℕ → SecondsAnswer
+abbrev names_first : List ℕ → List Float → List ℕ → List ℤ → ℕ → Result Unit SecondsRefusal
 names_first forms rates recorders counts room =
     tested (is_table_lem (length forms) (length rates) (length recorders) (length counts)) NoTable
     (searched (length recorders) (named_at (length forms) recorders) NoRecorder (searched (length forms) (usable_at forms rates) UnusableClock (counts_answer_lem counts room)))
@@ -106,4 +105,4 @@ refuses_names_first forms rates recorders counts b = record { answer = names_fir
 pub refuses_names_first_breaks : KeepsEvents refuses_names_first → ⊥
 unfolding refuses_names_first of_bits
 refuses_names_first_breaks k =
-    let e : Refused (NoRecorder 0) ≡ Refused (UnusableClock 0) = (k (0 ∷ []) (zero_seconds ∷ []) (1 ∷ []) (pos 1 ∷ []) (nan ∷ [])).is in never (cc)
+    let e : Err (NoRecorder 0) ≡ Err (UnusableClock 0) = (k (0 ∷ []) (zero_seconds ∷ []) (1 ∷ []) (pos 1 ∷ []) (nan ∷ [])).is in never (cc)

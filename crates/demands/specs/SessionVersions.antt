@@ -1,6 +1,7 @@
 -- Versions of a session's calls that go wrong in one thing, each a definition, and at a named state what breaks the promise. Beside them the versions that keep
 -- it, so that those break it only by what they do otherwise.
-use Rattle.std.specs.Prelude.{◌≡◌, refl, Bool, true, false, not, cond, ◌&&◌, List, [], ◌∷◌, ◌++◌, ℕ, ◌+◌, ◌-◌, ◌*◌, ℤ, pos, neg_ℤ, length, drop, get_or}
+use Rattle.lines.specs.declared.Refusal.{Refusal}
+use Rattle.std.specs.Prelude.{◌≡◌, refl, Bool, true, false, not, cond, ◌&&◌, List, [], ◌∷◌, ◌++◌, ℕ, ◌+◌, ◌-◌, ◌*◌, ℤ, pos, neg_ℤ, length, drop, get_or, Err, Ok, Result}
 use Rattle.std.proofs.Common.{sym, ap, subst, ◌∙◌, arith}
 use Rattle.std.proofs.lemmas.List.{length-replicate}
 use Rattle.std.proofs.Math.ListN.{get_or-append}
@@ -8,8 +9,6 @@ use Rattle.integers.specs.Laws.{never}
 use Rattle.integers.proofs.Linear.{ints}
 use Rattle.lines.specs.declared.Line.{Line}
 use Rattle.lines.specs.declared.Refusal.TheVariants.{BadCoefficient}
-use Rattle.lines.specs.declared.Validity.{Validity}
-use Rattle.lines.specs.declared.Validity.TheVariants as validity
 use Rattle.lines.specs.Limits.{line_size}
 use Rattle.lines.specs.Line.{number, line_numbers_lem, lines_of, numbers_of, line_at, is_false_lem}
 use Rattle.lines.specs.Refusal.{line_tests, lines_validity_lem, validity_of}
@@ -43,11 +42,11 @@ use Rattle.demands.specs.RightVersion.{left_by as leftOn, written, right, right_
 
 -- ---- what a call gives back: a start or a withdrawal its answer and the state, an add the buffers too
 pub record Done : Type 0 where
-  pub answer : Validity
+  pub answer : Result Unit Refusal
   pub state : List ℤ
 
 pub record Added : Type 0 where
-  pub answer : Answer
+  pub answer : Result Answer Refusal
   pub state : List ℤ
   pub after : Lent
 
@@ -63,9 +62,9 @@ KeepsWithdraw f = (s : List ℤ) → Withdraws s (f s).answer (f s).state
 
 -- ---- versions that keep them
 -- a start or a withdrawal with the right answer that leaves t where it is done
-abbrev left_by : Validity → (before done : List ℤ) → List ℤ
-left_by validity.Valid s t = t
-left_by (validity.Refused r) s t = s
+abbrev left_by : Result Unit Refusal → (before done : List ℤ) → List ℤ
+left_by (Ok _) s t = t
+left_by (Err r) s t = s
 
 abbrev starting_with : (ℕ → List ℤ → List ℤ) → ℕ → List ℤ → Done
 starting_with t n s = record { answer = start_answer n (length s); state = left_by (start_answer n (length s)) s (t n s) }
@@ -74,9 +73,9 @@ abbrev withdrawing_by : (List ℤ → List ℤ) → List ℤ → Done
 withdrawing_by t s = record { answer = withdraw_answer s; state = left_by (withdraw_answer s) s (t s) }
 
 -- an add that answers x where it is not refused by the state alone, with what deciding leaves, and then the state t
-abbrev buffer_by : Validity → (before after : Lent) → Lent
-buffer_by validity.Valid b a = a
-buffer_by (validity.Refused r) b a = b
+abbrev buffer_by : Result Unit Refusal → (before after : Lent) → Lent
+buffer_by (Ok _) b a = a
+buffer_by (Err r) b a = b
 
 -- where the line is learnt, what is given of what is known then, u; else what deciding leaves
 abbrev learnt_after : Bool → ℕ → List ℤ → List ℤ → Lent → Lent
@@ -104,25 +103,25 @@ right_add_keeps s l b = record { is = refl; state = refl; left = by_state (add_v
     u : List ℤ
     u = learnt_known s l
 
-    by_deciding : (y : Answer) (a : Lent) → learns_in s l ≡ false → Leaves (variables_in s) (numbers_with s l) y b a → AddLeft y s l b a
-    by_deciding decide.Yes a e o = subst (λ (c : Bool). LearntLeft c (variables_in s) (numbers_with s l) (learnt_known s l) decide.Yes b a) (sym e) o
-    by_deciding decide.No a e o = subst (λ (c : Bool). LearntLeft c (variables_in s) (numbers_with s l) (learnt_known s l) decide.No b a) (sym e) o
-    by_deciding (decide.Refused r) a e o = o
+    by_deciding : (y : Result Answer Refusal) (a : Lent) → learns_in s l ≡ false → Leaves (variables_in s) (numbers_with s l) y b a → AddLeft y s l b a
+    by_deciding (Ok decide.Yes) a e o = subst (λ (c : Bool). LearntLeft c (variables_in s) (numbers_with s l) (learnt_known s l) (Ok decide.Yes) b a) (sym e) o
+    by_deciding (Ok decide.No) a e o = subst (λ (c : Bool). LearntLeft c (variables_in s) (numbers_with s l) (learnt_known s l) (Ok decide.No) b a) (sym e) o
+    by_deciding (Err r) a e o = o
 
     by_table : (c : Bool) → learns_in s l ≡ c → AddLeft (learnt_answer c (variables_in s) (numbers_with s l) b) s l b (learnt_after c (variables_in s) (numbers_with s l) (learnt_known s l) b)
     by_table true e =
-        subst (λ (c : Bool). LearntLeft c (variables_in s) (numbers_with s l) (learnt_known s l) decide.Yes b (learnt_after true (variables_in s) (numbers_with s l) (learnt_known s l) b)) (sym e)
+        subst (λ (c : Bool). LearntLeft c (variables_in s) (numbers_with s l) (learnt_known s l) (Ok decide.Yes) b (learnt_after true (variables_in s) (numbers_with s l) (learnt_known s l) b)) (sym e)
         (record { outputs = record { model_is = refl; bounds_is = refl; groups_is = refl }; refutation = refl; identifiers = refl; work = refl })
-    by_table false e = let k = right_keeps n L b in by_deciding (answer_for n L b) (right n L b).after e (subst (λ (x : Answer). Leaves n L x b (right n L b).after) k.is k.leaves)
+    by_table false e = let k = right_keeps n L b in by_deciding (answer_for n L b) (right n L b).after e (subst (λ (x : Result Answer Refusal). Leaves n L x b (right n L b).after) k.is k.leaves)
 
-    by_list : (v : Validity) → AddLeft (unless_refused v (learnt_answer (learns_in s l) (variables_in s) (numbers_with s l) b)) s l b (buffer_by v b (learnt_after (learns_in s l) (variables_in s) (numbers_with s l) (learnt_known s l) b))
-    by_list validity.Valid = by_table (learns_in s l) refl
-    by_list (validity.Refused r) = refl
+    by_list : (v : Result Unit Refusal) → AddLeft (unless_refused v (learnt_answer (learns_in s l) (variables_in s) (numbers_with s l) b)) s l b (buffer_by v b (learnt_after (learns_in s l) (variables_in s) (numbers_with s l) (learnt_known s l) b))
+    by_list (Ok _) = by_table (learns_in s l) refl
+    by_list (Err r) = refl
 
-    by_state : (v : Validity) → AddLeft (unless_refused v (unless_refused (validity_for (variables_in s) (numbers_with s l) b) (learnt_answer (learns_in s l) (variables_in s) (numbers_with s l) b))) s l b
+    by_state : (v : Result Unit Refusal) → AddLeft (unless_refused v (unless_refused (validity_for (variables_in s) (numbers_with s l) b) (learnt_answer (learns_in s l) (variables_in s) (numbers_with s l) b))) s l b
         (buffer_by v b (buffer_by (validity_for (variables_in s) (numbers_with s l) b) b (learnt_after (learns_in s l) (variables_in s) (numbers_with s l) (learnt_known s l) b)))
-    by_state validity.Valid = by_list (validity_for (variables_in s) (numbers_with s l) b)
-    by_state (validity.Refused r) = refl
+    by_state (Ok _) = by_list (validity_for (variables_in s) (numbers_with s l) b)
+    by_state (Err r) = refl
 
 -- ---- the states: n is 1, and nothing lies beyond
 -- x at most 3, and x at least 4, which clash; and a line that is refused
@@ -138,15 +137,15 @@ twice = record { a = pos 2; x = pos 0; b = pos 0; y = pos 0; d = pos 0; identifi
 abbrev state : List Line → Bool → List ℤ
 state ls refused = state_of 1 ls refused ++ []
 
-none_valid : validity_of 1 (numbers_of []) ≡ validity.Valid
+none_valid : validity_of 1 (numbers_of []) ≡ Ok tt
 unfolding validity_of lines_validity_lem numbers_of
 none_valid = refl
 
-most_valid : validity_of 1 (numbers_of (most ∷ [])) ≡ validity.Valid
+most_valid : validity_of 1 (numbers_of (most ∷ [])) ≡ Ok tt
 unfolding validity_of lines_validity_lem numbers_of line_numbers_lem line_tests line_at
 most_valid = refl
 
-both_valid : validity_of 1 (numbers_of (most ∷ least ∷ [])) ≡ validity.Valid
+both_valid : validity_of 1 (numbers_of (most ∷ least ∷ [])) ≡ Ok tt
 unfolding validity_of lines_validity_lem numbers_of line_numbers_lem line_tests line_at
 both_valid = refl
 
@@ -173,7 +172,7 @@ forgets_n = starting_with (λ n s. state_of 0 [] false ++ drop (session_room_lem
 abbrev long : List ℤ
 long = zeros (session_room_lem 1)
 
-long_enough : start_answer 1 (length long) ≡ validity.Valid
+long_enough : start_answer 1 (length long) ≡ Ok tt
 unfolding start_answer session_room_lem known_room
 long_enough = ap (start_answer 1) (length-replicate (session_room_lem 1) (pos 0))
 
@@ -181,18 +180,18 @@ pub forgets_n_breaks : KeepsStart forgets_n → ⊥
 unfolding forgets_n state_of front_of numbers_of
 forgets_n_breaks k =
     let written : state_of 0 [] false ++ drop (session_room_lem 1) long ≡ state_of 1 [] false ++ drop (session_room_lem 1) long =
-    subst (λ (v : Validity). left_by v long (state_of 0 [] false ++ drop (session_room_lem 1) long) ≡ start_state 1 long v) long_enough (k 1 long).state in
+    subst (λ (v : Result Unit Refusal). left_by v long (state_of 0 [] false ++ drop (session_room_lem 1) long) ≡ start_state 1 long v) long_enough (k 1 long).state in
     one (ap (λ (t : List ℤ). number t 0) (sym written))
 
 -- ---- withdrawals
 -- what a version that withdraws with the right answer must leave behind lines ls and one more
-withdrawn : (t : List ℤ → List ℤ) → KeepsWithdraw (withdrawing_by t) → (ls : List Line) (l : Line) (refused : Bool) → validity_of 1 (numbers_of (ls ++ l ∷ [])) ≡ validity.Valid
+withdrawn : (t : List ℤ → List ℤ) → KeepsWithdraw (withdrawing_by t) → (ls : List Line) (l : Line) (refused : Bool) → validity_of 1 (numbers_of (ls ++ l ∷ [])) ≡ Ok tt
     → verdict_of 1 (ls ++ l ∷ []) ≡ not refused → verdict_of 1 (kept (ls ++ l ∷ []) refused) ≡ true
     → t (state (ls ++ l ∷ []) refused) ≡ state_of 1 ls false ++ drop (session_room_lem 1) (state (ls ++ l ∷ []) refused)
 withdrawn t k ls l refused v y w =
     let s = state (ls ++ l ∷ []) refused in
     let f = (withdraws_from (stands 1 (ls ++ l ∷ []) v refused s [] refl y w) (k s)).last ls l refl in
-    ap (λ (x : Validity). left_by x s (t s)) (sym f.0) ∙ f.1
+    ap (λ (x : Result Unit Refusal). left_by x s (t s)) (sym f.0) ∙ f.1
 
 -- it leaves the old line in the room
 pub leaves_old_line : List ℤ → Done
@@ -249,15 +248,15 @@ leaves_old_table_breaks k =
 
 -- ---- adds
 -- it counts a line that it refuses
-abbrev counted_by : List ℤ → Line → List ℤ → Answer → List ℤ
-counted_by s l t decide.Yes = t
-counted_by s l t decide.No = t
-counted_by s l t (decide.Refused r) = pushed s l false
+abbrev counted_by : List ℤ → Line → List ℤ → Result Answer Refusal → List ℤ
+counted_by s l t (Ok decide.Yes) = t
+counted_by s l t (Ok decide.No) = t
+counted_by s l t (Err r) = pushed s l false
 
 pub counts_refused : List ℤ → Line → Lent → Added
 counts_refused s l b = record { answer = add_answer s l b; state = counted_by s l (right_add s l b).state (add_answer s l b); after = (right_add s l b).after }
 
-twice_refused : answer_for 1 (numbers_of (twice ∷ [])) (room_with 1 9) ≡ decide.Refused (BadCoefficient 0)
+twice_refused : answer_for 1 (numbers_of (twice ∷ [])) (room_with 1 9) ≡ Err (BadCoefficient 0)
 unfolding decide_answer decide_validity_lem validity_of lines_validity_lem numbers_of line_numbers_lem line_tests line_at
 twice_refused = refl
 
@@ -266,9 +265,9 @@ unfolding counts_refused state_of front_of numbers_of
 counts_refused_breaks k =
     let s = state [] false in
     let b = room_with 1 9 in
-    let refused : add_answer s twice b ≡ decide.Refused (BadCoefficient 0) = add_answer_law (stands 1 [] none_valid false s [] refl none_yes none_yes) twice b ∙ twice_refused in
+    let refused : add_answer s twice b ≡ Err (BadCoefficient 0) = add_answer_law (stands 1 [] none_valid false s [] refl none_yes none_yes) twice b ∙ twice_refused in
     let same : pushed s twice false ≡ s =
-    subst (λ (x : Answer). counted_by s twice (right_add s twice b).state x ≡ add_state s twice (learnt_known s twice) x) refused (k s twice b).state in
+    subst (λ (x : Result Answer Refusal). counted_by s twice (right_add s twice b).state x ≡ add_state s twice (learnt_known s twice) x) refused (k s twice b).state in
     let more : pushed s twice false ≡ front_of 1 (twice ∷ []) false ++ (known_for 1 [] ++ []) =
     ap (λ (x : List ℤ). pushed x twice false) (state_front 1 [] false []) ∙ pushed_is 1 [] false (known_for 1 [] ++ []) twice false (omega arith) in
     one (ap (λ (t : List ℤ). number t 1) (sym more ∙ same))
@@ -282,12 +281,12 @@ without_first s l b =
       after = (right_add s l b).after;
     }
 
-least_yes : answer_for 1 (drop line_size (numbers_of (most ∷ least ∷ []))) (room_with 1 9) ≡ decide.Yes
+least_yes : answer_for 1 (drop line_size (numbers_of (most ∷ least ∷ []))) (room_with 1 9) ≡ Ok decide.Yes
 unfolding numbers_of line_numbers_lem decide_answer decide_validity_lem rooms_validity validity_of lines_validity_lem line_tests line_at is_false_lem verdict_of has_false
     no_negative consistent_halves entry digit step_of steps_of relax_row start_row_lem rounds row_at best opposite
 least_yes = refl
 
-both_no : answer_for 1 (numbers_of (most ∷ least ∷ [])) (room_with 1 9) ≡ decide.No
+both_no : answer_for 1 (numbers_of (most ∷ least ∷ [])) (room_with 1 9) ≡ Ok decide.No
 unfolding numbers_of line_numbers_lem
 both_no = list_8_no
 
@@ -297,17 +296,17 @@ without_first_breaks k =
     let s = state (most ∷ []) false in
     let b = room_with 1 9 in
     let holds = stands 1 (most ∷ []) most_valid false s [] refl most_yes most_yes in
-    let wrong : unless_refused (add_validity s) (answer_for (variables_in s) (drop line_size (numbers_with s least)) b) ≡ decide.Yes =
-    ap (λ (v : Validity). unless_refused v (answer_for (variables_in s) (drop line_size (numbers_with s least)) b)) (state_validity holds)
+    let wrong : unless_refused (add_validity s) (answer_for (variables_in s) (drop line_size (numbers_with s least)) b) ≡ Ok decide.Yes =
+    ap (λ (v : Result Unit Refusal). unless_refused v (answer_for (variables_in s) (drop line_size (numbers_with s least)) b)) (state_validity holds)
     ∙ ap (λ (n : ℕ). answer_for n (drop line_size (numbers_with s least)) b) (variables holds)
     ∙ ap (λ (L : List ℤ). answer_for 1 (drop line_size L) b) (all_numbers holds least)
     ∙ least_yes in
-    let same : decide.Yes ≡ decide.No = sym wrong ∙ (k s least b).is ∙ add_answer_law holds least b ∙ both_no in
+    let same : Ok decide.Yes ≡ Ok decide.No = sym wrong ∙ (k s least b).is ∙ add_answer_law holds least b ∙ both_no in
     never (cc)
 
 -- it looks at false lines and at walks, and not at halves, so that half-integers count: x + x at most 1, and then at least 1
-abbrev by_walks : ℕ → List ℤ → Lent → Answer
-by_walks n L b = unless_refused (validity_for n L b) (cond (not (has_false (lines_of L)) && no_negative (steps_of (lines_of L)) (2 * n)) decide.Yes decide.No)
+abbrev by_walks : ℕ → List ℤ → Lent → Result Answer Refusal
+by_walks n L b = unless_refused (validity_for n L b) (cond (not (has_false (lines_of L)) && no_negative (steps_of (lines_of L)) (2 * n)) (Ok decide.Yes) (Ok decide.No))
 
 pub learns_halves : List ℤ → Line → Lent → Added
 learns_halves s l b =
@@ -323,7 +322,7 @@ at_most_one = record { a = pos 1; x = pos 0; b = pos 1; y = pos 0; d = pos 1; id
 abbrev at_least_one : Line
 at_least_one = record { a = neg_ℤ (pos 1); x = pos 0; b = neg_ℤ (pos 1); y = pos 0; d = neg_ℤ (pos 1); identifier = pos 0 }
 
-one_valid : validity_of 1 (numbers_of (at_most_one ∷ [])) ≡ validity.Valid
+one_valid : validity_of 1 (numbers_of (at_most_one ∷ [])) ≡ Ok tt
 unfolding validity_of lines_validity_lem numbers_of line_numbers_lem line_tests line_at
 one_valid = refl
 
@@ -331,12 +330,12 @@ one_yes : verdict_of 1 (at_most_one ∷ []) ≡ true
 unfolding verdict_of has_false is_false_lem no_negative consistent_halves entry digit step_of steps_of relax_row start_row_lem rounds row_at best opposite
 one_yes = refl
 
-no_walk : by_walks 1 (numbers_of (at_most_one ∷ at_least_one ∷ [])) (room_with 1 9) ≡ decide.Yes
+no_walk : by_walks 1 (numbers_of (at_most_one ∷ at_least_one ∷ [])) (room_with 1 9) ≡ Ok decide.Yes
 unfolding numbers_of line_numbers_lem decide_validity_lem rooms_validity validity_of lines_validity_lem line_tests line_at is_false_lem has_false no_negative entry digit step_of
     steps_of relax_row start_row_lem rounds row_at best
 no_walk = refl
 
-no_whole_number : answer_for 1 (numbers_of (at_most_one ∷ at_least_one ∷ [])) (room_with 1 9) ≡ decide.No
+no_whole_number : answer_for 1 (numbers_of (at_most_one ∷ at_least_one ∷ [])) (room_with 1 9) ≡ Ok decide.No
 unfolding numbers_of line_numbers_lem decide_answer decide_validity_lem rooms_validity validity_of lines_validity_lem line_tests line_at is_false_lem verdict_of has_false
     no_negative consistent_halves entry digit step_of steps_of relax_row start_row_lem rounds row_at best opposite
 no_whole_number = refl
@@ -347,12 +346,12 @@ learns_halves_breaks k =
     let s = state (at_most_one ∷ []) false in
     let b = room_with 1 9 in
     let holds = stands 1 (at_most_one ∷ []) one_valid false s [] refl one_yes one_yes in
-    let wrong : unless_refused (add_validity s) (by_walks (variables_in s) (numbers_with s at_least_one) b) ≡ decide.Yes =
-    ap (λ (v : Validity). unless_refused v (by_walks (variables_in s) (numbers_with s at_least_one) b)) (state_validity holds)
+    let wrong : unless_refused (add_validity s) (by_walks (variables_in s) (numbers_with s at_least_one) b) ≡ Ok decide.Yes =
+    ap (λ (v : Result Unit Refusal). unless_refused v (by_walks (variables_in s) (numbers_with s at_least_one) b)) (state_validity holds)
     ∙ ap (λ (n : ℕ). by_walks n (numbers_with s at_least_one) b) (variables holds)
     ∙ ap (λ (L : List ℤ). by_walks 1 L b) (all_numbers holds at_least_one)
     ∙ no_walk in
-    let same : decide.Yes ≡ decide.No = sym wrong ∙ (k s at_least_one b).is ∙ add_answer_law holds at_least_one b ∙ no_whole_number in
+    let same : Ok decide.Yes ≡ Ok decide.No = sym wrong ∙ (k s at_least_one b).is ∙ add_answer_law holds at_least_one b ∙ no_whole_number in
     never (cc)
 
 -- ---- adds that answer right and leave the right state, and on a yes hand out something else
@@ -369,16 +368,16 @@ pub right_yes_keeps : KeepsAdd (yes_leaving (λ s l b. (right_add s l b).after))
 unfolding right_add
 right_yes_keeps s l b = record { is = refl; state = refl; left = go (add_answer s l b) (right_add_keeps s l b).left }
   where
-    go : (x : Answer) → AddLeft x s l b (right_add s l b).after → AddLeft x s l b (leftOn x b (right_add s l b).after (right_add s l b).after)
-    go decide.Yes o = o
-    go decide.No o = o
-    go (decide.Refused r) o = refl
+    go : (x : Result Answer Refusal) → AddLeft x s l b (right_add s l b).after → AddLeft x s l b (leftOn x b (right_add s l b).after (right_add s l b).after)
+    go (Ok decide.Yes) o = o
+    go (Ok decide.No) o = o
+    go (Err r) o = refl
 
 -- what such a version must hand out where all lines so far have a solution
 yes_left : (y : List ℤ → Line → Lent → Lent) → KeepsAdd (yes_leaving y) → {n : ℕ} {ls : List Line} {s : List ℤ} → Stands n ls false s → (l : Line) (b : Lent)
-    → answer_for n (numbers_of (ls ++ l ∷ [])) b ≡ decide.Yes → OnYes n (numbers_of (ls ++ l ∷ [])) b (y s l b)
+    → answer_for n (numbers_of (ls ++ l ∷ [])) b ≡ Ok decide.Yes → OnYes n (numbers_of (ls ++ l ∷ [])) b (y s l b)
 yes_left y k {n} {ls} {s} holds l b e =
-    subst (λ (x : Answer). Leaves n (numbers_of (ls ++ l ∷ [])) x b (leftOn x b (y s l b) (right_add s l b).after)) (add_answer_law holds l b ∙ e)
+    subst (λ (x : Result Answer Refusal). Leaves n (numbers_of (ls ++ l ∷ [])) x b (leftOn x b (y s l b) (right_add s l b).after)) (add_answer_law holds l b ∙ e)
     (stand_learns holds l (k s l b)).decided.leaves
 
 -- the model and the groups that the state keeps
@@ -407,7 +406,7 @@ old_model s l b =
 pub keeps_old_model : List ℤ → Line → Lent → Added
 keeps_old_model = yes_leaving old_model
 
-least_alone_yes : answer_for 1 (numbers_of (least ∷ [])) (room_with 1 9) ≡ decide.Yes
+least_alone_yes : answer_for 1 (numbers_of (least ∷ [])) (room_with 1 9) ≡ Ok decide.Yes
 unfolding numbers_of line_numbers_lem
 least_alone_yes = least_yes
 
@@ -456,7 +455,7 @@ at_most_y = record { a = pos 1; x = pos 0; b = neg_ℤ (pos 1); y = pos 1; d = p
 abbrev at_least_y : Line
 at_least_y = record { a = neg_ℤ (pos 1); x = pos 0; b = pos 1; y = pos 1; d = pos 0; identifier = pos 0 }
 
-below_valid : validity_of 2 (numbers_of (at_most_y ∷ [])) ≡ validity.Valid
+below_valid : validity_of 2 (numbers_of (at_most_y ∷ [])) ≡ Ok tt
 unfolding validity_of lines_validity_lem numbers_of line_numbers_lem line_tests line_at
 below_valid = refl
 
@@ -464,7 +463,7 @@ below_yes : verdict_of 2 (at_most_y ∷ []) ≡ true
 unfolding verdict_of has_false is_false_lem no_negative consistent_halves entry digit step_of steps_of relax_row start_row_lem rounds row_at best opposite
 below_yes = refl
 
-equal_yes : answer_for 2 (numbers_of (at_most_y ∷ at_least_y ∷ [])) (room_with 2 9) ≡ decide.Yes
+equal_yes : answer_for 2 (numbers_of (at_most_y ∷ at_least_y ∷ [])) (room_with 2 9) ≡ Ok decide.Yes
 unfolding numbers_of line_numbers_lem decide_answer decide_validity_lem rooms_validity validity_of lines_validity_lem line_tests line_at is_false_lem verdict_of has_false
     no_negative consistent_halves entry digit step_of steps_of relax_row start_row_lem rounds row_at best opposite
 equal_yes = refl

@@ -4,7 +4,7 @@
 -- slice that is (`part_in` in check_shorter/specs/Shorter.antt). `shorter` promises the slice `shorter_slice`, where it begins and its numbers, an equation for
 -- every input; the exported function returns `shorter_returned`. src/lib.rt calls both on buffers that could be written, and proves that every buffer is left as
 -- it was.
-use Rattle.std.specs.Prelude.{◌≡◌, refl, ◌⊎◌, ◌↔◌, List, [], ◌++◌, ℕ, ◌<◌, ◌≤◌, ℤ, length}
+use Rattle.std.specs.Prelude.{◌≡◌, refl, ◌⊎◌, ◌↔◌, List, [], ◌++◌, ℕ, ◌<◌, ◌≤◌, ℤ, length, Ok}
 use Rattle.std.proofs.Common.{ap, inl, inr, arith, length-take-le}
 use Rattle.lines.specs.Line.{Solvable, lines_of}
 use Rattle.check_soundness.specs.Head.{stated_length, stated}
@@ -131,7 +131,7 @@ of_two_accepted n L first second f g =
     (λ a b. absurd (a f))
 
 -- so it is with what two calls of deciding on one list left that say no, each of either engine, lent the buffers as they are.
-pub of_two_noes : {e f : Engine} (n : ℕ) (L : List ℤ) (c : CallOf e n L) (d : CallOf f n L) → c.answer ≡ decide.No → d.answer ≡ decide.No
+pub of_two_noes : {e f : Engine} (n : ℕ) (L : List ℤ) (c : CallOf e n L) (d : CallOf f n L) → c.answer ≡ Ok decide.No → d.answer ≡ Ok decide.No
     → (first second : Slice) → first.numbers ≡ c.after.refutation → second.numbers ≡ d.after.refutation
     → OfTwo n L (refutation_in c.after) (refutation_in d.after) (shorter_slice n L first second).numbers
 of_two_noes n L c d c_no d_no first second e i =

@@ -2,7 +2,7 @@
 -- that those break it only by what they do otherwise.
 use Rattle.std.proofs.Math.Path.{◌≡◌, refl, ap, ap₂}
 use Rattle.std.proofs.Common.{sym, ◌∙◌, arith, lt-ltb}
-use Rattle.std.specs.Prelude.{Bool, not, ◌&&◌, ◌||◌, eqb, ltb, ℤ, pos, neg_ℤ, take, get_or, replicate}
+use Rattle.std.specs.Prelude.{Bool, not, ◌&&◌, ◌||◌, eqb, ltb, ℤ, pos, neg_ℤ, take, get_or, replicate, Ok}
 use Rattle.std.proofs.Math.Bool.{cond}
 use mathlib.Core.List.{List, [], ◌∷◌, ◌++◌}
 use Prim.Native.Nat.{ℕ, ◌+◌, ◌-◌, ◌%◌, ◌^◌, ◌<◌}
@@ -96,7 +96,7 @@ measured_cut : ℕ → List ℤ → List ℕ → ℕ
 measured_cut n L S =
     let k = head_size + cut (steps_in S) in
     let R = take k S in
-    if_accepted (unless_refused (refutation_validity n L R) (cond (accepted_cut (run L start R)) Yes (No 0))) k
+    if_accepted (unless_refused (refutation_validity n L R) (cond (accepted_cut (run L start R)) (Ok Yes) (Ok (No 0)))) k
 
 pub cuts_counts : Version
 cuts_counts = by_measures measured_cut part_by_lengths_lem
@@ -135,7 +135,7 @@ module _ (rest : List ℕ) (long : max_refutation < length rest) where
   long_slice : Slice
   long_slice = slice (6, 0) (one_false.numbers ++ rest)
 
-  accepted_at : refutation_answer 0 two_false one_false.numbers ≡ Yes
+  accepted_at : refutation_answer 0 two_false one_false.numbers ≡ Ok Yes
   unfolding one_false two_false refutation_answer refutation_validity validity_of lines_validity_lem line_tests line_at is_false_lem counts_ok_lem is_false_step_lem head_on advance run closes accepted verdict
   accepted_at = refl
 

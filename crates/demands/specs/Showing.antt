@@ -4,7 +4,7 @@
 -- refutation in check_soundness/specs/Refutes.antt and the words of Demands.antt), the tables of refusals here and what a call is (`ShowCall`), and nothing of
 -- how a showing is found. The promise of the checker is an equation, `shown_answer` (check_shown/specs/Answer.antt), that of the call `ShowsLine`
 -- (show_line/specs/Answer.antt), each for every input; the exported functions return `check_shown_lem` and `ShowReturns` (c_check_shown/specs/Calls.antt, c_show_line/specs/Calls.antt).
-use Rattle.std.specs.Prelude.{◌≡◌, refl, ◌↔◌, Bool, true, false, ℕ, ◌/◌, ◌<◌, ℤ, length, drop}
+use Rattle.std.specs.Prelude.{◌≡◌, refl, ◌↔◌, Bool, true, false, ℕ, ◌/◌, ◌<◌, ℤ, length, drop, Err, Ok, Result}
 use Rattle.std.proofs.Common.{sym, subst, ◌∙◌, arith}
 use Rattle.std.proofs.Math.Path.{ap}
 use mathlib.Core.List.{List, [], ◌∷◌, ◌++◌}
@@ -16,8 +16,6 @@ use Rattle.integers.specs.Sequence.{get_d_tabulate}
 use Rattle.lines.specs.declared.Line.{Line}
 use Rattle.lines.specs.declared.Refusal.{Refusal}
 use Rattle.lines.specs.declared.Refusal.TheVariants.{LongRefutation}
-use Rattle.lines.specs.declared.Validity.{Validity}
-use Rattle.lines.specs.declared.Validity.TheVariants as validity
 use Rattle.lines.specs.Limits.{max_lines, max_refutation, shown_constant_lem}
 use Rattle.lines.specs.Line.{line_at, line_count, lines_of, Implies, Breaks}
 use Rattle.lines.specs.Refusal.{validity_of}
@@ -40,7 +38,7 @@ use Rattle.check_shown.specs.Answer.{showing_validity_lem, shown_answer}
 use Rattle.check_shown.specs.Asked.{ShownAsked, list_ok}
 use Rattle.check_shown.specs.Meaning.{accepted_met, accepted_longer}
 use Rattle.show_line.specs.declared.ShowAnswer.{ShowAnswer}
-use Rattle.show_line.specs.declared.ShowAnswer.TheVariants.{Shown, NotShown, Refused}
+use Rattle.show_line.specs.declared.ShowAnswer.TheVariants.{Shown, NotShown}
 use Rattle.show_line.specs.Answer.{show_rooms, show_validity_lem, judged_by, unless_refused, show_answer, ShowLent, lengths_of, OnShown, OnNotShown, Leaves, ShowsLine}
 use Rattle.show_line.specs.Found.{show_asked}
 use Rattle.show_line.specs.Meaning.{due_shown, implied_no, open_breaks, shown_exactly_if_implied}
@@ -54,21 +52,21 @@ use Rattle.demands.specs.ShowingVersions.{right, right_keeps}
 -- ---- a showing that is accepted
 
 -- It says that every solution of the list meets the line, whoever proposed it.
-pub accepted_says_so : (n : ℕ) (L : List ℤ) (l : Line) (R : List ℕ) → shown_answer n L l R ≡ Yes → Implies (lines_of L) l
+pub accepted_says_so : (n : ℕ) (L : List ℤ) (l : Line) (R : List ℕ) → shown_answer n L l R ≡ Ok Yes → Implies (lines_of L) l
 accepted_says_so = accepted_met
 
 -- Where nothing is refused, every solution meets the line exactly if some showing is accepted: a list without a solution shows every line.
-pub shown_exactly_if_met : (n : ℕ) (L : List ℤ) (l : Line) → ShownAsked n L l → Some (λ R. shown_answer n L l R ≡ Yes) ↔ Implies (lines_of L) l
+pub shown_exactly_if_met : (n : ℕ) (L : List ℤ) (l : Line) → ShownAsked n L l → Some (λ R. shown_answer n L l R ≡ Ok Yes) ↔ Implies (lines_of L) l
 shown_exactly_if_met = shown_exactly_if_implied
 
 -- Then a short one is: it is of the kind that is due for the list against the line, and has at most 4·n steps or names a false line.
-pub short_one_is_accepted : (n : ℕ) (L : List ℤ) (l : Line) → ShownAsked n L l → Implies (lines_of L) l → Some (λ R. (shown_answer n L l R ≡ Yes) × Due n (against L l) R)
+pub short_one_is_accepted : (n : ℕ) (L : List ℤ) (l : Line) → ShownAsked n L l → Implies (lines_of L) l → Some (λ R. (shown_answer n L l R ≡ Ok Yes) × Due n (against L l) R)
 short_one_is_accepted n L l a met =
     let d = due_refutation n (against L l) (implied_no n L l a met) in
     (d.0, (due_shown n L l a d.0 d.1, d.1))
 
 -- Nothing is unlearned: what is accepted against a list is accepted unchanged against each valid longer list.
-pub accepted_for_good : (n : ℕ) (L M : List ℤ) (l : Line) (R : List ℕ) → validity_of n (L ++ M) ≡ validity.Valid → shown_answer n L l R ≡ Yes → shown_answer n (L ++ M) l R ≡ Yes
+pub accepted_for_good : (n : ℕ) (L M : List ℤ) (l : Line) (R : List ℕ) → validity_of n (L ++ M) ≡ Ok tt → shown_answer n L l R ≡ Ok Yes → shown_answer n (L ++ M) l R ≡ Ok Yes
 accepted_for_good = accepted_longer
 
 -- ---- refusals
@@ -77,44 +75,44 @@ accepted_for_good = accepted_longer
 abbrev pub showing_table : ℕ → List ℤ → Line → List ℕ → List Row
 showing_table n L l R = list_table n L ++ (table_within (shown_constant_lem n) n (line_count L) l ++ LongRefutation when (max_refutation < length R) ∷ [])
 
-pub showing_refused_exactly_if : (n : ℕ) (L : List ℤ) (l : Line) (R : List ℕ) (r : Refusal) → (shown_answer n L l R ≡ check.Refused r) ↔ FirstApplies (showing_table n L l R) r
+pub showing_refused_exactly_if : (n : ℕ) (L : List ℤ) (l : Line) (R : List ℕ) (r : Refusal) → (shown_answer n L l R ≡ Err r) ↔ FirstApplies (showing_table n L l R) r
 unfolding shown_answer showing_validity_lem verdict
 showing_refused_exactly_if n L l R r =
     let s = run (against L l) start R in
     let f = gives_refused (gives_or (list_gives n L) (gives_or (within_gives (shown_constant_lem n) n (line_count L) l) (gives_last (less_test max_refutation (length R))))) r in
-    let g = refused_when (showing_validity_lem n L l (length R)) (verdict s) (either checks.NotRefused (accepted s) tt tt) r in
+    let g = refused_when (showing_validity_lem n L l (length R)) (Ok (verdict s)) tt r in
     ((λ e. f.0 (g.0 e)), (λ t. g.1 (f.1 t)))
 
 -- The same of a call, with 7 at places 4 and 5 and 8 instead of 11.
 abbrev pub show_table : ℕ → List ℤ → Line → ShowLent → List Row
 show_table n L l b = list_table n L ++ (table_within (shown_constant_lem n) n (line_count L) l ++ rooms_table show_rooms n (lengths_of b))
 
-pub show_refused_exactly_if : (n : ℕ) (L : List ℤ) (l : Line) (x : ShowAnswer) (b a : ShowLent) → ShowsLine n L l x b a → (r : Refusal) → (x ≡ Refused r) ↔ FirstApplies (show_table n L l b) r
+pub show_refused_exactly_if : (n : ℕ) (L : List ℤ) (l : Line) (x : Result ShowAnswer Refusal) (b a : ShowLent) → ShowsLine n L l x b a → (r : Refusal) → (x ≡ Err r) ↔ FirstApplies (show_table n L l b) r
 unfolding show_answer show_validity_lem
 show_refused_exactly_if n L l x b a d r =
     let f = gives_refused (gives_or (list_gives n L) (gives_or (within_gives (shown_constant_lem n) n (line_count L) l) (rooms_give show_rooms n (lengths_of b)))) r in (
       (λ e. f.0 (fore (show_validity_lem n L l (lengths_of b)) (verdict_of n (lines_of (against L l))) (sym d.is ∙ e))),
-      (λ g. d.is ∙ ap (λ (v : Validity). unless_refused v (judged_by (verdict_of n (lines_of (against L l))))) (f.1 g)),
+      (λ g. d.is ∙ ap (λ (v : Result Unit Refusal). unless_refused v (judged_by (verdict_of n (lines_of (against L l))))) (f.1 g)),
     )
   where
-    fore : (v : Validity) (s : Bool) → unless_refused v (judged_by s) ≡ Refused r → v ≡ validity.Refused r
-    fore validity.Valid false e = never (cc)
-    fore validity.Valid true e = never (cc)
-    fore (validity.Refused q) s e = cc
+    fore : (v : Result Unit Refusal) (s : Bool) → unless_refused v (judged_by s) ≡ Err r → v ≡ Err r
+    fore (Ok _) false e = never (cc)
+    fore (Ok _) true e = never (cc)
+    fore (Err q) s e = cc
 
 -- A refusal leaves every buffer as it was.
-pub refused_show_changes_nothing : (n : ℕ) (L : List ℤ) (l : Line) (r : Refusal) (b a : ShowLent) → ShowsLine n L l (Refused r) b a → a ≡ b
+pub refused_show_changes_nothing : (n : ℕ) (L : List ℤ) (l : Line) (r : Refusal) (b a : ShowLent) → ShowsLine n L l (Err r) b a → a ≡ b
 refused_show_changes_nothing n L l r b a d = d.leaves
 
 -- Every call is answered or refused, whatever it asks and whatever stands in the buffers: what is stated here is of something.
-pub shows_exist : (n : ℕ) (L : List ℤ) (l : Line) (b : ShowLent) → (x : ShowAnswer) × (a : ShowLent) × ShowsLine n L l x b a
+pub shows_exist : (n : ℕ) (L : List ℤ) (l : Line) (b : ShowLent) → (x : Result ShowAnswer Refusal) × (a : ShowLent) × ShowsLine n L l x b a
 shows_exist n L l b = let o = right n L l b in (o.answer, o.after, right_keeps n L l b)
 
 -- ---- the call
 
 -- A call that was not refused, whatever stood in the buffers before.
 pub record ShowCall (n : ℕ) (L : List ℤ) (l : Line) : Type 0 where
-  pub answer : ShowAnswer
+  pub answer : Result ShowAnswer Refusal
   pub before : ShowLent
   pub after : ShowLent
   pub promised : ShowsLine n L l answer before after
@@ -125,7 +123,7 @@ pub record ShowCall (n : ℕ) (L : List ℤ) (l : Line) : Type 0 where
 pub record HandsOver (n : ℕ) (L : List ℤ) (l : Line) (b a : ShowLent) : Type 0 where
   pub numbers : List ℕ
   pub refutation : a.refutation ≡ numbers ++ drop (length numbers) b.refutation
-  pub accepted : shown_answer n L l numbers ≡ Yes
+  pub accepted : shown_answer n L l numbers ≡ Ok Yes
   pub due : Due n (against L l) numbers
   pub beyond_identifiers : drop (steps_in numbers) a.identifiers ≡ drop (steps_in numbers) b.identifiers
   pub list_identifier : (i : ℕ) → i < steps_in numbers → step_at numbers i / 2 < line_count L → get_or a.identifiers i 0 ≡ identifier_of_lem L (step_at numbers i)
@@ -133,37 +131,37 @@ pub record HandsOver (n : ℕ) (L : List ℤ) (l : Line) (b a : ShowLent) : Type
 
 pub record RightShow (n : ℕ) (L : List ℤ) (l : Line) (c : ShowCall n L l) : Type 0 where
   -- A showing exactly if every solution meets the line; else some solution does not.
-  pub shown_exactly : (c.answer ≡ Shown) ↔ Implies (lines_of L) l
-  pub open_exactly : (c.answer ≡ NotShown) ↔ Breaks (lines_of L) l
-  pub hands_over : c.answer ≡ Shown → HandsOver n L l c.before c.after
+  pub shown_exactly : (c.answer ≡ Ok Shown) ↔ Implies (lines_of L) l
+  pub open_exactly : (c.answer ≡ Ok NotShown) ↔ Breaks (lines_of L) l
+  pub hands_over : c.answer ≡ Ok Shown → HandsOver n L l c.before c.after
   -- Else nothing is written.
-  pub unwritten : c.answer ≡ NotShown → (c.after.refutation ≡ c.before.refutation) × (c.after.identifiers ≡ c.before.identifiers)
+  pub unwritten : c.answer ≡ Ok NotShown → (c.after.refutation ≡ c.before.refutation) × (c.after.identifiers ≡ c.before.identifiers)
   -- The named part of the work area is all zeros, and the rest is untouched.
   pub work : c.after.work ≡ cleared n c.before.work
 
 module _ {n : ℕ} {L : List ℤ} {l : Line} (c : ShowCall n L l) where
-  all_valid : show_validity_lem n L l (lengths_of c.before) ≡ validity.Valid
+  all_valid : show_validity_lem n L l (lengths_of c.before) ≡ Ok tt
   all_valid = answered_valid n L l c.before (subst NotRefused c.promised.is c.not_refused)
 
   pub show_was_asked : ShownAsked n L l
   show_was_asked = (show_asked n L l c.before all_valid).asked
 
-  answer_is : c.answer ≡ judged_by (verdict_of n (lines_of (against L l)))
+  answer_is : c.answer ≡ Ok (judged_by (verdict_of n (lines_of (against L l))))
   unfolding show_answer
-  answer_is = c.promised.is ∙ ap (λ (v : Validity). unless_refused v (judged_by (verdict_of n (lines_of (against L l))))) all_valid
+  answer_is = c.promised.is ∙ ap (λ (v : Result Unit Refusal). unless_refused v (judged_by (verdict_of n (lines_of (against L l))))) all_valid
 
-  on_shown : c.answer ≡ Shown → OnShown n L l c.before c.after
-  on_shown e = subst (λ (x : ShowAnswer). Leaves n L l x c.before c.after) e c.promised.leaves
+  on_shown : c.answer ≡ Ok Shown → OnShown n L l c.before c.after
+  on_shown e = subst (λ (x : Result ShowAnswer Refusal). Leaves n L l x c.before c.after) e c.promised.leaves
 
-  on_open : c.answer ≡ NotShown → OnNotShown n c.before c.after
-  on_open e = subst (λ (x : ShowAnswer). Leaves n L l x c.before c.after) e c.promised.leaves
+  on_open : c.answer ≡ Ok NotShown → OnNotShown n c.before c.after
+  on_open e = subst (λ (x : Result ShowAnswer Refusal). Leaves n L l x c.before c.after) e c.promised.leaves
 
   -- the verdict on the list against the line tells the answer
-  verdict_shown : verdict_of n (lines_of (against L l)) ≡ false → c.answer ≡ Shown
-  verdict_shown e = answer_is ∙ ap judged_by e
+  verdict_shown : verdict_of n (lines_of (against L l)) ≡ false → c.answer ≡ Ok Shown
+  verdict_shown e = answer_is ∙ ap (λ (t : Bool). Ok (judged_by t)) e
 
-  verdict_open : verdict_of n (lines_of (against L l)) ≡ true → c.answer ≡ NotShown
-  verdict_open e = answer_is ∙ ap judged_by e
+  verdict_open : verdict_of n (lines_of (against L l)) ≡ true → c.answer ≡ Ok NotShown
+  verdict_open e = answer_is ∙ ap (λ (t : Bool). Ok (judged_by t)) e
 
   -- the identifiers of the steps, one by one
   read : (w : OnShown n L l c.before c.after) (i : ℕ) → i < steps_in w.numbers → get_or c.after.identifiers i 0 ≡ identifier_of_lem (against L l) (step_at w.numbers i)
@@ -173,7 +171,7 @@ module _ {n : ℕ} {L : List ℤ} {l : Line} (c : ShowCall n L l) where
       ∙ get_or-append (identifiers_of (against L l) w.numbers) (drop (steps_in w.numbers) c.before.identifiers) 0 i (omega (arith, length_identifiers (against L l) w.numbers))
       ∙ get_d_tabulate (steps_in w.numbers) i (λ k. identifier_of_lem (against L l) (step_at w.numbers k)) 0 h
 
-  handed : c.answer ≡ Shown → HandsOver n L l c.before c.after
+  handed : c.answer ≡ Ok Shown → HandsOver n L l c.before c.after
   unfolding opposite
   handed e =
       let w = on_shown e in
@@ -197,35 +195,35 @@ right_show n L l c =
       work = go c.answer refl c.not_refused;
     }
   where
-    told : (t : Bool) → judged_by t ≡ NotShown → t ≡ true
+    told : (t : Bool) → ◌≡◌ {A = Result ShowAnswer Refusal} (Ok (judged_by t)) (Ok NotShown) → t ≡ true
     told true e = refl
     told false e = never (cc)
 
-    opens : c.answer ≡ NotShown → verdict_of n (lines_of (against L l)) ≡ true
+    opens : c.answer ≡ Ok NotShown → verdict_of n (lines_of (against L l)) ≡ true
     opens e = told _ (sym (answer_is c) ∙ e)
 
-    broken : Breaks (lines_of L) l → c.answer ≡ NotShown
+    broken : Breaks (lines_of L) l → c.answer ≡ Ok NotShown
     broken b = pick (verdict_of n (lines_of (against L l))) refl
       where
-        pick : (t : Bool) → verdict_of n (lines_of (against L l)) ≡ t → c.answer ≡ NotShown
+        pick : (t : Bool) → verdict_of n (lines_of (against L l)) ≡ t → c.answer ≡ Ok NotShown
         pick true e = verdict_open c e
         pick false e = absurd (b.breaks (accepted_met n L l (handed c (verdict_shown c e)).numbers (handed c (verdict_shown c e)).accepted b.assignment b.solves))
 
-    go : (x : ShowAnswer) → c.answer ≡ x → NotRefused x → c.after.work ≡ cleared n c.before.work
-    go Shown e h = (on_shown c e).work
-    go NotShown e h = (on_open c e).work
-    go (Refused r) e h = absurd h
+    go : (x : Result ShowAnswer Refusal) → c.answer ≡ x → NotRefused x → c.after.work ≡ cleared n c.before.work
+    go (Ok Shown) e h = (on_shown c e).work
+    go (Ok NotShown) e h = (on_open c e).work
+    go (Err r) e h = absurd h
 
 -- The line question (utvpi_implied_line) answers no exactly where nothing is shown.
-pub open_exactly_if_not_implied : (n : ℕ) (L : List ℤ) (l : Line) (c : LineCall n L l) (d : ShowCall n L l) → (d.answer ≡ NotShown) ↔ (c.answer ≡ NotImplied)
+pub open_exactly_if_not_implied : (n : ℕ) (L : List ℤ) (l : Line) (c : LineCall n L l) (d : ShowCall n L l) → (d.answer ≡ Ok NotShown) ↔ (c.answer ≡ Ok NotImplied)
 open_exactly_if_not_implied n L l c d =
     let r = right_line n L l c in
     let q = right_show n L l d in
     ((λ e. r.no_exactly.1 (q.open_exactly.0 e)), (λ e. q.open_exactly.1 (r.no_exactly.0 e)))
 
 -- What a call handed over is accepted against each valid longer list, too: the call on that list shows the line again.
-pub shown_for_good : (n : ℕ) (L M : List ℤ) (l : Line) (c : ShowCall n L l) (d : ShowCall n (L ++ M) l) → (e : c.answer ≡ Shown)
-    → (d.answer ≡ Shown) × (shown_answer n (L ++ M) l ((right_show n L l c).hands_over e).numbers ≡ Yes)
+pub shown_for_good : (n : ℕ) (L M : List ℤ) (l : Line) (c : ShowCall n L l) (d : ShowCall n (L ++ M) l) → (e : c.answer ≡ Ok Shown)
+    → (d.answer ≡ Ok Shown) × (shown_answer n (L ++ M) l ((right_show n L l c).hands_over e).numbers ≡ Ok Yes)
 shown_for_good n L M l c d e =
     let h = (right_show n L l c).hands_over e in
     let again = accepted_longer n L M l h.numbers (show_was_asked d).list h.accepted in

@@ -2,7 +2,7 @@
 -- every value of a model lies within ±n·M, and so does every bound that is there; every implied sum or difference lies within twice that; the model that shows
 -- that a line is not implied lies within ±n·(M + 1). Both are within the ±2·n·M that was asked for. All values of models fit 32 bits. These sizes are reached:
 -- `chain_list` has a value, and a bound, of n·M.
-use Rattle.std.specs.Prelude.{◌≡◌, refl, ◌⊎◌, Bool, true, false, cond, ◌&&◌, List, [], ◌∷◌, ◌++◌, ℕ, zero, suc, ◌+◌, ◌*◌, ◌%◌, ◌≤◌, ◌<◌, ℤ, pos, neg_ℤ, ◌+ℤ◌, length, get_or, take}
+use Rattle.std.specs.Prelude.{◌≡◌, refl, ◌⊎◌, Bool, true, false, cond, ◌&&◌, List, [], ◌∷◌, ◌++◌, ℕ, zero, suc, ◌+◌, ◌*◌, ◌%◌, ◌≤◌, ◌<◌, ℤ, pos, neg_ℤ, ◌+ℤ◌, length, get_or, take, Ok}
 use Rattle.std.proofs.Common.{sym, ap, ◌∙◌, inl, inr, arith, SFits}
 use Rattle.std.specs.Int.{w32}
 use Rattle.std.specs.Int.Signed.{le_z, lt_z}
@@ -12,7 +12,6 @@ use Rattle.integers.specs.Laws.{both_true}
 use Rattle.integers.proofs.Halving.{abs_within}
 use Rattle.integers.specs.Sequence.{length_tabulate}
 use Rattle.lines.specs.declared.Line.{Line}
-use Rattle.lines.specs.declared.Validity.TheVariants.{Valid}
 use Rattle.lines.specs.Limits.{line_size, max_variables, max_lines, max_constant, model_constant, absent_least, absent_greatest}
 use Rattle.lines.specs.Line.{line_count, lines_of, numbers_of, Assignment, assignment_of, Meets, Solvable}
 use Rattle.lines.specs.LineNumbers.{length_numbers_of, lines_of_numbers, lines_snoc}
@@ -27,7 +26,7 @@ use Rattle.theory_answers.specs.Unique.{one_least, one_greatest}
 use Rattle.decide_buffers.specs.Room.{Lent, model_room_lem}
 use Rattle.decide.specs.declared.Answer.TheVariants as decide
 use Rattle.decide.specs.Parts.{model_in_lem, bounds_in, yes_answers}
-use Rattle.implied_pair.specs.declared.PairOutcome.TheVariants.{Implied}
+use Rattle.c_implied.specs.Calls.{outcome_of, given_pair}
 use Rattle.implied_pair.specs.Meaning.{number_for}
 use Rattle.implied_line.specs.declared.LineAnswer.TheVariants.{NotImplied}
 use Rattle.opposite_line.specs.Opposite.{opposite, opposed, opposed_works, opposed_modellable, meets_opposite}
@@ -44,19 +43,19 @@ use Rattle.demands.specs.Sessions.{add_is_a_call}
 -- ---- models
 
 -- Of every call that answered yes, of either engine.
-pub model_within : {e : Engine} (n : ℕ) (L : List ℤ) (c : CallOf e n L) → c.answer ≡ decide.Yes → (k : ℕ) → k < n → Within (n * max_constant) (get_or (model_in_lem n c.after) k (pos 0))
+pub model_within : {e : Engine} (n : ℕ) (L : List ℤ) (c : CallOf e n L) → c.answer ≡ Ok decide.Yes → (k : ℕ) → k < n → Within (n * max_constant) (get_or (model_in_lem n c.after) k (pos 0))
 model_within n L c e k h =
     let w = call_written c e in
     abs_within (n * max_constant) _ (shown-small n L _ _ _ (call_valid c) w k (omega (arith, w.model_length)))
 
 -- So it is in a session, after any calls.
-pub session_model_within : (n : ℕ) (ls : List Line) (refused : Bool) (s : List ℤ) → Reached n ls refused s → (l : Line) (b : Lent) (t : List ℤ) (a : Lent) → Adds s l decide.Yes b t a
+pub session_model_within : (n : ℕ) (ls : List Line) (refused : Bool) (s : List ℤ) → Reached n ls refused s → (l : Line) (b : Lent) (t : List ℤ) (a : Lent) → Adds s l (Ok decide.Yes) b t a
     → (k : ℕ) → k < n → Within (n * max_constant) (get_or (model_in_lem n a) k (pos 0))
 session_model_within n ls refused s p l b t a d =
-    model_within n (numbers_of (ls ++ l ∷ [])) (add_is_a_call n ls refused s p l decide.Yes b t a d yes_answers) refl
+    model_within n (numbers_of (ls ++ l ∷ [])) (add_is_a_call n ls refused s p l (Ok decide.Yes) b t a d yes_answers) refl
 
 -- Where a line is not implied, the model is that of the list with the opposite line behind it, whose d may pass its limit by one.
-pub line_model_within : (n : ℕ) (L : List ℤ) (l : Line) (c : LineCall n L l) → c.answer ≡ NotImplied
+pub line_model_within : (n : ℕ) (L : List ℤ) (l : Line) (c : LineCall n L l) → c.answer ≡ Ok NotImplied
     → (k : ℕ) → k < n → Within (n * model_constant) (get_or (take (model_room_lem n) c.after.model) k (pos 0))
 line_model_within n L l c e k h =
     let v = was_asked c in
@@ -68,10 +67,10 @@ line_model_within n L l c e k h =
 fits : (m : ℕ) (z : ℤ) → m ≤ max_variables * model_constant → Within m z → SFits w32 z
 fits m z few w = given₂ w.low w.high (simp ints (omega arith))
 
-pub model_fits : {e : Engine} (n : ℕ) (L : List ℤ) (c : CallOf e n L) → c.answer ≡ decide.Yes → (k : ℕ) → k < n → SFits w32 (get_or (model_in_lem n c.after) k (pos 0))
+pub model_fits : {e : Engine} (n : ℕ) (L : List ℤ) (c : CallOf e n L) → c.answer ≡ Ok decide.Yes → (k : ℕ) → k < n → SFits w32 (get_or (model_in_lem n c.after) k (pos 0))
 model_fits n L c e k h = fits (n * max_constant) _ (omega (arith, (valid_list n L (call_valid c)).variables)) (model_within n L c e k h)
 
-pub line_model_fits : (n : ℕ) (L : List ℤ) (l : Line) (c : LineCall n L l) → c.answer ≡ NotImplied → (k : ℕ) → k < n → SFits w32 (get_or (take (model_room_lem n) c.after.model) k (pos 0))
+pub line_model_fits : (n : ℕ) (L : List ℤ) (l : Line) (c : LineCall n L l) → c.answer ≡ Ok NotImplied → (k : ℕ) → k < n → SFits w32 (get_or (take (model_room_lem n) c.after.model) k (pos 0))
 line_model_fits n L l c e k h = fits (n * model_constant) _ (omega (arith, (valid_list n L (was_asked c).list).variables)) (line_model_within n L l c e k h)
 
 -- ---- bounds, sums and differences
@@ -81,7 +80,7 @@ abbrev pub NoneOrWithin : ℤ → ℕ → ℤ → Type 0
 NoneOrWithin absent m z = (z ≡ absent) ⊎ Within m z
 
 -- Every bound that is there.
-pub bounds_within : {e : Engine} (n : ℕ) (L : List ℤ) (c : CallOf e n L) → c.answer ≡ decide.Yes → (x : ℕ) → x < n
+pub bounds_within : {e : Engine} (n : ℕ) (L : List ℤ) (c : CallOf e n L) → c.answer ≡ Ok decide.Yes → (x : ℕ) → x < n
     → NoneOrWithin absent_least (n * max_constant) (get_or (bounds_in n c.after) (2 * x) (pos 0)) × NoneOrWithin absent_greatest (n * max_constant) (get_or (bounds_in n c.after) (2 * x + 1) (pos 0))
 bounds_within n L c e x h =
     let w = call_written c e in
@@ -99,8 +98,8 @@ bounds_within n L c e x h =
     greatest i z (inr a) = inl a.1
 
 -- Every greatest value of x + y, x − y, −x + y or −x − y that is there: twice as much.
-pub pair_within : (n : ℕ) (L : List ℤ) (x y : ℕ) (c : PairAsked n L x y) → c.answer.outcome ≡ Implied
-    → (s u : ℕ) → s < 2 → u < 2 → NoneOrWithin absent_greatest (2 * (n * max_constant)) (number_for c.answer.pair s u)
+pub pair_within : (n : ℕ) (L : List ℤ) (x y : ℕ) (c : PairAsked n L x y) → outcome_of c.answer ≡ Ok true
+    → (s u : ℕ) → s < 2 → u < 2 → NoneOrWithin absent_greatest (2 * (n * max_constant)) (number_for (given_pair c.answer) s u)
 pair_within n L x y c i s u hs hu = go _ (((right_pair n L x y c).greatest i).greatest s u hs hu)
   where
     ok : AllOk n (lines_of L)
@@ -135,7 +134,7 @@ variables_right n (suc k) h =
     (variable_right n (pos 1) (pos k) refl (simp ints (omega arith)) (simp ints (omega arith)))
     (variable_right n (neg_ℤ (pos 1)) (pos (suc k)) refl (simp ints (omega arith)) (simp ints (omega arith)))
 
-line_right : (n k : ℕ) → k < n → line_validity_lem n 0 (chain_line max_constant k) ≡ Valid
+line_right : (n k : ℕ) → k < n → line_validity_lem n 0 (chain_line max_constant k) ≡ Ok tt
 unfolding coefficients_ok_lem lone_ok_lem constant_ok_lem identifier_ok_lem
 line_right n zero h = rw (variables_right n zero h)
 line_right n (suc k) h = rw (variables_right n (suc k) h)
@@ -153,14 +152,14 @@ chain_solvable n = record { assignment = climbing max_constant; solves = rw (cha
 
 -- The last variable, number k, has n·M, as a value and as its least.
 pub record ChainReaches (n k : ℕ) (c : Call n (chain_list n)) : Type 0 where
-  pub answer : c.answer ≡ decide.Yes
+  pub answer : c.answer ≡ Ok decide.Yes
   pub value : get_or (model_in_lem n c.after) k (pos 0) ≡ pos (n * max_constant)
   pub least : get_or (bounds_in n c.after) (2 * k) (pos 0) ≡ pos (n * max_constant)
 
 pub chain_reaches : (n k : ℕ) → suc k ≡ n → (c : Call n (chain_list n)) → ChainReaches n k c
 chain_reaches n k last c = record { answer = answer; value = value; least = least }
   where
-    answer : c.answer ≡ decide.Yes
+    answer : c.answer ≡ Ok decide.Yes
     answer = (right_answer n (chain_list n) c).yes_exactly.1 (chain_solvable n)
 
     value : get_or (model_in_lem n c.after) k (pos 0) ≡ pos (n * max_constant)
@@ -179,7 +178,7 @@ chain_reaches n k last c = record { answer = answer; value = value; least = leas
         ∙ ap (λ (j : ℕ). pos (j * max_constant)) last
 
 -- Asked with itself, −x − x of it has −2·n·M.
-pub chain_pair_reaches : (n k : ℕ) → suc k ≡ n → (c : PairAsked n (chain_list n) k k) → number_for c.answer.pair 1 1 ≡ neg_ℤ (pos (2 * (n * max_constant)))
+pub chain_pair_reaches : (n k : ℕ) → suc k ≡ n → (c : PairAsked n (chain_list n) k k) → number_for (given_pair c.answer) 1 1 ≡ neg_ℤ (pos (2 * (n * max_constant)))
 chain_pair_reaches n k last c =
     let r = right_pair n (chain_list n) k k c in
     let implied = r.implied_exactly.1 (chain_solvable n) in
@@ -209,7 +208,7 @@ opposite_most : opposite most_line ≡ chain_line model_constant 0
 unfolding opposite
 opposite_most = refl
 
-pub line_reaches : (c : LineCall 1 [] most_line) → (c.answer ≡ NotImplied) × (get_or (take (model_room_lem 1) c.after.model) 0 (pos 0) ≡ pos (1 * model_constant))
+pub line_reaches : (c : LineCall 1 [] most_line) → (c.answer ≡ Ok NotImplied) × (get_or (take (model_room_lem 1) c.after.model) 0 (pos 0) ≡ pos (1 * model_constant))
 line_reaches c = (answer, value)
   where
     lines : lines_of (opposed [] most_line) ≡ chain model_constant 1
@@ -218,7 +217,7 @@ line_reaches c = (answer, value)
     broken : Meets (climbing model_constant) most_line → ⊥
     broken = (meets_opposite (climbing model_constant) most_line).0 (rw opposite_most (chain_solved model_constant 1).0)
 
-    answer : c.answer ≡ NotImplied
+    answer : c.answer ≡ Ok NotImplied
     answer = (right_line 1 [] most_line c).no_exactly.1 (record { assignment = climbing model_constant; solves = tt; breaks = broken })
 
     value : get_or (take (model_room_lem 1) c.after.model) 0 (pos 0) ≡ pos (1 * model_constant)

@@ -1,9 +1,9 @@
 -- Calls about a tree, as the demands speak of them: what they answered, and what the lent buffers held before and after. A call that decides a choice is one of
 -- deciding its list, in which each line that is not picked is 0 ≤ 0; on a yes it is one of deciding the lines picked, as a list of their own.
-use Rattle.std.specs.Prelude.{◌≡◌, refl, ◌↔◌, Bool, true, false, cond, List, [], ◌++◌, ℕ, ◌<◌, ltb, ℤ, take, drop}
+use Rattle.tree_deciding.specs.declared.ConditionRefusal.{ConditionRefusal}
+use Rattle.std.specs.Prelude.{◌≡◌, refl, ◌↔◌, Bool, true, false, cond, List, [], ◌++◌, ℕ, ◌<◌, ltb, ℤ, take, drop, Err, None, Ok, Option, Result, Some}
 use Rattle.std.proofs.Common.{sym, ap, ap₂, subst, ◌∙◌, arith, take_at}
 use Rattle.integers.specs.Laws.{never}
-use Rattle.lines.specs.declared.Validity.TheVariants.{Valid}
 use Rattle.lines.specs.Line.{line_count, lines_of, Assignment, assignment_of, Solvable, SameSolutions}
 use Rattle.lines.specs.Refusal.{validity_of}
 use Rattle.lines.specs.Valid.{Workable, workable}
@@ -18,10 +18,10 @@ use Rattle.decide_identifiers.specs.Identifiers.{identifiers_of, length_identifi
 use Rattle.decide.specs.declared.Answer.TheVariants as decide
 use Rattle.decide.specs.Decided.{NotRefused as Answered, cleared, decide_answer, OnYes, Leaves, answer_for, ok_decide}
 use Rattle.decide.specs.Parts.{model_in_lem, bounds_in, groups_in, refutation_in, identifiers_in, refutation_in_law, steps_in_law}
-use Rattle.tree_reading.specs.Tree.{all, Row as Tree, tree_numbers, levels, Fits}
+use Rattle.tree_reading.specs.declared.Kind.TheVariants.{AllOf}
+use Rattle.tree_reading.specs.Tree.{Row as Tree, tree_numbers, levels, Fits}
 use Rattle.tree_reading.specs.Choices.{count, overs_of}
 use Rattle.tree_reading.specs.declared.Node.{Node}
-use Rattle.tree_reading.specs.declared.Reading.TheVariants.{Read}
 use Rattle.tree_reading.specs.Reading.{valid_tree_lem}
 use Rattle.tree_reading.specs.Numbers.{one_tree}
 use Rattle.tree_reading.specs.Taken.{tree_in, taken}
@@ -29,15 +29,13 @@ use Rattle.tree_choices.specs.Chosen.{choice_read}
 use Rattle.tree_lists.specs.Condition.{choice_list, Condition, choice_valid}
 use Rattle.tree_answers.specs.First.{choice_verdict, FirstSolvable}
 use Rattle.tree_answers.specs.Picked.{choice_at, picked_list, list_picked, picked_valid, choice_solutions}
-use Rattle.tree_deciding.specs.declared.TreeAnswer.{TreeAnswer}
-use Rattle.tree_deciding.specs.declared.TreeAnswer.TheVariants.{Yes, No, Refused}
 use Rattle.tree_deciding.specs.Answer.{choice_found, first_found_lem, tree_over, choice_answer_for, first_answer_for, ChoiceLeaves, model_left, work_left, DecidesChoice, AnswersFirst}
 use Rattle.tree_deciding.specs.Meaning.{NotRefused, FirstTaken, first_taken, ChoiceTaken, choice_taken, first_yes_exactly, first_no_exactly, first_yes, choice_yes_exactly, choice_no_exactly}
 use Rattle.demands.specs.Calls.{Call, verdict_yes, call_written}
 
 -- A call that decides choice number k of the tree t and was not refused, whatever stood in the lent buffers before.
 pub record ChoiceCall (n : ℕ) (L : List ℤ) (t : Tree) (k : ℕ) : Type 0 where
-  pub answer : TreeAnswer
+  pub answer : Result (Option ℕ) ConditionRefusal
   pub before : Lent
   pub after : Lent
   pub promised : DecidesChoice n L (tree_numbers t) k answer before after
@@ -45,7 +43,7 @@ pub record ChoiceCall (n : ℕ) (L : List ℤ) (t : Tree) (k : ℕ) : Type 0 whe
 
 -- A call that looks for the first choice of the tree t with a solution and was not refused.
 pub record FirstCall (n : ℕ) (L : List ℤ) (t : Tree) : Type 0 where
-  pub answer : TreeAnswer
+  pub answer : Result (Option ℕ) ConditionRefusal
   pub before : ModelLent
   pub after : ModelLent
   pub promised : AnswersFirst n L (tree_numbers t) answer before after
@@ -58,26 +56,26 @@ choice_answers k false r e = never (cc)
 pub first_answers : (total k : ℕ) → NotRefused (first_found_lem total k)
 first_answers total k = go (ltb k total)
   where
-    go : (t : Bool) → NotRefused (cond t (Yes k) No)
+    go : (t : Bool) → NotRefused (cond t (Ok (Some k)) (Ok None))
     go true r e = never (cc)
     go false r e = never (cc)
 
-pub yes_or_no : (v : Bool) → Answered (cond v decide.Yes decide.No)
+pub yes_or_no : (v : Bool) → Answered (cond v (Ok decide.Yes) (Ok decide.No))
 yes_or_no true r e = never (cc)
 yes_or_no false r e = never (cc)
 
 -- ---- the tree
 -- it was taken: it fits in a list of m lines, and none of its nodes has too many choices
 pub record TakenTree (m : ℕ) (t : Tree) : Type 0 where
-  pub fits : Fits m all levels t
+  pub fits : Fits m AllOf levels t
   pub few : overs_of t ≡ []
   pub same : tree_in (tree_numbers t) m ≡ t
 
-pub taken_tree : (m : ℕ) (t : Tree) (b : Node) → valid_tree_lem (tree_numbers t) m ≡ Read b → TakenTree m t × (b.choices ≡ count all t)
+pub taken_tree : (m : ℕ) (t : Tree) (b : Node) → valid_tree_lem (tree_numbers t) m ≡ Ok b → TakenTree m t × (b.choices ≡ count AllOf t)
 taken_tree m t b e =
     let k = taken (tree_numbers t) m b e in
     let same : tree_in (tree_numbers t) m ≡ t = sym (one_tree t _ k.numbers.numbered) in
-    (record { fits = subst (Fits m all levels) same k.numbers.fits; few = ap overs_of (sym same) ∙ k.few; same = same }, k.counted ∙ ap (count all) same)
+    (record { fits = subst (Fits m AllOf levels) same k.numbers.fits; few = ap overs_of (sym same) ∙ k.few; same = same }, k.counted ∙ ap (count AllOf) same)
 
 -- ---- a choice
 module _ {n : ℕ} {L : List ℤ} {t : Tree} {k : ℕ} (c : ChoiceCall n L t k) where
@@ -87,10 +85,10 @@ module _ {n : ℕ} {L : List ℤ} {t : Tree} {k : ℕ} (c : ChoiceCall n L t k) 
   ok : ChoiceTaken n L (tree_numbers t) k c.before
   ok = choice_taken n L (tree_numbers t) k c.before answered
 
-  pub choice_list_law : validity_of n L ≡ Valid
+  pub choice_list_law : validity_of n L ≡ Ok tt
   choice_list_law = ok.list
 
-  pub choice_tree : TakenTree (line_count L) t × (k < count all t)
+  pub choice_tree : TakenTree (line_count L) t × (k < count AllOf t)
   choice_tree =
       let r = choice_read (tree_numbers t) (line_count L) k ok.root ok.read in
       let m = taken_tree (line_count L) t ok.root r.0 in
@@ -112,11 +110,11 @@ module _ {n : ℕ} {L : List ℤ} {t : Tree} {k : ℕ} (c : ChoiceCall n L t k) 
 
   pub choice_left : (v : Bool) → choice_verdict n L t k ≡ v → ChoiceLeaves n L t k (choice_found k v) c.before c.after
   choice_left v e =
-      subst (λ (x : TreeAnswer). ChoiceLeaves n L t k x c.before c.after) (choice_answer_law v e)
+      subst (λ (x : Result (Option ℕ) ConditionRefusal). ChoiceLeaves n L t k x c.before c.after) (choice_answer_law v e)
       (subst (λ (u : Tree). ChoiceLeaves n L u k c.answer c.before c.after) same c.promised.leaves)
 
   -- with these buffers a valid list is answered by its verdict
-  pub choice_decides : (K : List ℤ) → validity_of n K ≡ Valid → answer_for n K c.before ≡ cond (verdict_of n (lines_of K)) decide.Yes decide.No
+  pub choice_decides : (K : List ℤ) → validity_of n K ≡ Ok tt → answer_for n K c.before ≡ cond (verdict_of n (lines_of K)) (Ok decide.Yes) (Ok decide.No)
   unfolding decide_answer
   choice_decides K v = rw (ok_decide n K c.before (record { list = v; rooms = ok.rooms }))
 
@@ -124,53 +122,53 @@ module _ {n : ℕ} {L : List ℤ} {t : Tree} {k : ℕ} (c : ChoiceCall n L t k) 
   unfoldable pub as_call : Call n (choice_list L t k)
   as_call =
       record {
-        answer = cond (choice_verdict n L t k) decide.Yes decide.No;
+        answer = cond (choice_verdict n L t k) (Ok decide.Yes) (Ok decide.No);
         before = c.before;
         after = c.after;
         decided = record { is = sym (choice_decides (choice_list L t k) (choice_valid n L t k choice_list_law)); leaves = go (choice_verdict n L t k) refl };
         not_refused = yes_or_no (choice_verdict n L t k);
       }
     where
-      go : (v : Bool) → choice_verdict n L t k ≡ v → Leaves n (choice_list L t k) (cond v decide.Yes decide.No) c.before c.after
+      go : (v : Bool) → choice_verdict n L t k ≡ v → Leaves n (choice_list L t k) (cond v (Ok decide.Yes) (Ok decide.No)) c.before c.after
       go true e = choice_left true e
       go false e = (choice_left false e).leaves
 
   -- the answer tells the verdict
-  pub choice_yes : c.answer ≡ Yes k → choice_verdict n L t k ≡ true
+  pub choice_yes : c.answer ≡ Ok (Some k) → choice_verdict n L t k ≡ true
   choice_yes e = go (choice_verdict n L t k) refl
     where
       go : (v : Bool) → choice_verdict n L t k ≡ v → v ≡ true
       go true p = refl
       go false p = never (cc (sym (choice_answer_law false p) ∙ e))
 
-  pub choice_no : c.answer ≡ No → choice_verdict n L t k ≡ false
+  pub choice_no : c.answer ≡ Ok None → choice_verdict n L t k ≡ false
   choice_no e = go (choice_verdict n L t k) refl
     where
       go : (v : Bool) → choice_verdict n L t k ≡ v → v ≡ false
       go true p = never (cc (sym (choice_answer_law true p) ∙ e))
       go false p = refl
 
-  pub choice_written : c.answer ≡ Yes k → Written n (lines_of (choice_list L t k)) (model_in_lem n c.after) (bounds_in n c.after) (groups_in n c.after)
+  pub choice_written : c.answer ≡ Ok (Some k) → Written n (lines_of (choice_list L t k)) (model_in_lem n c.after) (bounds_in n c.after) (groups_in n c.after)
   unfolding as_call
   choice_written e = call_written as_call (verdict_yes as_call (choice_yes e))
 
   -- on a yes it is a call of deciding the lines picked, as a list of their own
-  unfoldable pub as_alone : c.answer ≡ Yes k → Call n (picked_list L (choice_at t k))
+  unfoldable pub as_alone : c.answer ≡ Ok (Some k) → Call n (picked_list L (choice_at t k))
   as_alone e =
       let K : List ℤ = picked_list L (choice_at t k) in
-      let valid : validity_of n K ≡ Valid = picked_valid L (choice_at t k) n choice_list_law in
+      let valid : validity_of n K ≡ Ok tt = picked_valid L (choice_at t k) n choice_list_law in
       let solutions : SameSolutions (lines_of (choice_list L t k)) (lines_of K) = rw (list_picked L (choice_at t k)) (choice_solutions L t k) in
       let yes_verdict = choice_yes e in
       let left : OnYes n (choice_list L t k) c.before c.after = choice_left true yes_verdict in
       let written = same_written n (choice_list L t k) K choice_works (workable n K valid) solutions yes_verdict in
       let verdict : verdict_of n (lines_of K) ≡ true = sym (same_verdict n (choice_list L t k) K choice_works (workable n K valid) solutions) ∙ yes_verdict in
       record {
-        answer = decide.Yes;
+        answer = Ok decide.Yes;
         before = c.before;
         after = c.after;
         decided =
             record {
-              is = sym (choice_decides K valid ∙ ap (λ (v : Bool). cond v decide.Yes decide.No) verdict);
+              is = sym (choice_decides K valid ∙ ap (λ (v : Bool). cond v (Ok decide.Yes) (Ok decide.No)) verdict);
               leaves =
                   record {
                     model = left.model ∙ ap (λ (m : List ℤ). m ++ drop (model_room_lem n) c.before.model) written.0;
@@ -185,7 +183,7 @@ module _ {n : ℕ} {L : List ℤ} {t : Tree} {k : ℕ} (c : ChoiceCall n L t k) 
       }
 
   -- on a no the identifiers are those of the whole list's lines
-  pub choice_identifiers : c.answer ≡ No → identifiers_in c.after ≡ identifiers_of L (refutation_in c.after)
+  pub choice_identifiers : c.answer ≡ Ok None → identifiers_in c.after ≡ identifiers_of L (refutation_in c.after)
   choice_identifiers e =
       let w = choice_left false (choice_no e) in
       let R = w.leaves.numbers in
@@ -199,7 +197,7 @@ module _ {n : ℕ} {L : List ℤ} {t : Tree} (c : FirstCall n L t) where
   first_ok : FirstTaken n L (tree_numbers t) c.before
   first_ok = first_taken n L (tree_numbers t) c.before first_answered
 
-  pub first_list : validity_of n L ≡ Valid
+  pub first_list : validity_of n L ≡ Ok tt
   first_list = first_ok.list
 
   pub first_tree : TakenTree (line_count L) t
@@ -209,34 +207,34 @@ module _ {n : ℕ} {L : List ℤ} {t : Tree} (c : FirstCall n L t) where
   first_same = first_tree.same
 
   -- what its answer means
-  pub first_condition : ((k : ℕ) × (c.answer ≡ Yes k)) ↔ ((a : Assignment) × Condition L t a)
+  pub first_condition : ((k : ℕ) × (c.answer ≡ Ok (Some k))) ↔ ((a : Assignment) × Condition L t a)
   first_condition =
       let law = first_yes_exactly n L (tree_numbers t) c.before first_answered in
-      subst (λ (u : Tree). ((k : ℕ) × (c.answer ≡ Yes k)) ↔ ((a : Assignment) × Condition L u a)) first_same
+      subst (λ (u : Tree). ((k : ℕ) × (c.answer ≡ Ok (Some k))) ↔ ((a : Assignment) × Condition L u a)) first_same
       ((λ y. law.0 (y.0, sym c.promised.is ∙ y.1)), (λ h. let y = law.1 h in (y.0, c.promised.is ∙ y.1)))
 
-  pub first_none : (c.answer ≡ No) ↔ ((a : Assignment) → Condition L t a → ⊥)
+  pub first_none : (c.answer ≡ Ok None) ↔ ((a : Assignment) → Condition L t a → ⊥)
   first_none =
       let law = first_no_exactly n L (tree_numbers t) c.before first_answered in
-      subst (λ (u : Tree). (c.answer ≡ No) ↔ ((a : Assignment) → Condition L u a → ⊥)) first_same
+      subst (λ (u : Tree). (c.answer ≡ Ok None) ↔ ((a : Assignment) → Condition L u a → ⊥)) first_same
       ((λ e. law.0 (sym c.promised.is ∙ e)), (λ f. c.promised.is ∙ law.1 f))
 
-  pub first_found : (k : ℕ) → c.answer ≡ Yes k → FirstSolvable n L t k × Condition L t (assignment_of (model_of n (lines_of (choice_list L t k))))
+  pub first_found : (k : ℕ) → c.answer ≡ Ok (Some k) → FirstSolvable n L t k × Condition L t (assignment_of (model_of n (lines_of (choice_list L t k))))
   first_found k e =
       subst (λ (u : Tree). FirstSolvable n L u k × Condition L u (assignment_of (model_of n (lines_of (choice_list L u k))))) first_same
       (first_yes n L (tree_numbers t) c.before first_answered k (sym c.promised.is ∙ e))
 
   -- what it leaves
-  pub first_model : (k : ℕ) → c.answer ≡ Yes k → c.after.model ≡ model_of n (lines_of (choice_list L t k)) ++ drop (model_room_lem n) c.before.model
-  first_model k e = c.promised.model ∙ ap₂ (λ (u : Tree) (x : TreeAnswer). model_left n L u x c.before.model) first_same e
+  pub first_model : (k : ℕ) → c.answer ≡ Ok (Some k) → c.after.model ≡ model_of n (lines_of (choice_list L t k)) ++ drop (model_room_lem n) c.before.model
+  first_model k e = c.promised.model ∙ ap₂ (λ (u : Tree) (x : Result (Option ℕ) ConditionRefusal). model_left n L u x c.before.model) first_same e
 
-  pub first_no_model : c.answer ≡ No → c.after.model ≡ c.before.model
-  first_no_model e = c.promised.model ∙ ap₂ (λ (u : Tree) (x : TreeAnswer). model_left n L u x c.before.model) first_same e
+  pub first_no_model : c.answer ≡ Ok None → c.after.model ≡ c.before.model
+  first_no_model e = c.promised.model ∙ ap₂ (λ (u : Tree) (x : Result (Option ℕ) ConditionRefusal). model_left n L u x c.before.model) first_same e
 
   pub first_work : c.after.work ≡ cleared n c.before.work
   first_work = c.promised.work ∙ go c.answer c.not_refused
     where
-      go : (x : TreeAnswer) → NotRefused x → work_left n x c.before.work ≡ cleared n c.before.work
-      go (Yes k) h = refl
-      go No h = refl
-      go (Refused r) h = absurd (h r refl)
+      go : (x : Result (Option ℕ) ConditionRefusal) → NotRefused x → work_left n x c.before.work ≡ cleared n c.before.work
+      go (Ok (Some k)) h = refl
+      go (Ok None) h = refl
+      go (Err r) h = absurd (h r refl)

@@ -7,7 +7,8 @@
 -- tree_answers/specs/Picked.antt), what a call is (`ChoiceCall` and `FirstCall` in TreeCalls.antt) and the words of Demands.antt, and nothing of how the answers
 -- are computed. The promises of the code are `DecidesChoice` and `AnswersFirst` (tree_deciding/specs/Answer.antt), for every input; the exported functions
 -- return `ChoiceReturns` and `FirstReturns`.
-use Rattle.std.specs.Prelude.{◌≡◌, ◌↔◌, ◌⊎◌, Bool, true, false, List, [], ◌∷◌, ◌++◌, ℕ, ◌+◌, ◌*◌, ◌<◌, ◌≤◌, ℤ, pos, length, get_or, take}
+use Rattle.tree_reading.specs.declared.Node.{Node}
+use Rattle.std.specs.Prelude.{◌≡◌, ◌↔◌, ◌⊎◌, Bool, true, false, List, [], ◌∷◌, ◌++◌, ℕ, ◌+◌, ◌*◌, ◌<◌, ◌≤◌, ℤ, pos, length, get_or, take, Err, None, Ok, Option, Result, Some}
 use Rattle.std.proofs.Math.Path.{refl, sym, ap}
 use Rattle.std.proofs.Common.{ap₂, subst, ◌∙◌, inl, inr, ⊎_elim, append-nil, arith}
 use Rattle.std.proofs.Math.ListN.{drop}
@@ -18,8 +19,6 @@ use Rattle.integers.specs.Sequence.{length_tabulate}
 use Rattle.lines.specs.declared.Line.{Line}
 use Rattle.lines.specs.Limits.{max_constant}
 use Rattle.lines.specs.declared.Refusal.{Refusal}
-use Rattle.lines.specs.declared.Validity.{Validity}
-use Rattle.lines.specs.declared.Validity.TheVariants as validity
 use Rattle.lines.specs.Line.{line_at, line_count, lines_of, Assignment, assignment_of, Meets, Solvable, SameSolutions, is_false_lem}
 use Rattle.lines.specs.Refusal.{validity_of}
 use Rattle.lines.specs.Valid.{Workable, valid_list, workable}
@@ -38,12 +37,12 @@ use Rattle.decide.specs.declared.Answer.TheVariants as decide
 use Rattle.decide.specs.Decided.{cleared, DecideOk}
 use Rattle.decide.specs.Parts.{model_in_lem, bounds_in, groups_in, refutation_in, identifiers_in, model_in as model_at}
 use Rattle.c_codes.specs.Codes.{no_code}
-use Rattle.tree_reading.specs.Tree.{Kind, all, any, Row as Tree, tree_numbers, max_depth, levels, Fits}
+use Rattle.tree_reading.specs.declared.Kind.{Kind}
+use Rattle.tree_reading.specs.declared.Kind.TheVariants.{AllOf, AnyOf}
+use Rattle.tree_reading.specs.Tree.{Row as Tree, tree_numbers, max_depth, levels, Fits}
 use Rattle.tree_reading.specs.Choices.{joined, choices, count, overs_of}
 use Rattle.tree_reading.specs.Shape.{Alternates, depth_of, Listed, shape, fits, depth_levels}
 use Rattle.tree_reading.specs.declared.TreeRefusal.{TreeRefusal}
-use Rattle.tree_reading.specs.declared.Reading.{Reading}
-use Rattle.tree_reading.specs.declared.Reading.TheVariants as reading
 use Rattle.tree_reading.specs.Reading.{valid_tree_lem}
 use Rattle.tree_reading.specs.Numbers.{one_tree}
 use Rattle.tree_reading.specs.Counted.{count_choices}
@@ -60,8 +59,6 @@ use Rattle.tree_answers.specs.Picked.{choice_at, Picks, picked_lines, picked_lis
 use Rattle.tree_answers.specs.Longer.{PicksThese, Added, choice_entails, counts_too, meets_added}
 use Rattle.tree_deciding.specs.declared.ConditionRefusal.{ConditionRefusal}
 use Rattle.tree_deciding.specs.declared.ConditionRefusal.TheVariants as refusal
-use Rattle.tree_deciding.specs.declared.TreeAnswer.{TreeAnswer}
-use Rattle.tree_deciding.specs.declared.TreeAnswer.TheVariants.{Yes, No, Refused}
 use Rattle.tree_deciding.specs.Answer.{TreeValidity, valid, refused, ◌or_next◌, of_deciding, of_tree, unless_refused, choice_validity, first_validity, tree_over, choice_answer, first_answer, choice_answer_for, first_answer_for, DecidesChoice, AnswersFirst}
 use Rattle.tree_deciding.specs.Refusal.{condition_number, condition_place, one_condition}
 use Rattle.tree_deciding.specs.Meaning.{NotRefused}
@@ -80,10 +77,10 @@ use Rattle.demands.specs.TreeExists.{a_choice_call, a_first_call, choice_call_of
 
 -- A tree fits in a list of m lines exactly if all-of nodes hold lines and any-of nodes, any-of nodes hold lines and all-of nodes, its depth is at most the greatest, and
 -- its lines are in the list. (The root is all-of, and t are its children.)
-pub fits_exactly_if : (m : ℕ) (t : Tree) → Fits m all levels t ↔ (Alternates all t × (depth_of t ≤ max_depth) × Listed m t)
+pub fits_exactly_if : (m : ℕ) (t : Tree) → Fits m AllOf levels t ↔ (Alternates AllOf t × (depth_of t ≤ max_depth) × Listed m t)
 fits_exactly_if m t = (
-  (λ f. let s = shape m all levels t f in (s.alternates, depth_levels t s.low, s.listed)),
-  (λ h. fits m all levels t (record { alternates = h.0; low = omega (arith, h.1); listed = h.2 })),
+  (λ f. let s = shape m AllOf levels t f in (s.alternates, depth_levels t s.low, s.listed)),
+  (λ h. fits m AllOf levels t (record { alternates = h.0; low = omega (arith, h.1); listed = h.2 })),
 )
 
 -- No two trees have the same numbers.
@@ -95,10 +92,10 @@ pub refused_or_one_tree : (s : List ℕ) (m : ℕ)
     → ((r : TreeRefusal) × TreeRefused s m r) ⊎ ((t : Tree) × NumbersOf s m t × (overs_of t ≡ []) × ((u : Tree) → NumbersOf s m u → u ≡ t) × ((r : TreeRefusal) → TreeRefused s m r → ⊥))
 refused_or_one_tree s m = go (valid_tree_lem s m) refl
   where
-    go : (x : Reading) → valid_tree_lem s m ≡ x
+    go : (x : Result Node TreeRefusal) → valid_tree_lem s m ≡ x
         → ((r : TreeRefusal) × TreeRefused s m r) ⊎ ((t : Tree) × NumbersOf s m t × (overs_of t ≡ []) × ((u : Tree) → NumbersOf s m u → u ≡ t) × ((r : TreeRefusal) → TreeRefused s m r → ⊥))
-    go (reading.Refused r) e = inl (r, (tree_refused s m r).0 e)
-    go (reading.Read b) e =
+    go (Err r) e = inl (r, (tree_refused s m r).0 e)
+    go (Ok b) e =
         let t = tree_taken s m b e in
         inr (t.0, t.1, t.2, (λ u d. one_tree u t.0 (sym d.numbered ∙ t.1.numbered)), (λ r f. never (cc (sym e ∙ (tree_refused s m r).1 f))))
 
@@ -107,7 +104,7 @@ refused_or_one_tree s m = go (valid_tree_lem s m) refl
 pub tree_or_first_fault : (s : List ℕ) (m : ℕ) → Faultless s m ⊎ ((r : TreeRefusal) × FirstFault s m r)
 tree_or_first_fault = tree_or_fault
 
-pub no_fault_in_a_tree : (t : Tree) (m : ℕ) → Fits m all levels t → (q : TreeRefusal) → Fault (tree_numbers t) m q → ⊥
+pub no_fault_in_a_tree : (t : Tree) (m : ℕ) → Fits m AllOf levels t → (q : TreeRefusal) → Fault (tree_numbers t) m q → ⊥
 no_fault_in_a_tree = tree_has_no_fault
 
 pub one_first_fault : (s : List ℕ) (m : ℕ) (r q : TreeRefusal) → FirstFault s m r → FirstFault s m q → r ≡ q
@@ -121,15 +118,15 @@ as_many_as_counted = count_choices
 
 -- The choices of a child, a line's being the one that picks it, are joined with those of the children after it. In any-of those of an earlier branch come first, and
 -- those of the branches after it follow in their order.
-pub earlier_branch_first : (child after : List (List ℕ)) (i : ℕ) → i < length child → get_or (joined any child after) i [] ≡ get_or child i []
+pub earlier_branch_first : (child after : List (List ℕ)) (i : ℕ) → i < length child → get_or (joined AnyOf child after) i [] ≡ get_or child i []
 earlier_branch_first = earlier_first
 
-pub later_branches_follow : (child after : List (List ℕ)) (j : ℕ) → get_or (joined any child after) (length child + j) [] ≡ get_or after j []
+pub later_branches_follow : (child after : List (List ℕ)) (j : ℕ) → get_or (joined AnyOf child after) (length child + j) [] ≡ get_or after j []
 later_branches_follow = later_behind
 
 -- In all-of each choice of a child comes with each choice of the children after it, and these change faster.
 pub last_child_fastest : (child after : List (List ℕ)) (i j : ℕ) → i < length child → j < length after
-    → get_or (joined all child after) (i * length after + j) [] ≡ get_or child i [] ++ get_or after j []
+    → get_or (joined AllOf child after) (i * length after + j) [] ≡ get_or child i [] ++ get_or after j []
 last_child_fastest = last_fastest
 
 -- ---- refusals
@@ -141,41 +138,41 @@ pub data RefusedBy (n : ℕ) (L : List ℤ) (Faulty : TreeRefusal → Type 0) (r
   by_room : ValidFor n L → ((q : TreeRefusal) → Faulty q → ⊥) → (r : Refusal) → FirstApplies rooms r → RefusedBy n L Faulty rooms (refusal.Deciding r)
 
 -- what is computed is refused exactly so
-module _ (n : ℕ) (L : List ℤ) (Faulty : TreeRefusal → Type 0) (rooms : List Row) (x : Reading) (w : Validity)
-    (tree : (q : TreeRefusal) → (x ≡ reading.Refused q) ↔ Faulty q) (room : Gives rooms w) where
+module _ (n : ℕ) (L : List ℤ) (Faulty : TreeRefusal → Type 0) (rooms : List Row) (x : Result Node TreeRefusal) (w : Result Unit Refusal)
+    (tree : (q : TreeRefusal) → (x ≡ Err q) ↔ Faulty q) (room : Gives rooms w) where
   abbrev computed : TreeValidity
   computed = of_deciding (validity_of n L) or_next of_tree x or_next of_deciding w
 
-  first_refused : (r : ConditionRefusal) (u : Validity) → validity_of n L ≡ u → (y : Reading) → x ≡ y → (v : Validity) → w ≡ v
+  first_refused : (r : ConditionRefusal) (u : Result Unit Refusal) → validity_of n L ≡ u → (y : Result Node TreeRefusal) → x ≡ y → (v : Result Unit Refusal) → w ≡ v
       → (of_deciding u or_next of_tree y or_next of_deciding v) ≡ refused r → RefusedBy n L Faulty rooms r
-  first_refused r (validity.Refused q) e y p v o h = let same : refusal.Deciding q ≡ r = cc in subst (RefusedBy n L Faulty rooms) same (by_list q ((gives_refused (list_gives n L) q).0 e))
-  first_refused r validity.Valid e (reading.Refused q) p v o h = let same : refusal.Tree q ≡ r = cc in subst (RefusedBy n L Faulty rooms) same (by_tree e q ((tree q).0 p))
-  first_refused r validity.Valid e (reading.Read b) p (validity.Refused q) o h =
+  first_refused r (Err q) e y p v o h = let same : refusal.Deciding q ≡ r = cc in subst (RefusedBy n L Faulty rooms) same (by_list q ((gives_refused (list_gives n L) q).0 e))
+  first_refused r (Ok _) e (Err q) p v o h = let same : refusal.Tree q ≡ r = cc in subst (RefusedBy n L Faulty rooms) same (by_tree e q ((tree q).0 p))
+  first_refused r (Ok _) e (Ok b) p (Err q) o h =
       let same : refusal.Deciding q ≡ r = cc in
       subst (RefusedBy n L Faulty rooms) same (by_room e (λ f g. never (cc (sym p ∙ (tree f).1 g))) q ((gives_refused room q).0 o))
-  first_refused r validity.Valid e (reading.Read b) p validity.Valid o h = absurd (never {A = ⊥} (cc))
+  first_refused r (Ok _) e (Ok b) p (Ok _) o h = absurd (never {A = ⊥} (cc))
 
   refused_first : (r : ConditionRefusal) → RefusedBy n L Faulty rooms r → computed ≡ refused r
   refused_first _ (by_list r f) = rw ((gives_refused (list_gives n L) r).1 f)
   refused_first _ (by_tree v r f) = rw (v, (tree r).1 f)
   refused_first _ (by_room v none r f) = rw (v, (gives_refused room r).1 f) (go x refl)
     where
-      go : (y : Reading) → x ≡ y → (of_tree y or_next refused (refusal.Deciding r)) ≡ refused (refusal.Deciding r)
-      go (reading.Read b) p = refl
-      go (reading.Refused q) p = absurd (none q ((tree q).0 p))
+      go : (y : Result Node TreeRefusal) → x ≡ y → (of_tree y or_next refused (refusal.Deciding r)) ≡ refused (refusal.Deciding r)
+      go (Ok b) p = refl
+      go (Err q) p = absurd (none q ((tree q).0 p))
 
   -- and so is the answer, where else it is no refusal
-  answer_refused : (y : TreeAnswer) → NotRefused y → (r : ConditionRefusal) → (unless_refused computed y ≡ Refused r) ↔ RefusedBy n L Faulty rooms r
+  answer_refused : (y : Result (Option ℕ) ConditionRefusal) → NotRefused y → (r : ConditionRefusal) → (unless_refused computed y ≡ Err r) ↔ RefusedBy n L Faulty rooms r
   answer_refused y h r = ((λ e. first_refused r (validity_of n L) refl x refl w refl (go computed e)), (λ f. ap (λ (v : TreeValidity). unless_refused v y) (refused_first r f)))
     where
-      go : (v : TreeValidity) → unless_refused v y ≡ Refused r → v ≡ refused r
+      go : (v : TreeValidity) → unless_refused v y ≡ Err r → v ≡ refused r
       go valid e = absurd (h r e)
       go (refused q) e = cc
 
 -- Deciding choice number k of the numbers s: of the tree it is 41 or 42 at the first fault, else 40 at the first node with too many choices, else 43 where it has at
 -- most k choices. The call answers by the first refusal that applies, and by yes or no exactly if none does.
-pub choice_refused_exactly_if : (n : ℕ) (L : List ℤ) (s : List ℕ) (k : ℕ) (x : TreeAnswer) (b a : Lent) → DecidesChoice n L s k x b a
-    → (r : ConditionRefusal) → (x ≡ Refused r) ↔ RefusedBy n L (ChoiceRefused s (line_count L) k) (rooms_table lent_rooms n (lengths_of b)) r
+pub choice_refused_exactly_if : (n : ℕ) (L : List ℤ) (s : List ℕ) (k : ℕ) (x : Result (Option ℕ) ConditionRefusal) (b a : Lent) → DecidesChoice n L s k x b a
+    → (r : ConditionRefusal) → (x ≡ Err r) ↔ RefusedBy n L (ChoiceRefused s (line_count L) k) (rooms_table lent_rooms n (lengths_of b)) r
 unfolding choice_answer choice_validity rooms_validity
 choice_refused_exactly_if n L s k x b a d r =
     let f = answer_refused n L (ChoiceRefused s (line_count L) k) (rooms_table lent_rooms n (lengths_of b)) (choice_of s (line_count L) k) (first_short lent_rooms n (lengths_of b))
@@ -183,19 +180,19 @@ choice_refused_exactly_if n L s k x b a d r =
     ((λ e. f.0 (sym d.is ∙ e)), (λ g. d.is ∙ f.1 g))
 
 -- The first choice of the numbers s: as before without 43, and of what is lent the model and the work area.
-pub first_refused_exactly_if : (n : ℕ) (L : List ℤ) (s : List ℕ) (x : TreeAnswer) (b a : ModelLent) → AnswersFirst n L s x b a
-    → (r : ConditionRefusal) → (x ≡ Refused r) ↔ RefusedBy n L (TreeRefused s (line_count L)) (rooms_table model_rooms n (model_lengths_of b)) r
+pub first_refused_exactly_if : (n : ℕ) (L : List ℤ) (s : List ℕ) (x : Result (Option ℕ) ConditionRefusal) (b a : ModelLent) → AnswersFirst n L s x b a
+    → (r : ConditionRefusal) → (x ≡ Err r) ↔ RefusedBy n L (TreeRefused s (line_count L)) (rooms_table model_rooms n (model_lengths_of b)) r
 unfolding first_answer first_validity
 first_refused_exactly_if n L s x b a d r =
     let f = answer_refused n L (TreeRefused s (line_count L)) (rooms_table model_rooms n (model_lengths_of b)) (valid_tree_lem s (line_count L)) (first_short model_rooms n (model_lengths_of b))
-    (tree_refused s (line_count L)) (rooms_give model_rooms n (model_lengths_of b)) _ (first_answers (count all (tree_over L s)) (first_choice n L (tree_over L s))) r in
+    (tree_refused s (line_count L)) (rooms_give model_rooms n (model_lengths_of b)) _ (first_answers (count AllOf (tree_over L s)) (first_choice n L (tree_over L s))) r in
     ((λ e. f.0 (sym d.is ∙ e)), (λ g. d.is ∙ f.1 g))
 
 -- A refusal leaves every lent buffer as it was. That the calls end is part of their promises.
-pub refused_choice_changes_nothing : (n : ℕ) (L : List ℤ) (s : List ℕ) (k : ℕ) (r : ConditionRefusal) (b a : Lent) → DecidesChoice n L s k (Refused r) b a → a ≡ b
+pub refused_choice_changes_nothing : (n : ℕ) (L : List ℤ) (s : List ℕ) (k : ℕ) (r : ConditionRefusal) (b a : Lent) → DecidesChoice n L s k (Err r) b a → a ≡ b
 refused_choice_changes_nothing n L s k r b a d = d.leaves
 
-pub refused_first_changes_nothing : (n : ℕ) (L : List ℤ) (s : List ℕ) (r : ConditionRefusal) (b a : ModelLent) → AnswersFirst n L s (Refused r) b a → a ≡ b
+pub refused_first_changes_nothing : (n : ℕ) (L : List ℤ) (s : List ℕ) (r : ConditionRefusal) (b a : ModelLent) → AnswersFirst n L s (Err r) b a → a ≡ b
 refused_first_changes_nothing n L s r b a d = ap₂ both d.model d.work
   where
     both : List ℤ → List ℤ → ModelLent
@@ -204,27 +201,27 @@ refused_first_changes_nothing n L s r b a d = ap₂ both d.model d.work
 -- ---- the calls that are not refused
 
 -- Every call is answered or refused, whatever is asked and whatever stands in the buffers: what is stated here is of something.
-pub choice_answers_exist : (n : ℕ) (L : List ℤ) (s : List ℕ) (k : ℕ) (b : Lent) → (x : TreeAnswer) × (a : Lent) × DecidesChoice n L s k x b a
+pub choice_answers_exist : (n : ℕ) (L : List ℤ) (s : List ℕ) (k : ℕ) (b : Lent) → (x : Result (Option ℕ) ConditionRefusal) × (a : Lent) × DecidesChoice n L s k x b a
 choice_answers_exist n L s k b = let o = right_choice n L s k b in (o.answer, o.after, right_choice_keeps n L s k b)
 
-pub first_answers_exist : (n : ℕ) (L : List ℤ) (s : List ℕ) (b : ModelLent) → (x : TreeAnswer) × (a : ModelLent) × AnswersFirst n L s x b a
+pub first_answers_exist : (n : ℕ) (L : List ℤ) (s : List ℕ) (b : ModelLent) → (x : Result (Option ℕ) ConditionRefusal) × (a : ModelLent) × AnswersFirst n L s x b a
 first_answers_exist n L s b = let o = right_first n L s b in (o.answer, o.after, right_first_keeps n L s b)
 
 -- A valid list, a tree that fits, without a node that has too many choices, one of its choices, and buffers that have room: there is a call that is not refused.
-pub choice_calls_exist : (n : ℕ) (L : List ℤ) (t : Tree) → Fits (line_count L) all levels t → overs_of t ≡ [] → (k : ℕ) → k < count all t → (b : Lent) → DecideOk n L b
+pub choice_calls_exist : (n : ℕ) (L : List ℤ) (t : Tree) → Fits (line_count L) AllOf levels t → overs_of t ≡ [] → (k : ℕ) → k < count AllOf t → (b : Lent) → DecideOk n L b
     → (c : ChoiceCall n L t k) × (c.before ≡ b)
 choice_calls_exist = a_choice_call
 
-pub first_calls_exist : (n : ℕ) (L : List ℤ) (t : Tree) → Fits (line_count L) all levels t → overs_of t ≡ [] → (b : ModelLent) → ValidFor n L
+pub first_calls_exist : (n : ℕ) (L : List ℤ) (t : Tree) → Fits (line_count L) AllOf levels t → overs_of t ≡ [] → (b : ModelLent) → ValidFor n L
     → model_room_lem n ≤ length b.model → work_room_lem n ≤ length b.work → (c : FirstCall n L t) × (c.before ≡ b)
 first_calls_exist = a_first_call
 
 -- Whatever numbers are not refused are those of a tree, so that what follows holds of every call that is not.
-pub choice_is_of_a_tree : (n : ℕ) (L : List ℤ) (s : List ℕ) (x : TreeAnswer) → NotRefused x → (k : ℕ) (b a : Lent) → DecidesChoice n L s k x b a
+pub choice_is_of_a_tree : (n : ℕ) (L : List ℤ) (s : List ℕ) (x : Result (Option ℕ) ConditionRefusal) → NotRefused x → (k : ℕ) (b a : Lent) → DecidesChoice n L s k x b a
     → (t : Tree) × (s ≡ tree_numbers t) × (c : ChoiceCall n L t k) × (c.answer ≡ x) × (c.before ≡ b) × (c.after ≡ a)
 choice_is_of_a_tree = choice_call_of
 
-pub first_is_of_a_tree : (n : ℕ) (L : List ℤ) (s : List ℕ) (x : TreeAnswer) → NotRefused x → (b a : ModelLent) → AnswersFirst n L s x b a
+pub first_is_of_a_tree : (n : ℕ) (L : List ℤ) (s : List ℕ) (x : Result (Option ℕ) ConditionRefusal) → NotRefused x → (b a : ModelLent) → AnswersFirst n L s x b a
     → (t : Tree) × (s ≡ tree_numbers t) × (c : FirstCall n L t) × (c.answer ≡ x) × (c.before ≡ b) × (c.after ≡ a)
 first_is_of_a_tree = first_call_of
 
@@ -261,19 +258,19 @@ shows_choice n L t k R v d =
 -- Choice number k picks the lines `choice_at t k`; a line picked twice counts once, and lines keep list order and their own numbers (`picked_lines`).
 pub record RightChoice (n : ℕ) (L : List ℤ) (t : Tree) (k : ℕ) (c : ChoiceCall n L t k) : Type 0 where
   -- It is yes, with the number that was asked for, exactly if whole numbers exist that meet every line picked; else it is no.
-  pub yes_or_no : (c.answer ≡ Yes k) ⊎ (c.answer ≡ No)
-  pub yes_exactly : (c.answer ≡ Yes k) ↔ Solvable (picked_lines L (choice_at t k))
-  pub no_exactly : (c.answer ≡ No) ↔ (Solvable (picked_lines L (choice_at t k)) → ⊥)
+  pub yes_or_no : (c.answer ≡ Ok (Some k)) ⊎ (c.answer ≡ Ok None)
+  pub yes_exactly : (c.answer ≡ Ok (Some k)) ↔ Solvable (picked_lines L (choice_at t k))
+  pub no_exactly : (c.answer ≡ Ok None) ↔ (Solvable (picked_lines L (choice_at t k)) → ⊥)
   -- On a yes the one model, the tightest bounds and the groups are written. It is a call of deciding these lines as a list of their own, so that all that was
   -- demanded of such a call holds of it (`right_answer`), of what lies beyond and of the work area too.
-  pub written : c.answer ≡ Yes k → Written n (picked_lines L (choice_at t k)) (model_in_lem n c.after) (bounds_in n c.after) (groups_in n c.after)
-  pub decided_alone : c.answer ≡ Yes k → (d : Call n (picked_list L (choice_at t k))) × (d.answer ≡ decide.Yes) × (d.before ≡ c.before) × (d.after ≡ c.after)
+  pub written : c.answer ≡ Ok (Some k) → Written n (picked_lines L (choice_at t k)) (model_in_lem n c.after) (bounds_in n c.after) (groups_in n c.after)
+  pub decided_alone : c.answer ≡ Ok (Some k) → (d : Call n (picked_list L (choice_at t k))) × (d.answer ≡ Ok decide.Yes) × (d.before ≡ c.before) × (d.after ≡ c.after)
   -- On a no a refutation of the due kind and the identifiers of its steps are written and nothing else, and only as many numbers as they have.
-  pub shown : c.answer ≡ No → ShowsChoice n L (choice_at t k) (refutation_in c.after)
-  pub identifiers : c.answer ≡ No → EachIdentifier L (refutation_in c.after) (identifiers_in c.after)
-  pub no_model : c.answer ≡ No → (c.after.model ≡ c.before.model) × (c.after.bounds ≡ c.before.bounds) × (c.after.groups ≡ c.before.groups)
-  pub refutation_only : c.answer ≡ No → c.after.refutation ≡ refutation_in c.after ++ drop (length (refutation_in c.after)) c.before.refutation
-  pub identifiers_only : c.answer ≡ No → c.after.identifiers ≡ identifiers_in c.after ++ drop (length (identifiers_in c.after)) c.before.identifiers
+  pub shown : c.answer ≡ Ok None → ShowsChoice n L (choice_at t k) (refutation_in c.after)
+  pub identifiers : c.answer ≡ Ok None → EachIdentifier L (refutation_in c.after) (identifiers_in c.after)
+  pub no_model : c.answer ≡ Ok None → (c.after.model ≡ c.before.model) × (c.after.bounds ≡ c.before.bounds) × (c.after.groups ≡ c.before.groups)
+  pub refutation_only : c.answer ≡ Ok None → c.after.refutation ≡ refutation_in c.after ++ drop (length (refutation_in c.after)) c.before.refutation
+  pub identifiers_only : c.answer ≡ Ok None → c.after.identifiers ≡ identifiers_in c.after ++ drop (length (identifiers_in c.after)) c.before.identifiers
   -- The named part of the work area is all zeros, and the rest is untouched.
   pub work : c.after.work ≡ cleared n c.before.work
 
@@ -308,7 +305,7 @@ right_choice_law n L t k c =
     either true f g = inl (f refl)
     either false f g = inr (g refl)
 
-    identified : c.answer ≡ No → EachIdentifier L (refutation_in c.after) (identifiers_in c.after)
+    identified : c.answer ≡ Ok None → EachIdentifier L (refutation_in c.after) (identifiers_in c.after)
     identified e =
         let R = refutation_in c.after in
         let refutes = ((choice_refutes L t k R).0 (call_due (as_call c) (verdict_no (as_call c) (choice_no c e))).refutes).0 in
@@ -320,24 +317,24 @@ right_choice_law n L t k c =
 -- perhaps others. (That the others have higher numbers than all of these is not needed.)
 pub record ChoiceUnlearned (n : ℕ) (L K : List ℤ) (t u : Tree) (k j : ℕ) (c : ChoiceCall n L t k) (d : ChoiceCall n K u j) : Type 0 where
   -- A no hands over a refutation of the due kind, and the checker accepts it against the whole list.
-  pub shown : c.answer ≡ No → ShowsChoice n L (choice_at t k) (refutation_in c.after)
+  pub shown : c.answer ≡ Ok None → ShowsChoice n L (choice_at t k) (refutation_in c.after)
   -- The answer is no exactly if some refutation counts against it, whoever proposed it.
-  pub no_exactly_if_refuted : (c.answer ≡ No) ↔ ((R : List ℕ) × CountsAgainst n L (choice_at t k) R)
+  pub no_exactly_if_refuted : (c.answer ≡ Ok None) ↔ ((R : List ℕ) × CountsAgainst n L (choice_at t k) R)
   -- What counts against it counts against the other, unchanged.
   pub counts_stays : (R : List ℕ) → CountsAgainst n L (choice_at t k) R → CountsAgainst n K (choice_at u j) R
   -- A no stays a no; and if the longer is a yes, so is the shorter.
-  pub no_stays_no : c.answer ≡ No → d.answer ≡ No
-  pub yes_was_yes : d.answer ≡ Yes j → c.answer ≡ Yes k
+  pub no_stays_no : c.answer ≡ Ok None → d.answer ≡ Ok None
+  pub yes_was_yes : d.answer ≡ Ok (Some j) → c.answer ≡ Ok (Some k)
   -- Where both are a yes: least values stay or rise and greatest stay or fall, as the numbers written, absent ones included.
-  pub least : c.answer ≡ Yes k → d.answer ≡ Yes j → (x : ℕ) → x < n
+  pub least : c.answer ≡ Ok (Some k) → d.answer ≡ Ok (Some j) → (x : ℕ) → x < n
       → get_or (bounds_in n c.after) (2 * x) (pos 0) ⩽ get_or (bounds_in n d.after) (2 * x) (pos 0)
-  pub greatest : c.answer ≡ Yes k → d.answer ≡ Yes j → (x : ℕ) → x < n
+  pub greatest : c.answer ≡ Ok (Some k) → d.answer ≡ Ok (Some j) → (x : ℕ) → x < n
       → get_or (bounds_in n d.after) (2 * x + 1) (pos 0) ⩽ get_or (bounds_in n c.after) (2 * x + 1) (pos 0)
   -- Two events in one group stay in one group, equal ones equal and mirrored ones mirrored.
-  pub groups : c.answer ≡ Yes k → d.answer ≡ Yes j → (x y : ℕ) → x < n → y < n
+  pub groups : c.answer ≡ Ok (Some k) → d.answer ≡ Ok (Some j) → (x y : ℕ) → x < n → y < n
       → SameVariable (groups_in n c.after) x y → GoOnSharing (picked_list K (choice_at u j)) (groups_in n c.after) (groups_in n d.after) x y
   -- The model is the same exactly if the shorter list's model meets every added line.
-  pub model : c.answer ≡ Yes k → d.answer ≡ Yes j
+  pub model : c.answer ≡ Ok (Some k) → d.answer ≡ Ok (Some j)
       → (model_in_lem n d.after ≡ model_in_lem n c.after) ↔ ((i : ℕ) → Added L K (choice_at t k) (choice_at u j) i → Meets (assignment_of (model_in_lem n c.after)) (line_at K i))
 
 lengthened : (n : ℕ) (L M : List ℤ) (t u : Tree) (k j : ℕ) (c : ChoiceCall n L t k) (d : ChoiceCall n (L ++ M) u j)
@@ -396,7 +393,7 @@ choice_unlearned_in_one_list n L = choice_unlearned n L [] L (sym (append-nil L)
 -- ---- the first choice with a solution
 
 pub record FirstWithSolution (L : List ℤ) (t : Tree) (k : ℕ) : Type 0 where
-  pub below : k < count all t
+  pub below : k < count AllOf t
   pub solvable : Solvable (picked_lines L (choice_at t k))
   pub earlier : (j : ℕ) → j < k → Solvable (picked_lines L (choice_at t j)) → ⊥
 
@@ -407,20 +404,20 @@ pub record ModelOf (n : ℕ) (ls : List Line) (m : List ℤ) : Type 0 where
 
 pub record RightFirst (n : ℕ) (L : List ℤ) (t : Tree) (c : FirstCall n L t) : Type 0 where
   -- It is yes exactly if some assignment meets the condition, the tree read as a formula, and no exactly if none does.
-  pub yes_exactly : ((k : ℕ) × (c.answer ≡ Yes k)) ↔ ((s : Assignment) × Condition L t s)
-  pub no_exactly : (c.answer ≡ No) ↔ ((s : Assignment) → Condition L t s → ⊥)
+  pub yes_exactly : ((k : ℕ) × (c.answer ≡ Ok (Some k))) ↔ ((s : Assignment) × Condition L t s)
+  pub no_exactly : (c.answer ≡ Ok None) ↔ ((s : Assignment) → Condition L t s → ⊥)
   -- The number is that of the first choice with a solution.
-  pub number_exactly : (k : ℕ) → (c.answer ≡ Yes k) ↔ FirstWithSolution L t k
+  pub number_exactly : (k : ℕ) → (c.answer ≡ Ok (Some k)) ↔ FirstWithSolution L t k
   -- Its model is written: the one that deciding this choice writes. It meets the condition, and nothing else has its meaning.
-  pub model : (k : ℕ) → c.answer ≡ Yes k → ModelOf n (picked_lines L (choice_at t k)) (take (model_room_lem n) c.after.model)
-  pub only_model : (k : ℕ) → c.answer ≡ Yes k → (m : List ℤ) → ModelOf n (picked_lines L (choice_at t k)) m → m ≡ take (model_room_lem n) c.after.model
-  pub meets : (k : ℕ) → c.answer ≡ Yes k → Condition L t (assignment_of (take (model_room_lem n) c.after.model))
-  pub as_decided : (k : ℕ) → c.answer ≡ Yes k → (d : ChoiceCall n L t k) → (d.answer ≡ Yes k) × (model_in_lem n d.after ≡ take (model_room_lem n) c.after.model)
+  pub model : (k : ℕ) → c.answer ≡ Ok (Some k) → ModelOf n (picked_lines L (choice_at t k)) (take (model_room_lem n) c.after.model)
+  pub only_model : (k : ℕ) → c.answer ≡ Ok (Some k) → (m : List ℤ) → ModelOf n (picked_lines L (choice_at t k)) m → m ≡ take (model_room_lem n) c.after.model
+  pub meets : (k : ℕ) → c.answer ≡ Ok (Some k) → Condition L t (assignment_of (take (model_room_lem n) c.after.model))
+  pub as_decided : (k : ℕ) → c.answer ≡ Ok (Some k) → (d : ChoiceCall n L t k) → (d.answer ≡ Ok (Some k)) × (model_in_lem n d.after ≡ take (model_room_lem n) c.after.model)
   -- On a no each choice is a no, and there is a refutation of each.
-  pub each_is_no : c.answer ≡ No → (k : ℕ) (d : ChoiceCall n L t k) → d.answer ≡ No
-  pub each_is_shown : c.answer ≡ No → (k : ℕ) → k < count all t → (R : List ℕ) × ShowsChoice n L (choice_at t k) R
+  pub each_is_no : c.answer ≡ Ok None → (k : ℕ) (d : ChoiceCall n L t k) → d.answer ≡ Ok None
+  pub each_is_shown : c.answer ≡ Ok None → (k : ℕ) → k < count AllOf t → (R : List ℕ) × ShowsChoice n L (choice_at t k) R
   -- A no writes no model, and what lies beyond its room is untouched.
-  pub no_model : c.answer ≡ No → c.after.model ≡ c.before.model
+  pub no_model : c.answer ≡ Ok None → c.after.model ≡ c.before.model
   pub beyond_model : drop (model_room_lem n) c.after.model ≡ drop (model_room_lem n) c.before.model
   -- The named part of the work area is all zeros, and the rest is untouched.
   pub work : c.after.work ≡ cleared n c.before.work
@@ -429,7 +426,7 @@ module _ {n : ℕ} {L : List ℤ} {t : Tree} (c : FirstCall n L t) where
   works : (k : ℕ) → Workable n (choice_list L t k)
   works k = workable n (choice_list L t k) (choice_valid n L t k (first_list c))
 
-  yes_at : (k : ℕ) → c.answer ≡ Yes k → choice_verdict n L t k ≡ true
+  yes_at : (k : ℕ) → c.answer ≡ Ok (Some k) → choice_verdict n L t k ≡ true
   yes_at k e = solvable_yes n (choice_list L t k) (works k) (first_found c k e).0.solvable
 
   first_lines : (k : ℕ) → FirstSolvable n L t k ↔ FirstWithSolution L t k
@@ -439,30 +436,30 @@ module _ {n : ℕ} {L : List ℤ} {t : Tree} (c : FirstCall n L t) where
   )
 
   -- there is one first choice with a solution, and where there is one some assignment meets the condition
-  number_of : (k : ℕ) → FirstSolvable n L t k → c.answer ≡ Yes k
+  number_of : (k : ℕ) → FirstSolvable n L t k → c.answer ≡ Ok (Some k)
   number_of k f =
       let v = first_list c in
       let s = f.solvable in
       let y = (first_condition c).1 (s.assignment, choice_meets L t s.assignment (first_tree c).fits k f.below s.solves) in
       let same : y.0 ≡ k = only_first n L t v y.0 (first_found c y.0 y.1).0 ∙ sym (only_first n L t v k f) in
-      y.1 ∙ ap Yes same
+      y.1 ∙ ap (λ (j : ℕ). Ok (Some j)) same
 
-  model_in : (k : ℕ) → c.answer ≡ Yes k → take (model_room_lem n) c.after.model ≡ model_of n (lines_of (choice_list L t k))
+  model_in : (k : ℕ) → c.answer ≡ Ok (Some k) → take (model_room_lem n) c.after.model ≡ model_of n (lines_of (choice_list L t k))
   unfolding model_of
   model_in k e = ap (take (model_room_lem n)) (first_model c k e) ∙ take_at (model_of n (lines_of (choice_list L t k))) _ (model_room_lem n) (length_tabulate (model_room_lem n) _)
 
-  no_at : c.answer ≡ No → (k : ℕ) → k < count all t → choice_verdict n L t k ≡ false
+  no_at : c.answer ≡ Ok None → (k : ℕ) → k < count AllOf t → choice_verdict n L t k ≡ false
   no_at e k l =
       unsolvable_no n (choice_list L t k) (works k)
       (λ s. (first_none c).0 e s.assignment (choice_meets L t s.assignment (first_tree c).fits k l s.solves))
 
-  written : (k : ℕ) → c.answer ≡ Yes k
+  written : (k : ℕ) → c.answer ≡ Ok (Some k)
       → Written n (picked_lines L (choice_at t k)) (model_of n (lines_of (choice_list L t k))) (bounds_of n (lines_of (choice_list L t k))) (groups_of n (lines_of (choice_list L t k)))
   written k e =
       let K = choice_list L t k in
       written_too (lines_of K) (picked_lines L (choice_at t k)) (choice_solutions L t k) (computed_written n (lines_of K) (lines_ok n K (works k)) (yes_at k e))
 
-  one_model : (k : ℕ) → c.answer ≡ Yes k → (m : List ℤ) → ModelOf n (picked_lines L (choice_at t k)) m → m ≡ model_of n (lines_of (choice_list L t k))
+  one_model : (k : ℕ) → c.answer ≡ Ok (Some k) → (m : List ℤ) → ModelOf n (picked_lines L (choice_at t k)) m → m ≡ model_of n (lines_of (choice_list L t k))
   unfolding model_of
   one_model k e m h =
       let K = choice_list L t k in
@@ -476,10 +473,10 @@ module _ {n : ℕ} {L : List ℤ} {t : Tree} (c : FirstCall n L t) where
   unfolding model_of
   beyond_first = go c.answer refl
     where
-      go : (x : TreeAnswer) → c.answer ≡ x → drop (model_room_lem n) c.after.model ≡ drop (model_room_lem n) c.before.model
-      go (Yes k) e = ap (drop (model_room_lem n)) (first_model c k e) ∙ drop_at (model_of n (lines_of (choice_list L t k))) _ (model_room_lem n) (length_tabulate (model_room_lem n) _)
-      go No e = ap (drop (model_room_lem n)) (first_no_model c e)
-      go (Refused r) e = absurd (c.not_refused r e)
+      go : (x : Result (Option ℕ) ConditionRefusal) → c.answer ≡ x → drop (model_room_lem n) c.after.model ≡ drop (model_room_lem n) c.before.model
+      go (Ok (Some k)) e = ap (drop (model_room_lem n)) (first_model c k e) ∙ drop_at (model_of n (lines_of (choice_list L t k))) _ (model_room_lem n) (length_tabulate (model_room_lem n) _)
+      go (Ok None) e = ap (drop (model_room_lem n)) (first_no_model c e)
+      go (Err r) e = absurd (c.not_refused r e)
 
 pub right_first_law : (n : ℕ) (L : List ℤ) (t : Tree) (c : FirstCall n L t) → RightFirst n L t c
 right_first_law n L t c =
@@ -499,11 +496,11 @@ right_first_law n L t c =
     }
 
 -- Every value of a model lies within n times the limit on d, of a choice that was asked for and of the first.
-pub choice_model_within : (n : ℕ) (L : List ℤ) (t : Tree) (k : ℕ) (c : ChoiceCall n L t k) → c.answer ≡ Yes k
+pub choice_model_within : (n : ℕ) (L : List ℤ) (t : Tree) (k : ℕ) (c : ChoiceCall n L t k) → c.answer ≡ Ok (Some k)
     → (x : ℕ) → x < n → Within (n * max_constant) (get_or (model_in_lem n c.after) x (pos 0))
 choice_model_within n L t k c e x h = rw (model_at (choice_left c true (choice_yes c e))) (choice_model_small n L t (choice_list_law c) k (choice_yes c e) x h)
 
-pub first_model_within : (n : ℕ) (L : List ℤ) (t : Tree) (c : FirstCall n L t) (k : ℕ) → c.answer ≡ Yes k
+pub first_model_within : (n : ℕ) (L : List ℤ) (t : Tree) (c : FirstCall n L t) (k : ℕ) → c.answer ≡ Ok (Some k)
     → (x : ℕ) → x < n → Within (n * max_constant) (get_or (take (model_room_lem n) c.after.model) x (pos 0))
 first_model_within n L t c k e x h = rw (model_in c k e) (choice_model_small n L t (first_list c) k (yes_at c k e) x h)
 
@@ -526,8 +523,8 @@ pub record ReturnedChoice (n : ℕ) (L : List ℤ) (s : List ℕ) (k : ℕ) (r :
   pub call : ChoiceCall n L tree k
   pub before : call.before ≡ b
   pub after : call.after ≡ a
-  pub yes : (call.answer ≡ Yes k) ↔ (r ≡ yes_returned k)
-  pub no : (call.answer ≡ No) ↔ (r ≡ no_returned k)
+  pub yes : (call.answer ≡ Ok (Some k)) ↔ (r ≡ yes_returned k)
+  pub no : (call.answer ≡ Ok None) ↔ (r ≡ no_returned k)
   pub yes_or_no : (r ≡ yes_returned k) ⊎ (r ≡ no_returned k)
 
 -- Of the first choice the number found is returned, and 0 where none has a solution.
@@ -537,12 +534,12 @@ pub record ReturnedFirst (n : ℕ) (L : List ℤ) (s : List ℕ) (r : CChoice) (
   pub call : FirstCall n L tree
   pub before : call.before ≡ b
   pub after : call.after ≡ a
-  pub yes : (k : ℕ) → (call.answer ≡ Yes k) ↔ (r ≡ yes_returned k)
-  pub no : (call.answer ≡ No) ↔ (r ≡ no_returned 0)
+  pub yes : (k : ℕ) → (call.answer ≡ Ok (Some k)) ↔ (r ≡ yes_returned k)
+  pub no : (call.answer ≡ Ok None) ↔ (r ≡ no_returned 0)
   pub yes_or_no : ((k : ℕ) × (r ≡ yes_returned k)) ⊎ (r ≡ no_returned 0)
 
 -- the struct tells the answer, since no two answers have one
-told : (asked : ℕ) (r : CChoice) (x : TreeAnswer) → r ≡ choice_returned asked x → (y : TreeAnswer) → (x ≡ y) ↔ (r ≡ choice_returned asked y)
+told : (asked : ℕ) (r : CChoice) (x : Result (Option ℕ) ConditionRefusal) → r ≡ choice_returned asked x → (y : Result (Option ℕ) ConditionRefusal) → (x ≡ y) ↔ (r ≡ choice_returned asked y)
 told asked r x d y = ((λ e. d ∙ ap (choice_returned asked) e), (λ e. choices_apart asked x y (sym d ∙ e)))
 
 module _ (n : ℕ) (L : List ℤ) (s : List ℕ) (k : ℕ) (r : CChoice) (b a : Lent) (d : ChoiceReturns n L s k r b a) where
@@ -556,22 +553,22 @@ module _ (n : ℕ) (L : List ℤ) (s : List ℕ) (k : ℕ) (r : CChoice) (b a : 
         call = c.2;
         before = c.4;
         after = c.5;
-        yes = answer (Yes k);
-        no = answer No;
-        yes_or_no = ⊎_elim (λ e. inl ((answer (Yes k)).0 e)) (λ e. inr ((answer No).0 e)) (right_choice_law n L c.0 k c.2).yes_or_no;
+        yes = answer (Ok (Some k));
+        no = answer (Ok None);
+        yes_or_no = ⊎_elim (λ e. inl ((answer (Ok (Some k))).0 e)) (λ e. inr ((answer (Ok None)).0 e)) (right_choice_law n L c.0 k c.2).yes_or_no;
       }
 
   -- -1 is the first refusal that applies, and then the buffers are as they were.
   pub choice_refusal_returned : (q : ConditionRefusal) → (r ≡ refusal_returned q) ↔ RefusedBy n L (ChoiceRefused s (line_count L) k) (rooms_table lent_rooms n (lengths_of b)) q
   choice_refusal_returned q =
       let f = choice_refused_exactly_if n L s k (choice_answer_for n L s k b) b a d.decides q in
-      let t = told k r (choice_answer_for n L s k b) d.is (Refused q) in
+      let t = told k r (choice_answer_for n L s k b) d.is (Err q) in
       ((λ e. f.0 (t.1 e)), (λ g. t.0 (f.1 g)))
 
   pub returned_choice_refusal_changes_nothing : r.result ≡ refused_result → a ≡ b
   returned_choice_refusal_changes_nothing e =
       let q = refusal_told k (choice_answer_for n L s k b) (ap (λ (z : CChoice). z.result) (sym d.is) ∙ e) in
-      refused_choice_changes_nothing n L s k q.0 b a (subst (λ (x : TreeAnswer). DecidesChoice n L s k x b a) q.1 d.decides)
+      refused_choice_changes_nothing n L s k q.0 b a (subst (λ (x : Result (Option ℕ) ConditionRefusal). DecidesChoice n L s k x b a) q.1 d.decides)
 
 module _ (n : ℕ) (L : List ℤ) (s : List ℕ) (r : CChoice) (b a : ModelLent) (d : FirstReturns n L s r b a) where
   pub returned_first_is_a_call : (r.result ≡ refused_result → ⊥) → ReturnedFirst n L s r b a
@@ -584,30 +581,30 @@ module _ (n : ℕ) (L : List ℤ) (s : List ℕ) (r : CChoice) (b a : ModelLent)
         call = c.2;
         before = c.4;
         after = c.5;
-        yes = λ k. answer (Yes k);
-        no = answer No;
-        yes_or_no = either c.2.answer c.2.not_refused (λ k e. (answer (Yes k)).0 e) (λ e. (answer No).0 e);
+        yes = λ k. answer (Ok (Some k));
+        no = answer (Ok None);
+        yes_or_no = either c.2.answer c.2.not_refused (λ k e. (answer (Ok (Some k))).0 e) (λ e. (answer (Ok None)).0 e);
       }
     where
-      either : (x : TreeAnswer) → NotRefused x → ((k : ℕ) → x ≡ Yes k → r ≡ yes_returned k) → (x ≡ No → r ≡ no_returned 0) → ((k : ℕ) × (r ≡ yes_returned k)) ⊎ (r ≡ no_returned 0)
-      either (Yes k) u f g = inl (k, f k refl)
-      either No u f g = inr (g refl)
-      either (Refused q) u f g = absurd (u q refl)
+      either : (x : Result (Option ℕ) ConditionRefusal) → NotRefused x → ((k : ℕ) → x ≡ Ok (Some k) → r ≡ yes_returned k) → (x ≡ Ok None → r ≡ no_returned 0) → ((k : ℕ) × (r ≡ yes_returned k)) ⊎ (r ≡ no_returned 0)
+      either (Ok (Some k)) u f g = inl (k, f k refl)
+      either (Ok None) u f g = inr (g refl)
+      either (Err q) u f g = absurd (u q refl)
 
   pub first_refusal_returned : (q : ConditionRefusal) → (r ≡ refusal_returned q) ↔ RefusedBy n L (TreeRefused s (line_count L)) (rooms_table model_rooms n (model_lengths_of b)) q
   first_refusal_returned q =
       let f = first_refused_exactly_if n L s (first_answer_for n L s b) b a d.answers q in
-      let t = told 0 r (first_answer_for n L s b) d.is (Refused q) in
+      let t = told 0 r (first_answer_for n L s b) d.is (Err q) in
       ((λ e. f.0 (t.1 e)), (λ g. t.0 (f.1 g)))
 
   pub returned_first_refusal_changes_nothing : r.result ≡ refused_result → a ≡ b
   returned_first_refusal_changes_nothing e =
       let q = refusal_told 0 (first_answer_for n L s b) (ap (λ (z : CChoice). z.result) (sym d.is) ∙ e) in
-      refused_first_changes_nothing n L s q.0 b a (subst (λ (x : TreeAnswer). AnswersFirst n L s x b a) q.1 d.answers)
+      refused_first_changes_nothing n L s q.0 b a (subst (λ (x : Result (Option ℕ) ConditionRefusal). AnswersFirst n L s x b a) q.1 d.answers)
 
 -- A refusal is known by its number and its place, and no two answers are returned alike.
 pub refusals_apart : (q p : ConditionRefusal) → condition_number q ≡ condition_number p → condition_place q ≡ condition_place p → q ≡ p
 refusals_apart = one_condition
 
-pub choices_returned_apart : (asked : ℕ) (x y : TreeAnswer) → choice_returned asked x ≡ choice_returned asked y → x ≡ y
+pub choices_returned_apart : (asked : ℕ) (x y : Result (Option ℕ) ConditionRefusal) → choice_returned asked x ≡ choice_returned asked y → x ≡ y
 choices_returned_apart = choices_apart

@@ -16,8 +16,13 @@ use check_answers::CheckAnswer;
 use check_model::check_model;
 use check_refutation::check_refutation;
 use check_shorter::shorter;
+use lines::Refusal;
 
-pub fn model_check_only_reads(n: usize, list: &mut [i32], model: &mut [i64]) -> CheckAnswer
+pub fn model_check_only_reads(
+    n: usize,
+    list: &mut [i32],
+    model: &mut [i64],
+) -> Result<CheckAnswer, Refusal>
     ensures answer { result ≡ model_answer n list.old model.old }
     ensures list_kept { list.new ≡ list.old }
     ensures model_kept { model.new ≡ model.old }
@@ -29,7 +34,7 @@ pub fn refutation_check_only_reads(
     n: usize,
     list: &mut [i32],
     refutation: &mut [u32],
-) -> CheckAnswer
+) -> Result<CheckAnswer, Refusal>
     ensures answer { result ≡ refutation_answer n list.old refutation.old }
     ensures list_kept { list.new ≡ list.old }
     ensures refutation_kept { refutation.new ≡ refutation.old }

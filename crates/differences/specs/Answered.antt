@@ -1,10 +1,9 @@
 -- How a list of differences comes to its answer: the search, which refutes it or leaves potentials; on a yes the table of distances and what is written from
 -- it; then the work area is cleared.
-use Rattle.std.specs.Prelude.{◌≡◌, refl, Bool, true, false, not, List, ◌++◌, ℕ, ◌+◌, ◌*◌, ◌≤◌, ℤ, pos, length, take, drop}
+use Rattle.std.specs.Prelude.{◌≡◌, refl, Bool, true, false, not, List, ◌++◌, ℕ, ◌+◌, ◌*◌, ◌≤◌, ℤ, pos, length, take, drop, Ok}
 use Rattle.std.proofs.Common.{sym, ap, ◌∙◌, mul-le-mul_right, arith, length-take-le, get_or-take}
 use Rattle.integers.specs.Laws.{never}
 use Rattle.integers.specs.Sequence.{tabulate}
-use Rattle.lines.specs.declared.Validity.TheVariants.{Valid}
 use Rattle.lines.specs.Limits.{max_variables}
 use Rattle.lines.specs.Line.{lines_of}
 use Rattle.lines.specs.Valid.{Modellable, modellable}
@@ -107,7 +106,7 @@ module _ {n : ℕ} {L model bounds : List ℤ} {groups R : List ℕ} {w : List �
             record { verdict = verdict_is ∙ ap not e; on_no = λ z. never (cc); on_yes = λ _. ((k.on_yes e).0, x.0, x.1, x.2); scratch = scratch_trans k.scratch t.scratch }
 
 -- ---- the call, where nothing is refused
-module _ (n : ℕ) (L : List ℤ) (b : Lent) (v : plain_validity_for n L b ≡ Valid) where
+module _ (n : ℕ) (L : List ℤ) (b : Lent) (v : plain_validity_for n L b ≡ Ok tt) where
   ok : DifferencesOk n L (lengths_of b)
   ok = differences_ok n L (lengths_of b) v
 
@@ -142,7 +141,7 @@ module _ (n : ℕ) (L : List ℤ) (b : Lent) (v : plain_validity_for n L b ≡ V
 
     module _ (w₂ : List ℤ) (z : w₂ ≡ cleared_to (differences_work_room_lem n) w₁) where
       pub decided_no : r ≡ true → (I : List ℕ) → I ≡ identifiers_of L R₁ ++ drop (steps_in R₁) b.identifiers
-          → DifferencesDecided n L No b (record { model = m; bounds = bs; groups = g; refutation = R₁; identifiers = I; work = w₂ })
+          → DifferencesDecided n L (Ok No) b (record { model = m; bounds = bs; groups = g; refutation = R₁; identifiers = I; work = w₂ })
       decided_no e I i =
           let f = k.on_no e in
           let x = no_left n L (plain_list ok).works.lines b.refutation R₁ f.0 (differences_work_room_lem n) b refl I i w₂ (cleared_is w₂ z) in
@@ -151,7 +150,7 @@ module _ (n : ℕ) (L : List ℤ) (b : Lent) (v : plain_validity_for n L b ≡ V
             leaves = record { numbers = x.numbers; due = x.due; refutation = x.refutation; identifiers = x.identifiers; model = f.1; bounds = f.2; groups = f.3; work = x.work };
           }
 
-      pub decided_yes : r ≡ false → DifferencesDecided n L Yes b (record { model = m; bounds = bs; groups = g; refutation = R₁; identifiers = b.identifiers; work = w₂ })
+      pub decided_yes : r ≡ false → DifferencesDecided n L (Ok Yes) b (record { model = m; bounds = bs; groups = g; refutation = R₁; identifiers = b.identifiers; work = w₂ })
       decided_yes e =
           let f = k.on_yes e in
           record {

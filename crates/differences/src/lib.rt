@@ -7,13 +7,13 @@ ghost use Rattle.differences.specs.Answered.{AnswerReady, Answered};
 ghost use Rattle.differences.specs.Decided.{DifferencesDecided};
 
 use decide::Answer;
-use decide_buffers::{clear, differences_work_room};
+use decide_buffers::{Lengths, clear, differences_work_room};
 use decide_identifiers::write_identifiers;
 use differences_lines::differences_validity;
 use differences_search::refuted_differences;
 use differences_table::write_plain_table;
 use differences_yes::write_plain_answers;
-use lines::Validity;
+use lines::Refusal;
 
 // Whether the list is refuted. If it is, the refutation is written; else the model, the bounds and the groups are.
 fn refuted_or_answered(
@@ -47,30 +47,29 @@ pub fn decide_differences(
     refutation: &mut [u32],
     identifiers: &mut [u32],
     work: &mut [i64],
-) -> Answer
+) -> Result<Answer, Refusal>
     ensures { DifferencesDecided n list.now result
         (record { model = model.old; bounds = bounds.old; groups = groups.old; refutation = refutation.old; identifiers = identifiers.old; work = work.old })
         (record { model = model.new; bounds = bounds.new; groups = groups.new; refutation = refutation.new; identifiers = identifiers.new; work = work.new }) }
 {
-    let found = differences_validity(
+    differences_validity(
         n,
         list,
-        model.len(),
-        bounds.len(),
-        groups.len(),
-        refutation.len(),
-        identifiers.len(),
-        work.len(),
-    );
-    if let Validity::Refused(r) = found {
-        return Answer::Refused(r);
-    }
+        Lengths {
+            model: model.len(),
+            bounds: bounds.len(),
+            groups: groups.len(),
+            refutation: refutation.len(),
+            identifiers: identifiers.len(),
+            work: work.len(),
+        },
+    )?;
     let room = differences_work_room(n);
     if refuted_or_answered(list, n, model, bounds, groups, refutation, work) {
         write_identifiers(list, refutation, identifiers);
         clear(work, room);
-        return Answer::No;
+        return Ok(Answer::No);
     }
     clear(work, room);
-    Answer::Yes
+    Ok(Answer::Yes)
 }

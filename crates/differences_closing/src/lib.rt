@@ -17,13 +17,11 @@ fn lower_row(table: &mut [i64], n: usize, to: usize, by: usize, a: i64)
 {
     let own = to * n;
     let other = by * n;
-    let mut u = 0;
-    while u < n {
+    for u in 0..n {
         let sum = table[other + u] + a;
         let old = table[own + u];
         let less = negative_part(sum - old);
         table[own + u] = old + less;
-        u += 1;
     }
 }
 
@@ -44,10 +42,8 @@ fn through_rows(table: &mut [i64], n: usize, k: usize, from: usize, end: usize)
     requires { RowsReady n k end table.old }
     ensures { RowsThrough n k from table.old table.new end }
 {
-    let mut v = from;
-    while v < end {
+    for v in from..end {
         through_row(table, n, v, k);
-        v += 1;
     }
 }
 
@@ -66,9 +62,7 @@ pub fn close(table: &mut [i64], n: usize)
     requires { Ranged n table.old }
     ensures { Closed n table.old table.new n }
 {
-    let mut k = 0;
-    while k < n {
+    for k in 0..n {
         through(table, n, k);
-        k += 1;
     }
 }

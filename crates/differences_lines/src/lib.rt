@@ -13,9 +13,9 @@ ghost use Rattle.differences_lines.specs.Others.{first_other_lem};
 ghost use Rattle.differences_lines.specs.PlainList.{PlainAt};
 ghost use Rattle.differences_lines.specs.Refused.{differences_validity_lem};
 
-use decide_buffers::{differences_work_room, rooms_validity};
+use decide_buffers::{Lengths, differences_work_room, rooms_validity};
 use lines::limits::LINE_SIZE;
-use lines::{Refusal, Validity, line_at, list_validity};
+use lines::{Refusal, line_at, list_validity};
 use steps::Step;
 
 // Whether one of two coefficients is 1 and the other -1.
@@ -41,18 +41,17 @@ fn is_difference(list: &[i32], k: usize) -> bool
 }
 
 // The number of the first line that is no difference, or the number of lines.
+#[tactic(auto, using(integers::proofs::Searching::searching), unfolding(crate::specs::Others::first_other_lem))]
 fn first_other(list: &[i32]) -> usize
     ensures { result ≡ first_other_lem list.now }
 {
     let count = list.len() / LINE_SIZE;
-    let mut k = 0;
-    while k < count {
+    for k in 0..count {
         if !is_difference(list, k) {
             return k;
         }
-        k += 1;
     }
-    k
+    count
 }
 
 // The step from x to y of weight d.
@@ -68,6 +67,7 @@ fn step_between(x: i32, y: i32, d: i32) -> Step
 }
 
 // The step of line number k over the variables: x - y <= d leads from x to y, and -x + y <= d from y to x.
+#[tactic(auto, unfolding(theory_differences::specs::Plain::plain_step_lem))]
 pub fn plain_step(list: &[i32], k: usize) -> Step
     requires { PlainAt list.now k }
     ensures { result ≡ plain_step_lem (line_at list.now k) }
@@ -80,6 +80,7 @@ pub fn plain_step(list: &[i32], k: usize) -> Step
 }
 
 // The number in the list of that step between plus points: the line's side 0 where x has the coefficient 1, else side 1.
+#[tactic(auto, unfolding(theory_differences::specs::Plain::plain_side))]
 pub fn plain_number(list: &[i32], k: usize) -> usize
     requires { PlainAt list.now k }
     ensures { result ≡ plain_number_lem list.now k }
@@ -91,35 +92,14 @@ pub fn plain_number(list: &[i32], k: usize) -> usize
     2 * k + 1
 }
 
-// The first refusal that applies: the list's, 60, 7 and 8. Buffers are given by their lengths.
-pub fn differences_validity(
-    n: usize,
-    list: &[i32],
-    model: usize,
-    bounds: usize,
-    groups: usize,
-    refutation: usize,
-    identifiers: usize,
-    work: usize,
-) -> Validity
-    ensures { result ≡ differences_validity_lem n list.now (record { model = model; bounds = bounds; groups = groups; refutation = refutation; identifiers = identifiers; work = work }) }
+// The first refusal that applies: the list's, 60, 7 and 8.
+pub fn differences_validity(n: usize, list: &[i32], lengths: Lengths) -> Result<(), Refusal>
+    ensures { result ≡ differences_validity_lem n list.now lengths }
 {
-    let found = list_validity(n, list);
-    if let Validity::Refused(r) = found {
-        return Validity::Refused(r);
-    }
+    list_validity(n, list)?;
     let other = first_other(list);
     if other < list.len() / LINE_SIZE {
-        return Validity::Refused(Refusal::NotDifference(other));
+        return Err(Refusal::NotDifference(other));
     }
-    rooms_validity(
-        n,
-        model,
-        bounds,
-        groups,
-        refutation,
-        identifiers,
-        work,
-        differences_work_room(n),
-    )
+    rooms_validity(n, lengths, differences_work_room(n))
 }

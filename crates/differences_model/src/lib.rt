@@ -48,11 +48,9 @@ fn limit_at(table: &[i64], n: usize, upper: bool, values: &[i32]) -> i64
 {
     let k = values.len();
     let mut limit = NO_WALK;
-    let mut x = 0;
-    while x < k {
+    for x in 0..k {
         let other = limit_by(table, n, upper, k, x, values[x] as i64);
         limit = smaller(limit, other);
-        x += 1;
     }
     limit
 }
@@ -72,10 +70,8 @@ pub fn write_plain_model(table: &[i64], n: usize, model: &mut [i32])
     requires { PlainModelReady n table.now model.old }
     ensures { model.new ≡ tabulate n (table_model n (doubled (table_of n table.now))) ++ drop n model.old }
 {
-    let mut k = 0;
-    while k < n {
-        let value = next_value(table, n, &model[0..k]) as i32;
+    for k in 0..n {
+        let value = next_value(table, n, &model[..k]) as i32;
         model[k] = value;
-        k += 1;
     }
 }

@@ -29,32 +29,30 @@ fn relax_line(list: &[i32], n: usize, rows: &mut [i64], k: usize)
 }
 
 // One round: the old row stands first; the new row comes behind it.
+#[tactic(auto, using(crate::specs::Round::gone_start, crate::specs::Round::gone_ready, crate::specs::Round::twice_ready))]
 fn relax_lines(list: &[i32], n: usize, rows: &mut [i64])
     requires { RoundReady n list.now rows.old }
     ensures { rows.new ≡ with_next (plain_of list.now) (take n rows.old) }
 {
     copy_row(rows, 0, n, n);
     let count = list.len() / LINE_SIZE;
-    let mut k = 0;
-    while k < count {
+    for k in 0..count {
         relax_line(list, n, rows, k);
-        k += 1;
     }
 }
 
 // The first place at which two rows one behind the other differ, or their size.
+#[tactic(auto, using(integers::proofs::Searching::searching))]
 fn first_changed(rows: &[i64], size: usize) -> usize
     requires { length rows.now ≡ 2 * size }
     ensures { result ≡ first_failing_lem size (same_at size rows.now) }
 {
-    let mut i = 0;
-    while i < size {
+    for i in 0..size {
         if rows[i] != rows[size + i] {
             return i;
         }
-        i += 1;
     }
-    i
+    size
 }
 
 // The row behind the row at `from`, and the first variable whose entry differs in it, or n.

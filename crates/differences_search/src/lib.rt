@@ -27,17 +27,7 @@ fn next_due(k: usize, due: usize, n: usize) -> usize
     if k < due {
         return due;
     }
-    if n / LATER < k {
-        return n;
-    }
-    LATER * k
-}
-
-// The first of these.
-fn first_due(n: usize) -> usize
-    ensures { result ≤ n }
-{
-    if n < FIRST { n } else { FIRST }
+    k.saturating_mul(LATER).min(n)
 }
 
 // Twice each number of the row at a place, at another place.
@@ -45,11 +35,9 @@ fn double_row(work: &mut [i64], from: usize, to: usize, n: usize)
     requires { DoubleReady from to n work.old }
     ensures { Doubled from to n work.old work.new n }
 {
-    let mut i = 0;
-    while i < n {
+    for i in 0..n {
         let z = work[from + i];
         work[to + i] = z + z;
-        i += 1;
     }
 }
 
@@ -82,21 +70,19 @@ pub fn refuted_differences(list: &[i32], n: usize, refutation: &mut [u32], work:
         return false;
     }
     clear(work, n);
-    let mut due = first_due(n);
-    let mut k = 0;
-    let mut from = 0;
-    while k < n {
+    let mut due = FIRST.min(n);
+    for k in 0..n {
+        let from = k * n;
         let v = next_plain_row(list, n, work, from);
         if n <= v {
             double_row(work, from, walk_at(n), n);
             return false;
         }
-        k += 1;
-        from += n;
-        if refuted_when_due(list, n, k, v, due, refutation, work) {
+        let rounds = k + 1;
+        if refuted_when_due(list, n, rounds, v, due, refutation, work) {
             return true;
         }
-        due = next_due(k, due, n);
+        due = next_due(rounds, due, n);
     }
     // never: a walk of as many steps as there are variables refutes the list
     true

@@ -14,16 +14,14 @@ use engine_reduced_table::FAR;
 use lines::limits::LINE_SIZE;
 
 // 0 from each variable to itself.
+#[tactic(auto, using(differences_closing::specs::Entries::row_end))]
 fn put_diagonal(work: &mut [i64], n: usize)
     requires { DiagonalReady n work.old }
     ensures { Diagonal n work.old work.new n }
 {
-    let mut i = 0;
-    let mut at = 0;
-    while i < n {
+    for i in 0..n {
+        let at = i * n;
         work[at + i] = 0;
-        i += 1;
-        at += n;
     }
 }
 
@@ -53,10 +51,8 @@ fn put_lines(list: &[i32], n: usize, work: &mut [i64])
     ensures { LinesPut n list.now work.old work.new (line_count list.now) }
 {
     let count = list.len() / LINE_SIZE;
-    let mut k = 0;
-    while k < count {
+    for k in 0..count {
         put_line(list, n, work, k);
-        k += 1;
     }
 }
 

@@ -4,7 +4,6 @@ use Rattle.std.proofs.Common.{sym, ap, ap₂, subst, ◌∙◌, mul-le-mul_right
 use Rattle.std.proofs.Math.Decide.{ℕ_discrete}
 use Rattle.integers.specs.Integer.{◌⩽◌, Within}
 use Rattle.lines.specs.Limits.{max_variables}
-use Rattle.lines.specs.Line.{number}
 use Rattle.decide_rows.specs.Stored.{stored}
 use Rattle.engine_packed_steps.specs.Scratch.{Scratch, scratch_none, scratch_trans, scratch_set, scratch_at, scratch_behind, scratch_wider}
 use Rattle.engine_reduced_table.specs.Reduced.{far, max_potential}

@@ -13,6 +13,7 @@ use differences_start::start_table;
 use engine_settled_table::distance_of;
 
 // The entries of the row of v turned back to distances.
+#[tactic(auto, using(differences_closing::specs::Entries::row_end))]
 fn finish_row(work: &mut [i64], n: usize, v: usize)
     requires { FinishReady n work.old v × (v < n) }
     ensures { RowFinished n v work.old work.new n }
@@ -20,12 +21,10 @@ fn finish_row(work: &mut [i64], n: usize, v: usize)
     let row = v * n;
     let points = walk_at(n);
     let other = work[points + v];
-    let mut u = 0;
-    while u < n {
+    for u in 0..n {
         let z = work[row + u];
         let own = work[points + u];
         work[row + u] = distance_of(z, own, other);
-        u += 1;
     }
 }
 
@@ -34,10 +33,8 @@ fn finish(work: &mut [i64], n: usize)
     requires { FinishReady n work.old 0 }
     ensures { Finished n work.old work.new n }
 {
-    let mut v = 0;
-    while v < n {
+    for v in 0..n {
         finish_row(work, n, v);
-        v += 1;
     }
 }
 
@@ -47,6 +44,6 @@ pub fn write_plain_table(list: &[i32], n: usize, work: &mut [i64])
     ensures { PlainTable n list.now work.old work.new }
 {
     start_table(list, n, work);
-    close(&mut work[0..n * n], n);
+    close(&mut work[..n * n], n);
     finish(work, n);
 }

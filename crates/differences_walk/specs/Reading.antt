@@ -1,10 +1,9 @@
 -- The walk that makes a changed entry, read back from its last row: what is left of the way, and the walk that is written so far. Each entry on the way was
 -- changed by its round, so that each row has its step.
-use Rattle.std.specs.Prelude.{◌≡◌, refl, List, [], ◌∷◌, ℕ, zero, suc, ◌+◌, ◌*◌, ◌-◌, ◌<◌, ◌≤◌, ℤ, pos, ◌+ℤ◌, length, set, drop}
+use Rattle.std.specs.Prelude.{◌≡◌, refl, List, [], ◌∷◌, ℕ, zero, suc, ◌+◌, ◌*◌, ◌-◌, ◌<◌, ◌≤◌, ℤ, pos, ◌+ℤ◌, length, set, drop, Some}
 use Rattle.std.proofs.Common.{sym, ap, subst, ◌∙◌, arith, length-set, get_or-set_same, get_or-set_other, get_or-take, get_or-drop}
 use Rattle.lines.specs.Line.{number, line_at, line_count}
 use Rattle.steps.specs.declared.Step.{Step}
-use Rattle.steps.specs.declared.NamedStep.TheVariants.{Found}
 use Rattle.steps.specs.Step.{step_numbered_lem}
 use Rattle.steps.specs.Walk.{Names, total}
 use Rattle.theory_walks.specs.Distance.{Distance, some, ◌⊕◌, ⊕_zero, ⊕_assoc}
@@ -182,7 +181,7 @@ module _ {n : ℕ} {L w₀ : List ℤ} {top v : ℕ} (a : WalkReady n L w₀ top
           let e : x.0 +ℤ t.weight ≡ y.0 = ap (λ (z : ℤ). z +ℤ t.weight) (sym (old_at t.from ends.0 ∙ ap stored x.1)) ∙ m.sum ∙ here_is ∙ ap stored y.1 in
           y.1 ∙ ap some (sym e) ∙ ap (λ (d : Distance). d ⊕ t.weight) (sym x.1)
 
-      number_ok : (plain_number_lem L s.line < 2 * line_count L) × (step_numbered_lem L (plain_number_lem L s.line) ≡ Found (plus (plain_step_lem (line_at L s.line))))
+      number_ok : (plain_number_lem L s.line < 2 * line_count L) × (step_numbered_lem L (plain_number_lem L s.line) ≡ Some (plus (plain_step_lem (line_at L s.line))))
       number_ok = plain_numbered L a.plain.all s.line s.is.inside
 
       abbrev w₁ : List ℤ

@@ -40,12 +40,10 @@ fn find_line(list: &[i32], old: &[i64], v: usize, z: i64) -> usize
     ensures { IsMade list.now old.now v z result }
 {
     let count = list.len() / LINE_SIZE;
-    let mut k = 0;
-    while k < count {
+    for k in 0..count {
         if makes(list, old, v, z, k) {
             return k;
         }
-        k += 1;
     }
     // never: some line makes the value
     0
@@ -83,43 +81,37 @@ fn walk_back(list: &[i32], n: usize, work: &mut [i64], top: usize, v: usize)
     let walk = walk_at(n);
     let points = points_at(n);
     work[points + top] = v as i64;
-    let mut k = top;
-    let mut before = top * n;
     let mut p = v;
-    while 0 < k {
-        k -= 1;
-        before -= n;
-        p = step_back(list, n, work, before, p, walk + k, points + k);
+    for k in (0..top).rev() {
+        p = step_back(list, n, work, k * n, p, walk + k, points + k);
     }
 }
 
 // The next place behind i at which the number of i stands again, or how many numbers there are.
+#[tactic(auto, using(crate::specs::Again::between_start, crate::specs::Again::between_more))]
 fn next_same(numbers: &[i64], i: usize) -> usize
     requires { i < length numbers.now }
     ensures { NextSame numbers.now i result }
 {
-    let mut j = i + 1;
-    while j < numbers.len() {
+    for j in i + 1..numbers.len() {
         if numbers[j] == numbers[i] {
             return j;
         }
-        j += 1;
     }
-    j
+    numbers.len()
 }
 
 // Two places at which one number stands; or, where there are none, both are the count of the numbers.
+#[tactic(auto, using(crate::specs::Again::twice_more))]
 fn met_again(numbers: &[i64]) -> Part
     ensures { MetAgain numbers.now result }
 {
     let count = numbers.len();
-    let mut i = 0;
-    while i < count {
+    for i in 0..count {
         let j = next_same(numbers, i);
         if j < count {
             return Part { first: i, last: j };
         }
-        i += 1;
     }
     Part {
         first: count,

@@ -23,11 +23,9 @@ fn write_no_bounds(n: usize, bounds: &mut [i64])
     requires { bounds_room_lem n ≤ length bounds.old }
     ensures { bounds.new ≡ tabulate (2 * n) absent_at ++ drop (bounds_room_lem n) bounds.old }
 {
-    let mut x = 0;
-    while x < n {
+    for x in 0..n {
         bounds[2 * x] = ABSENT_LEAST;
         bounds[2 * x + 1] = NO_WALK;
-        x += 1;
     }
 }
 
@@ -47,14 +45,12 @@ fn group_of(table: &[i64], n: usize, x: usize) -> usize
     requires { PlainTable n table.now × (x < n) }
     ensures { result ≡ plain_group (table_of n table.now) x }
 {
-    let mut r = 0;
-    while r < x {
+    for r in 0..x {
         if same_value(table, n, x, r) {
             return r;
         }
-        r += 1;
     }
-    r
+    x
 }
 
 // The groups of all n variables: of each the lowest variable with its value, and plus.
@@ -62,12 +58,10 @@ fn write_plain_groups(table: &[i64], n: usize, groups: &mut [u32])
     requires { PlainTable n table.now × (groups_room_lem n ≤ length groups.old) }
     ensures { groups.new ≡ tabulate (2 * n) (group_at_lem (doubled (table_of n table.now))) ++ drop (groups_room_lem n) groups.old }
 {
-    let mut x = 0;
-    while x < n {
+    for x in 0..n {
         let lowest = group_of(table, n, x);
         groups[2 * x] = lowest as u32;
         groups[2 * x + 1] = 0;
-        x += 1;
     }
 }
 

@@ -1,5 +1,5 @@
 -- A walk followed back by the marks: each number names a step that ends where the walk followed so far begins.
-use Rattle.std.specs.Prelude.{◌≡◌, refl, List, [], ◌∷◌, ℕ, ◌+◌, ◌*◌, ◌-◌, ◌<◌, ◌≤◌, ℤ, pos, ◌+ℤ◌, length, set}
+use Rattle.std.specs.Prelude.{◌≡◌, refl, List, [], ◌∷◌, ℕ, ◌+◌, ◌*◌, ◌-◌, ◌<◌, ◌≤◌, ℤ, pos, ◌+ℤ◌, length, set, Some}
 use Rattle.std.proofs.Common.{subst, arith, SFits}
 use Rattle.std.specs.Int.{w64}
 use Rattle.integers.specs.Integer.{Within}
@@ -8,7 +8,6 @@ use Rattle.lines.specs.Limits.{max_variables, work_lines}
 use Rattle.lines.specs.Line.{line_count}
 use Rattle.lines.specs.Valid.{LinesOk}
 use Rattle.steps.specs.declared.Step.{Step}
-use Rattle.steps.specs.declared.NamedStep.TheVariants.{Found}
 use Rattle.steps.specs.Step.{max_weight, step_numbered_lem}
 use Rattle.steps.specs.Walk.{total}
 use Rattle.theory_walks.specs.Size.{within_more, within_sum}
@@ -82,7 +81,7 @@ module _ (n : ℕ) (L w₀ : List ℤ) (v end : ℕ) (a : FollowReady n L w₀ v
     }
 
     -- one number more, of a step that ends where the walk begins
-    module _ (h : end - 2 * n < slot) (k : ℕ) (t : Step) (named : step_numbered_lem L k ≡ Found t) where
+    module _ (h : end - 2 * n < slot) (k : ℕ) (t : Step) (named : step_numbered_lem L k ≡ Some t) where
       ok : StepOk n t
       ok = numbered_ok n L a.valid k t named
 

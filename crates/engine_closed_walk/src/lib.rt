@@ -20,7 +20,7 @@ use decide_written_walks::{copy_numbers, write_head};
 use engine_packed_steps::layout::row_at;
 use engine_packed_steps::{LIGHT, from_in, number_in, read_step};
 use lines::limits::LINE_SIZE;
-use steps::{NamedStep, step_numbered};
+use steps::step_numbered;
 
 // Numbers of a row stay above this.
 pub const LOWEST_MARK: i64 = -1_000_000_000_000_000;
@@ -39,10 +39,8 @@ pub fn fill(work: &mut [i64], from: usize, end: usize, value: i64)
     requires { (from ≤ end) × (end ≤ length work.old) }
     ensures { Filled from end value end work.old work.new }
 {
-    let mut i = from;
-    while i < end {
+    for i in from..end {
         work[i] = value;
-        i += 1;
     }
 }
 
@@ -73,12 +71,10 @@ pub fn mark_pass(work: &mut [i64], count: usize, row: usize, size: usize, most: 
     ensures { Passed row size work.old work.new result }
 {
     let mut last = size;
-    let mut i = 0;
-    while i < count {
+    for i in 0..count {
         if work[i] < most {
             last = mark_at_step(work, i, row, size, last);
         }
-        i += 1;
     }
     last
 }
@@ -89,9 +85,7 @@ pub fn mark_pass_back(work: &mut [i64], count: usize, row: usize, size: usize, m
     ensures { Passed row size work.old work.new result }
 {
     let mut last = size;
-    let mut i = count;
-    while 0 < i {
-        i -= 1;
+    for i in (0..count).rev() {
         if work[i] < most {
             last = mark_at_step(work, i, row, size, last);
         }
@@ -122,8 +116,7 @@ pub fn is_potential(work: &[i64], count: usize, row: usize, size: usize) -> bool
     requires { PotentialReady count row size work.now }
     ensures { result ≡ true → no_negative (steps_in count work.now) size ≡ true }
 {
-    let mut i = 0;
-    while i < count {
+    for i in 0..count {
         let step = read_step(work, i);
         let from = step.from;
         let to = step.to;
@@ -132,7 +125,6 @@ pub fn is_potential(work: &[i64], count: usize, row: usize, size: usize) -> bool
         if sum < entry {
             return false;
         }
-        i += 1;
     }
     true
 }
@@ -143,8 +135,7 @@ fn far_back(work: &[i64], marks: usize, size: usize, p: usize) -> usize
     ensures { result ≤ size }
 {
     let mut at = p;
-    let mut k = 0;
-    while k < size {
+    for k in 0..size {
         let mark = work[marks + at];
         if mark < 0 {
             return size;
@@ -153,7 +144,6 @@ fn far_back(work: &[i64], marks: usize, size: usize, p: usize) -> usize
         if size <= at {
             return size;
         }
-        k += 1;
     }
     at
 }
@@ -170,7 +160,7 @@ fn number_back(list: &[i32], n: usize, work: &[i64], marks: usize, at: usize) ->
         return count;
     }
     let number = number_in(mark);
-    if let NamedStep::Found(t) = step_numbered(list, number) {
+    if let Some(t) = step_numbered(list, number) {
         if t.to == at {
             return number;
         }
@@ -193,22 +183,16 @@ pub fn follow_back(
 {
     let marks = row_at(n) + 2 * n;
     let lowest = end - 2 * n;
-    let mut slot = end;
     let mut at = v;
     let mut sum: i64 = 0;
-    while lowest < slot {
+    for slot in (lowest..end).rev() {
         let number = number_back(list, n, work, marks, at);
-        match step_numbered(list, number) {
-            NamedStep::Nothing => {
-                return Followed { start: end, sum: 0 };
-            }
-            NamedStep::Found(t) => {
-                slot -= 1;
-                work[slot] = number as i64;
-                sum += t.weight;
-                at = t.from;
-            }
-        }
+        let Some(t) = step_numbered(list, number) else {
+            return Followed { start: end, sum: 0 };
+        };
+        work[slot] = number as i64;
+        sum += t.weight;
+        at = t.from;
         if at == u {
             return Followed { start: slot, sum };
         }
@@ -255,8 +239,7 @@ fn refuted_by_passes(
 {
     let size = 2 * n;
     let row = row_at(n);
-    let mut turn = 0;
-    while turn <= size {
+    for turn in 0..=size {
         let p = mark_turn(work, count, row, size, turn, most);
         if size <= p {
             return false;
@@ -264,7 +247,6 @@ fn refuted_by_passes(
         if refuted_from(list, n, p, refutation, work) {
             return true;
         }
-        turn += 1;
     }
     false
 }

@@ -32,12 +32,10 @@ fn eliminate(work: &mut [i64], count: usize, pot: usize, size: usize, v: usize)
     let f = k + 2;
     through(work, count, pot, size, k, o, f);
     through(work, count, pot, size, o, k, f);
-    let mut i = f;
-    while i < size {
+    for i in f..size {
         let from = i - i % 2;
         through(work, count, pot, size, i, k, from);
         through(work, count, pot, size, i, o, from);
-        i += 1;
     }
 }
 
@@ -47,9 +45,7 @@ pub fn eliminate_all(work: &mut [i64], count: usize, pot: usize, size: usize, fi
     ensures { Kept count pot size work.old work.new }
 {
     let n = size / 2;
-    let mut v = first;
-    while v < n {
+    for v in first..n {
         eliminate(work, count, pot, size, v);
-        v += 1;
     }
 }

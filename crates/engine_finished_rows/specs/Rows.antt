@@ -1,5 +1,5 @@
 -- The rows of distances: the numbers of a row one after another, and the rows one behind the other.
-use Rattle.std.specs.Prelude.{◌≡◌, List, ◌++◌, ℕ, zero, suc, ◌+◌, ◌*◌, ◌%◌, ◌≤◌, ◌<◌, ℤ, pos, length, set, take, drop}
+use Rattle.std.specs.Prelude.{◌≡◌, refl, List, ◌++◌, ℕ, zero, suc, ◌+◌, ◌*◌, ◌%◌, ◌≤◌, ◌<◌, ℤ, pos, length, set, take, drop}
 use Rattle.std.proofs.Common.{sym, ap, ap₂, ◌∙◌, mul-le-mul_right, arith, length-drop, get_or-set_same, get_or-set_other, get_or-take, get_or-drop, length-take-le, take-add, drop-drop, ext_get_or}
 use Rattle.std.proofs.Math.Decide.{ℕ_discrete}
 use Rattle.integers.specs.Sequence.{length_tabulate, get_d_tabulate}
@@ -127,9 +127,8 @@ module _ {count n at pot place v : ℕ} {w₀ : List ℤ} (r : RowReady count n 
   row_end w u p h = record { at_most = omega arith; scratch = p.scratch; done = λ k l. p.done k (omega (arith, h, l)) }
 
 -- ---- the rows of the points 0 to v - 1
-pub record RowsTo (count n at : ℕ) (w w' : List ℤ) (v place : ℕ) : Type 0 where
+pub record RowsTo (count n at : ℕ) (w w' : List ℤ) (v : ℕ) : Type 0 where
   pub at_most : v ≤ 2 * n
-  pub place_is : place ≡ table_start (2 * n) + v * (2 * n)
   pub scratch : Scratch (table_start (2 * n)) (table_start (2 * n) + 2 * n * (2 * n)) w w'
   pub done : (k u : ℕ) → k < v → u < 2 * n → number w' (table_start (2 * n) + k * (2 * n) + u) ≡ distance_at count n at w k u
 
@@ -162,27 +161,29 @@ rows_table E m start w room f (suc k) h =
     row = ext_get_or (pos 0) _ (best_row E m k) (long ∙ sym (length_tabulate m (λ j. stored (best E m j k)))) (λ u l. one u (omega (arith, l, long)))
 
 module _ {count n at pot : ℕ} {w₀ : List ℤ} (r : RowsReady count n at pot w₀) where
-  pub rows_start : RowsTo count n at w₀ w₀ 0 (table_start (2 * n))
-  rows_start = record { at_most = omega arith; place_is = omega arith; scratch = scratch_none _ _ w₀; done = λ k u h. absurd (omega arith) }
+  pub rows_start : RowsTo count n at w₀ w₀ 0
+  rows_start = record { at_most = omega arith; scratch = scratch_none _ _ w₀; done = λ k u h. absurd (omega arith) }
 
-  module _ (w : List ℤ) (v place : ℕ) (p : RowsTo count n at w₀ w v place) where
+  module _ (w : List ℤ) (v : ℕ) (p : RowsTo count n at w₀ w v) where
+    abbrev place : ℕ
+    place = table_start (2 * n) + v * (2 * n)
+
     module _ (h : v < 2 * n) where
       pub row_ready : RowReady count n at pot place v w
-      row_ready = record { rows = rows_kept r p.scratch; low = h; place_is = p.place_is; in_table = omega (arith, p.place_is, mul-le-mul_right (2 * n) h) }
+      row_ready = record { rows = rows_kept r p.scratch; low = h; place_is = refl; in_table = omega (arith, mul-le-mul_right (2 * n) h) }
 
-      pub rows_more : (w' : List ℤ) → RowWritten count n at place v w w' → RowsTo count n at w₀ w' (v + 1) (place + 2 * n)
+      pub rows_more : (w' : List ℤ) → RowWritten count n at place v w w' → RowsTo count n at w₀ w' (v + 1)
       rows_more w' q = record {
         at_most = omega (arith, h);
-        place_is = omega (arith, p.place_is);
-        scratch = scratch_trans p.scratch (scratch_wider (omega (arith, p.place_is)) row_ready.in_table q.scratch);
+        scratch = scratch_trans p.scratch (scratch_wider (omega arith) row_ready.in_table q.scratch);
         done = λ k u l m. each k u l m (ℕ_discrete k v);
       }
         where
           each : (k u : ℕ) → k < v + 1 → u < 2 * n → Dec (k ≡ v) → number w' (table_start (2 * n) + k * (2 * n) + u) ≡ distance_at count n at w₀ k u
-          each k u l m (yes e) = rw (e, sym p.place_is) (q.done u m ∙ distance_kept r p.scratch v u h m)
+          each k u l m (yes e) = rw e (q.done u m ∙ distance_kept r p.scratch v u h m)
           each k u l m (no d) =
               let lt : k < v = omega (arith, l, d) in
-              scratch_at q.scratch (table_start (2 * n) + k * (2 * n) + u) (omega (arith, p.place_is, m, mul-le-mul_right (2 * n) lt)) ∙ p.done k u lt m
+              scratch_at q.scratch (table_start (2 * n) + k * (2 * n) + u) (omega (arith, m, mul-le-mul_right (2 * n) lt)) ∙ p.done k u lt m
 
     pub rows_end : 2 * n ≤ v → RowsWritten count n at w₀ w
     rows_end h = record {

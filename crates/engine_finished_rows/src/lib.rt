@@ -42,14 +42,13 @@ fn write_row(
     let i = renamed_point(work, n, at, opposite_of(v));
     let own = work[pot + i];
     let row = pot + 2 * size + i * (size + SPARE);
-    let mut u = 0;
-    while u < size {
+    for x in 0..n {
+        let u = 2 * x;
         let j = renamed_point(work, n, at, u);
         let first = turned_back(work, pot, row, own, j + 1);
         let second = turned_back(work, pot, row, own, j);
         work[place + u] = first;
         work[place + u + 1] = second;
-        u += 2;
     }
 }
 
@@ -59,11 +58,8 @@ pub fn write_rows(work: &mut [i64], count: usize, n: usize, at: usize, pot: usiz
     ensures { RowsWritten count n at work.old work.new }
 {
     let size = 2 * n;
-    let mut v = 0;
-    let mut place = (size + 1) * size;
-    while v < size {
-        write_row(work, count, n, at, pot, place, v);
-        v += 1;
-        place += size;
+    let start = (size + 1) * size;
+    for v in 0..size {
+        write_row(work, count, n, at, pot, start + v * size, v);
     }
 }

@@ -38,13 +38,11 @@ fn pass_all(work: &mut [i64], count: usize, row: usize, size: usize)
     requires { PassReady count row size work.old }
     ensures { Passed row size work.old work.new size }
 {
-    let mut turn = 0;
-    while turn <= size {
+    for turn in 0..=size {
         let last = mark_turn(work, count, row, size, turn, ALL);
         if size <= last {
             return;
         }
-        turn += 1;
     }
 }
 

@@ -1,6 +1,6 @@
 -- Cells in the work area, one for each pair of points, in which the lightest step of a list between the two is found: each step in turn is put there
 -- if its number is less than the one that stands there.
-use Rattle.std.specs.Prelude.{◌≡◌, refl, ◌⊎◌, List, [], ◌∷◌, ◌++◌, ℕ, ◌+◌, ◌*◌, ◌≤◌, ◌<◌, ℤ, pos, nat_abs, ◌-ℤ◌, length, set}
+use Rattle.std.specs.Prelude.{◌≡◌, refl, ◌⊎◌, List, [], ◌∷◌, ◌++◌, ℕ, ◌+◌, ◌*◌, ◌≤◌, ◌<◌, ℤ, pos, nat_abs, ◌-ℤ◌, length, set, None, Option, Some}
 use Rattle.std.proofs.Common.{sym, ap, subst, ◌∙◌, inl, inr, ⊎_elim, append-nil, mul-le-mul_right, arith, get_or-set_same, get_or-set_other}
 use Rattle.std.proofs.Math.Decide.{ℕ_discrete, dec_lt}
 use Rattle.integers.specs.Integer.{◌⩽◌, ◌⋖◌}
@@ -9,8 +9,6 @@ use Rattle.lines.specs.Limits.{max_variables, work_lines}
 use Rattle.lines.specs.Line.{number, line_count}
 use Rattle.lines.specs.Valid.{LinesOk}
 use Rattle.steps.specs.declared.Step.{Step}
-use Rattle.steps.specs.declared.NamedStep.{NamedStep}
-use Rattle.steps.specs.declared.NamedStep.TheVariants.{Found, Nothing}
 use Rattle.steps.specs.Step.{max_weight, step_numbered_lem, named}
 use Rattle.theory_walks.specs.Distance.{le_refl}
 use Rattle.theory_walks.specs.Graph.{in_left, in_right}
@@ -137,9 +135,9 @@ pub record Placed (n start : ℕ) (s : Step) (w w' : List ℤ) : Type 0 where
   pub step : step_of_number z ≡ s
   pub lowered : Lowered (start + cell_of (2 * n) s) z w w'
 
-abbrev pub Put : ℕ → ℕ → NamedStep → List ℤ → List ℤ → Type 0
-Put n start Nothing w w' = w' ≡ w
-Put n start (Found s) w w' = Placed n start s w w'
+abbrev pub Put : ℕ → ℕ → Option Step → List ℤ → List ℤ → Type 0
+Put n start None w w' = w' ≡ w
+Put n start (Some s) w w' = Placed n start s w w'
 
 pub packed_ok : (n k : ℕ) (s : Step) (z : ℤ) → WrittenOk n s → Packs s.from s.to s.weight k z → StepOk (2 * n) z
 packed_ok n k s z o p = record {
@@ -149,11 +147,11 @@ packed_ok n k s z o p = record {
   light = rw (ap (λ (t : Step). t.weight) p.step) o.small;
 }
 
-pub put_found : (n k start : ℕ) (t : NamedStep) (s : Step) → t ≡ Found s → (w w' : List ℤ) (z : ℤ) → WrittenOk n s → Packs s.from s.to s.weight k z → Lowered (start + cell_of (2 * n) s) z w w' → Put n start t w w'
-put_found n k start t s e w w' z o p l = subst (λ (x : NamedStep). Put n start x w w') (sym e) (record { z = z; ok = packed_ok n k s z o p; step = p.step; lowered = l })
+pub put_found : (n k start : ℕ) (t : Option Step) (s : Step) → t ≡ Some s → (w w' : List ℤ) (z : ℤ) → WrittenOk n s → Packs s.from s.to s.weight k z → Lowered (start + cell_of (2 * n) s) z w w' → Put n start t w w'
+put_found n k start t s e w w' z o p l = subst (λ (x : Option Step). Put n start x w w') (sym e) (record { z = z; ok = packed_ok n k s z o p; step = p.step; lowered = l })
 
-pub put_nothing : (n start : ℕ) (t : NamedStep) → t ≡ Nothing → (w : List ℤ) → Put n start t w w
-put_nothing n start t e w = subst (λ (x : NamedStep). Put n start x w w) (sym e) refl
+pub put_nothing : (n start : ℕ) (t : Option Step) → t ≡ None → (w : List ℤ) → Put n start t w w
+put_nothing n start t e w = subst (λ (x : Option Step). Put n start x w w) (sym e) refl
 
 -- ---- the lightest steps in their cells
 -- z is the number of a step of E, in its cell
@@ -218,7 +216,7 @@ module _ {n start k : ℕ} {L w₀ w : List ℤ} (p : StepsPut n start L w₀ w 
   abbrev E : List Step
   E = steps_before L k
 
-  put_none : step_numbered_lem L k ≡ Nothing → StepsPut n start L w₀ w (k + 1)
+  put_none : step_numbered_lem L k ≡ None → StepsPut n start L w₀ w (k + 1)
   put_none e = record {
     at_most = omega arith;
     scratch = p.scratch;
@@ -227,9 +225,9 @@ module _ {n start k : ℕ} {L w₀ w : List ℤ} (p : StepsPut n start L w₀ w 
   }
     where
       same : steps_before L (k + 1) ≡ E
-      same = before_more L k ∙ ap (λ (x : NamedStep). E ++ named x) e ∙ append-nil E
+      same = before_more L k ∙ ap (λ (x : Option Step). E ++ named x) e ∙ append-nil E
 
-  module _ (s : Step) (e : step_numbered_lem L k ≡ Found s) (w' : List ℤ) (q : Placed n start s w w') where
+  module _ (s : Step) (e : step_numbered_lem L k ≡ Some s) (w' : List ℤ) (q : Placed n start s w w') where
     abbrev m : ℕ
     m = 2 * n
 
@@ -237,7 +235,7 @@ module _ {n start k : ℕ} {L w₀ w : List ℤ} (p : StepsPut n start L w₀ w 
     place = start + cell_of m s
 
     more : steps_before L (k + 1) ≡ E ++ s ∷ []
-    more = before_more L k ∙ ap (λ (x : NamedStep). E ++ named x) e
+    more = before_more L k ∙ ap (λ (x : Option Step). E ++ named x) e
 
     ok : WrittenOk n s
     ok = numbered_ok n L valid k s e
@@ -290,6 +288,6 @@ module _ {n start k : ℕ} {L w₀ w : List ℤ} (p : StepsPut n start L w₀ w 
   pub puts_more : (w' : List ℤ) → Put n start (step_numbered_lem L k) w w' → StepsPut n start L w₀ w' (k + 1)
   puts_more w' q = go (step_numbered_lem L k) refl q
     where
-      go : (t : NamedStep) → step_numbered_lem L k ≡ t → Put n start t w w' → StepsPut n start L w₀ w' (k + 1)
-      go Nothing e f = rw f (put_none e)
-      go (Found s) e f = put_one s e w' f
+      go : (t : Option Step) → step_numbered_lem L k ≡ t → Put n start t w w' → StepsPut n start L w₀ w' (k + 1)
+      go None e f = rw f (put_none e)
+      go (Some s) e f = put_one s e w' f

@@ -13,7 +13,7 @@ ghost use Rattle.engine_merged_steps.specs.Keep.{KeepReady, Keeping};
 
 use engine_packed_steps::{packed, write_steps};
 use lines::limits::LINE_SIZE;
-use steps::{NamedStep, step_numbered};
+use steps::step_numbered;
 
 // Stands in a cell for no step.
 const NO_STEP: i64 = 9_000_000_000_000_000_000;
@@ -23,10 +23,8 @@ fn clear_cells(work: &mut [i64], start: usize, cells: usize)
     requires { start + cells ≤ length work.old }
     ensures { Cleared start cells work.old work.new cells }
 {
-    let mut c = 0;
-    while c < cells {
+    for c in 0..cells {
         work[start + c] = NO_STEP;
-        c += 1;
     }
 }
 
@@ -46,7 +44,7 @@ fn put_step(list: &[i32], n: usize, work: &mut [i64], start: usize, number: usiz
     ensures { Put n start (step_numbered_lem list.now number) work.old work.new }
 {
     let named = step_numbered(list, number);
-    if let NamedStep::Found(t) = named {
+    if let Some(t) = named {
         let cell = t.from * (2 * n) + t.to;
         lower_cell(work, start + cell, packed(t.from, t.to, t.weight, number));
     }
@@ -58,10 +56,8 @@ fn put_steps(list: &[i32], n: usize, work: &mut [i64], start: usize)
     ensures { StepsPut n start list.now work.old work.new (2 * line_count list.now) }
 {
     let count = 2 * (list.len() / LINE_SIZE);
-    let mut number = 0;
-    while number < count {
+    for number in 0..count {
         put_step(list, n, work, start, number);
-        number += 1;
     }
 }
 
@@ -71,14 +67,12 @@ fn keep_steps(work: &mut [i64], start: usize, cells: usize) -> usize
     ensures { Keeping start cells work.old work.new cells result }
 {
     let mut kept = 0;
-    let mut c = 0;
-    while c < cells {
+    for c in 0..cells {
         let z = work[start + c];
         work[kept] = z;
         if z < NO_STEP {
             kept += 1;
         }
-        c += 1;
     }
     kept
 }

@@ -1,5 +1,5 @@
 -- The steps of a list, written one number after another to the front of the work area.
-use Rattle.std.specs.Prelude.{◌≡◌, refl, List, [], ◌∷◌, ◌++◌, ℕ, ◌+◌, ◌*◌, ◌≤◌, ◌<◌, ℤ, nat_abs, length, set}
+use Rattle.std.specs.Prelude.{◌≡◌, refl, List, [], ◌∷◌, ◌++◌, ℕ, ◌+◌, ◌*◌, ◌≤◌, ◌<◌, ℤ, nat_abs, length, set, None, Option, Some}
 use Rattle.std.proofs.Common.{sym, ap, subst, ◌∙◌, append-nil, arith}
 use Rattle.std.proofs.Math.Decide.{dec_lt}
 use Rattle.lines.specs.Limits.{max_variables, work_lines}
@@ -7,8 +7,6 @@ use Rattle.lines.specs.Line.{line_count, lines_of}
 use Rattle.lines.specs.Valid.{LinesOk}
 use Rattle.lines.specs.Line.{number}
 use Rattle.steps.specs.declared.Step.{Step}
-use Rattle.steps.specs.declared.NamedStep.{NamedStep}
-use Rattle.steps.specs.declared.NamedStep.TheVariants.{Found, Nothing}
 use Rattle.steps.specs.Step.{step_numbered_lem, steps_of, named}
 use Rattle.decide_rows.specs.Numbers.{StepOk as WrittenOk, steps_before, before_zero, before_more, before_all}
 use Rattle.engine_packed_steps.specs.Packed.{Packs, unpacked}
@@ -24,12 +22,12 @@ pub record NumberReady (n : ℕ) (L work : List ℤ) (k kept : ℕ) : Type 0 whe
   pub room : kept < length work
 
 -- what a number names is written behind `kept` others: it is nothing, or one step
-abbrev pub Put : ℕ → NamedStep → ℕ → List ℤ → List ℤ → ℕ → Type 0
-Put n Nothing kept work work' r = (work' ≡ work) × (r ≡ kept)
-Put n (Found s) kept work work' r = (z : ℤ) × StepOk (2 * n) z × (unpacked (nat_abs z) ≡ s) × (work' ≡ set work kept z) × (r ≡ kept + 1)
+abbrev pub Put : ℕ → Option Step → ℕ → List ℤ → List ℤ → ℕ → Type 0
+Put n None kept work work' r = (work' ≡ work) × (r ≡ kept)
+Put n (Some s) kept work work' r = (z : ℤ) × StepOk (2 * n) z × (unpacked (nat_abs z) ≡ s) × (work' ≡ set work kept z) × (r ≡ kept + 1)
 
 -- a step that was found is packed
-pub found_put : (n k kept : ℕ) (s : Step) (work : List ℤ) (z : ℤ) → WrittenOk n s → Packs s.from s.to s.weight k z → Put n (Found s) kept work (set work kept z) (kept + 1)
+pub found_put : (n k kept : ℕ) (s : Step) (work : List ℤ) (z : ℤ) → WrittenOk n s → Packs s.from s.to s.weight k z → Put n (Some s) kept work (set work kept z) (kept + 1)
 found_put n k kept s work z o p = (z, record { low = p.low; from_lt = rw (ap from_of p.step) o.from_lt; to_lt = rw (ap to_of p.step) o.to_lt; light = rw (ap weight_of p.step) o.small }, p.step, refl, refl)
   where
     from_of : Step → ℕ
@@ -42,11 +40,11 @@ found_put n k kept s work z o p = (z, record { low = p.low; from_lt = rw (ap fro
     weight_of s = s.weight
 
 -- by what a number was found to name
-pub put_found : (n k kept : ℕ) (t : NamedStep) (s : Step) → t ≡ Found s → (work : List ℤ) (z : ℤ) → WrittenOk n s → Packs s.from s.to s.weight k z → Put n t kept work (set work kept z) (kept + 1)
-put_found n k kept t s e work z o p = subst (λ (x : NamedStep). Put n x kept work (set work kept z) (kept + 1)) (sym e) (found_put n k kept s work z o p)
+pub put_found : (n k kept : ℕ) (t : Option Step) (s : Step) → t ≡ Some s → (work : List ℤ) (z : ℤ) → WrittenOk n s → Packs s.from s.to s.weight k z → Put n t kept work (set work kept z) (kept + 1)
+put_found n k kept t s e work z o p = subst (λ (x : Option Step). Put n x kept work (set work kept z) (kept + 1)) (sym e) (found_put n k kept s work z o p)
 
-pub put_nothing : (n : ℕ) (t : NamedStep) → t ≡ Nothing → (kept : ℕ) (work : List ℤ) → Put n t kept work work kept
-put_nothing n t e kept work = subst (λ (x : NamedStep). Put n x kept work work kept) (sym e) (refl, refl)
+pub put_nothing : (n : ℕ) (t : Option Step) → t ≡ None → (kept : ℕ) (work : List ℤ) → Put n t kept work work kept
+put_nothing n t e kept work = subst (λ (x : Option Step). Put n x kept work work kept) (sym e) (refl, refl)
 
 pub record WriteReady (n : ℕ) (L work : List ℤ) : Type 0 where
   pub few : n ≤ max_variables
@@ -83,21 +81,21 @@ module _ (n : ℕ) (L w₀ : List ℤ) (room : 2 * line_count L ≤ length w₀)
     pub writing_more : k < 2 * line_count L → (work' : List ℤ) (r : ℕ) → Put n (step_numbered_lem L k) kept work work' r → Writing n L w₀ work' (k + 1) r
     writing_more h work' r q = go (step_numbered_lem L k) refl q
       where
-        go : (s : NamedStep) → step_numbered_lem L k ≡ s → Put n s kept work work' r → Writing n L w₀ work' (k + 1) r
-        go Nothing e (f, g) = record {
+        go : (s : Option Step) → step_numbered_lem L k ≡ s → Put n s kept work work' r → Writing n L w₀ work' (k + 1) r
+        go None e (f, g) = record {
           at_most = omega (arith, h);
           no_more = omega (arith, p.no_more, g);
           scratch = rw f p.scratch;
           ok = rw (f, g) p.ok;
-          are = rw (f, g) (p.are ∙ sym (append-nil (steps_before L k)) ∙ sym (before_more L k ∙ ap (λ (x : NamedStep). steps_before L k ++ named x) e));
+          are = rw (f, g) (p.are ∙ sym (append-nil (steps_before L k)) ∙ sym (before_more L k ∙ ap (λ (x : Option Step). steps_before L k ++ named x) e));
         }
-        go (Found s) e (z, o, u, f, g) = record {
+        go (Some s) e (z, o, u, f, g) = record {
           at_most = omega (arith, h);
           no_more = omega (arith, p.no_more, g);
           scratch = rw f (scratch_trans p.scratch (scratch_set 0 (2 * line_count L) work kept z (omega arith) (omega (arith, p.no_more, h))));
           ok = rw (f, g) (λ i l. each i l (dec_lt i kept));
           are = rw (f, g) (steps_more kept work z in_room ∙ ap (λ (F : List Step). F ++ unpacked (nat_abs z) ∷ []) p.are
-              ∙ ap (λ (t : Step). steps_before L k ++ t ∷ []) u ∙ sym (before_more L k ∙ ap (λ (x : NamedStep). steps_before L k ++ named x) e));
+              ∙ ap (λ (t : Step). steps_before L k ++ t ∷ []) u ∙ sym (before_more L k ∙ ap (λ (x : Option Step). steps_before L k ++ named x) e));
         }
           where
             in_room : kept < length work

@@ -13,7 +13,7 @@ ghost use Rattle.engine_packed_steps.specs.Steps.{step_in_lem, ReadReady};
 ghost use Rattle.engine_packed_steps.specs.Written.{NumberReady, Put, WriteReady, Written};
 
 use lines::limits::{LINE_SIZE, MAX_LINES, MAX_VARIABLES, WORK_CONSTANT};
-use steps::{NamedStep, Step, step_numbered};
+use steps::{Step, step_numbered};
 
 // A point, and a step's number in a list, are below these. Of numbers there may be two more than in a list of the most
 // lines; with twice as many this stays a power of two, by which division is a shift.
@@ -87,7 +87,7 @@ fn write_numbered(list: &[i32], n: usize, work: &mut [i64], number: usize, kept:
     ensures { Put n (step_numbered_lem list.now number) kept work.old work.new result }
 {
     let named = step_numbered(list, number);
-    if let NamedStep::Found(t) = named {
+    if let Some(t) = named {
         work[kept] = packed(t.from, t.to, t.weight, number);
         return kept + 1;
     }
@@ -100,11 +100,9 @@ pub fn write_steps(list: &[i32], n: usize, work: &mut [i64]) -> usize
     ensures { Written n list.now work.old work.new result }
 {
     let count = 2 * (list.len() / LINE_SIZE);
-    let mut number = 0;
     let mut kept = 0;
-    while number < count {
+    for number in 0..count {
         kept = write_numbered(list, n, work, number, kept);
-        number += 1;
     }
     kept
 }

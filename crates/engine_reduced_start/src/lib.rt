@@ -8,7 +8,7 @@ ghost use Rattle.engine_reduced_start.specs.Start.{max_read, PointsReady, Pointe
 ghost use Rattle.engine_packed_steps.specs.Layout.{row_width};
 ghost use Rattle.engine_reduced_table.specs.Reduced.{table_end, Reduced, Kept};
 
-use engine_reduced_table::{FAR, ReducedStep, SPARE, lower_entry, reduced_step};
+use engine_reduced_table::{FAR, SPARE, lower_entry, reduced_step};
 
 // A potential that is larger is not used.
 const LARGE: i64 = 5_000_000_000_000;
@@ -59,16 +59,15 @@ pub fn write_points(
     ensures { Pointed pot size work.old work.new size }
 {
     let half = size / 2;
-    let mut k = 0;
-    while k < size {
-        let x = variable_at(work, order, half, k / 2);
+    for place in 0..half {
+        let x = variable_at(work, order, half, place);
         let at = row + 2 * x;
         let own = not_large(work[at]);
         let other = not_large(work[at + 1]);
         let number = own - other;
+        let k = 2 * place;
         work[pot + k] = number;
         work[pot + k + 1] = 0 - number;
-        k += 2;
     }
 }
 
@@ -79,10 +78,8 @@ pub fn fill_far(work: &mut [i64], pot: usize, size: usize)
 {
     let start = pot + 2 * size;
     let cells = size * (size + SPARE);
-    let mut k = 0;
-    while k < cells {
+    for k in 0..cells {
         work[start + k] = FAR;
-        k += 1;
     }
 }
 
@@ -91,7 +88,7 @@ fn put_step(work: &mut [i64], count: usize, pot: usize, size: usize, i: usize)
     requires { Reduced count pot size work.old × (i < count) }
     ensures { Kept count pot size work.old work.new }
 {
-    if let ReducedStep::Entry(s) = reduced_step(work, count, pot, size, i) {
+    if let Some(s) = reduced_step(work, count, pot, size, i) {
         lower_entry(work, count, pot, size, s.from, s.to, s.weight);
     }
 }
@@ -101,10 +98,8 @@ fn put_steps(work: &mut [i64], count: usize, pot: usize, size: usize)
     requires { Reduced count pot size work.old }
     ensures { Kept count pot size work.old work.new }
 {
-    let mut i = 0;
-    while i < count {
+    for i in 0..count {
         put_step(work, count, pot, size, i);
-        i += 1;
     }
 }
 
@@ -113,10 +108,8 @@ fn put_diagonal(work: &mut [i64], count: usize, pot: usize, size: usize)
     requires { Reduced count pot size work.old }
     ensures { Kept count pot size work.old work.new }
 {
-    let mut t = 0;
-    while t < size {
+    for t in 0..size {
         lower_entry(work, count, pot, size, t, t, 0);
-        t += 1;
     }
 }
 

@@ -1,5 +1,5 @@
 -- A step of the front with its reduced weight: twice its own, and the number of its start less that of its end.
-use Rattle.std.specs.Prelude.{◌≡◌, List, ℕ, ◌+◌, ◌<◌, ℤ, pos, ◌+ℤ◌, ◌-ℤ◌}
+use Rattle.std.specs.Prelude.{◌≡◌, List, ℕ, ◌+◌, ◌<◌, ℤ, pos, ◌+ℤ◌, ◌-ℤ◌, None, Option, Some}
 use Rattle.std.proofs.Common.{sym, subst, arith, SFits}
 use Rattle.std.specs.Int.{w64}
 use Rattle.integers.specs.Integer.{◌⩽◌, ◌⋖◌, Within}
@@ -9,8 +9,6 @@ use Rattle.steps.specs.declared.Step.{Step}
 use Rattle.steps.specs.Step.{max_weight}
 use Rattle.theory_walks.specs.Row.{In}
 use Rattle.engine_packed_steps.specs.Steps.{step_in_lem, steps_in, ReadReady, read_ready, step_in}
-use Rattle.engine_reduced_table.specs.declared.ReducedStep.{ReducedStep}
-use Rattle.engine_reduced_table.specs.declared.ReducedStep.TheVariants.{Entry, NoEntry}
 use Rattle.engine_reduced_table.specs.Reduced.{far, max_potential, Reduced, LowerReady, asked, entry_step}
 
 abbrev pub reduced_weight : ℕ → List ℤ → Step → ℤ
@@ -22,19 +20,19 @@ pub record OnReduced (count pot size : ℕ) (w : List ℤ) (i : ℕ) (s : Step) 
   pub ready : LowerReady count pot size s.from s.to s.weight w
 
 -- nothing is said of a step whose reduced weight is no entry
-unfoldable pub ReducedIf : ℕ → ℕ → ℕ → List ℤ → ℕ → ReducedStep → Type 0
-ReducedIf count pot size w i (Entry s) = OnReduced count pot size w i s
-ReducedIf count pot size w i NoEntry = Unit {0}
+unfoldable pub ReducedIf : ℕ → ℕ → ℕ → List ℤ → ℕ → Option Step → Type 0
+ReducedIf count pot size w i (Some s) = OnReduced count pot size w i s
+ReducedIf count pot size w i None = Unit {0}
 
-pub reduced_none : (count pot size : ℕ) (w : List ℤ) (i : ℕ) → ReducedIf count pot size w i NoEntry
+pub reduced_none : (count pot size : ℕ) (w : List ℤ) (i : ℕ) → ReducedIf count pot size w i None
 unfolding ReducedIf
 reduced_none count pot size w i = tt
 
-pub reduced_entry : {count pot size i : ℕ} {w : List ℤ} {s : Step} → OnReduced count pot size w i s → ReducedIf count pot size w i (Entry s)
+pub reduced_entry : {count pot size i : ℕ} {w : List ℤ} {s : Step} → OnReduced count pot size w i s → ReducedIf count pot size w i (Some s)
 unfolding ReducedIf
 reduced_entry o = o
 
-pub reduced_found : {count pot size i : ℕ} {w : List ℤ} {r : ReducedStep} {s : Step} → ReducedIf count pot size w i r → r ≡ Entry s → OnReduced count pot size w i s
+pub reduced_found : {count pot size i : ℕ} {w : List ℤ} {r : Option Step} {s : Step} → ReducedIf count pot size w i r → r ≡ Some s → OnReduced count pot size w i s
 unfolding ReducedIf
 reduced_found {count} {pot} {size} {i} {w} f e = subst (ReducedIf count pot size w i) e f
 

@@ -41,13 +41,11 @@ pub fn lower(
 {
     let to = pot + 2 * size + i * (size + SPARE);
     let by = pot + 2 * size + k * (size + SPARE);
-    let mut t = from;
-    while t < size {
+    for t in from..size {
         let sum = work[by + t] + a;
         let old = work[to + t];
         let less = negative_part(sum - old);
         work[to + t] = old + less;
-        t += 1;
     }
 }
 
@@ -80,15 +78,8 @@ pub fn lower_entry(
     }
 }
 
-// A step with its reduced weight in place of its own, where that can be an entry: it is not below 0, and below FAR.
-#[derive(Clone, Copy)]
-pub enum ReducedStep {
-    Entry(Step),
-    NoEntry,
-}
-
 // Step i of those at the front on reduced weights: twice its weight, and the number of its start less that of its end.
-pub fn reduced_step(work: &[i64], count: usize, pot: usize, size: usize, i: usize) -> ReducedStep
+pub fn reduced_step(work: &[i64], count: usize, pot: usize, size: usize, i: usize) -> Option<Step>
     requires { Reduced count pot size work.now × (i < count) }
     ensures { ReducedIf count pot size work.now i result }
 {
@@ -101,14 +92,14 @@ pub fn reduced_step(work: &[i64], count: usize, pot: usize, size: usize, i: usiz
     let z = weight + weight + a - b;
     let negative = z < 0;
     if negative {
-        return ReducedStep::NoEntry;
+        return None;
     }
     if z < FAR {
-        return ReducedStep::Entry(Step {
+        return Some(Step {
             from,
             to,
             weight: z,
         });
     }
-    ReducedStep::NoEntry
+    None
 }

@@ -42,10 +42,8 @@ fn restore_row(work: &mut [i64], count: usize, pot: usize, size: usize, k: usize
     let at = pot + 2 * size + k * (size + SPARE);
     let copy = pot + size;
     copy_row(work, at, copy, size);
-    let mut j = from;
-    while j < size {
+    for j in from..size {
         lower_copied(work, count, pot, size, k, j, from);
-        j += 1;
     }
 }
 
@@ -87,13 +85,11 @@ fn restore(work: &mut [i64], count: usize, pot: usize, size: usize, v: usize)
     let f = k + 2;
     restore_row(work, count, pot, size, k, f);
     restore_row(work, count, pot, size, o, f);
-    let mut j = f;
-    while j < size {
+    for j in f..size {
         lower_own(work, count, pot, size, k, j);
         lower_own(work, count, pot, size, o, j);
         take(work, count, pot, size, j, k);
         take(work, count, pot, size, j, o);
-        j += 1;
     }
 }
 
@@ -102,10 +98,8 @@ fn restore_all(work: &mut [i64], count: usize, pot: usize, size: usize, first: u
     requires { Reduced count pot size work.old }
     ensures { Kept count pot size work.old work.new }
 {
-    let mut left = size / 2;
-    while left > first {
-        left -= 1;
-        restore(work, count, pot, size, left);
+    for v in (first..size / 2).rev() {
+        restore(work, count, pot, size, v);
     }
 }
 

@@ -9,7 +9,6 @@ use Rattle.integers.specs.Laws.{never}
 use Rattle.lines.specs.Limits.{max_variables}
 use Rattle.lines.specs.Line.{number}
 use Rattle.steps.specs.declared.Step.{Step}
-use Rattle.theory_walks.specs.Distance.{none}
 use Rattle.engine_packed_steps.specs.Steps.{step_in_lem, steps_in}
 use Rattle.engine_reduced_table.specs.Reduced.{far, cell, Entry, Asked, NegativePart}
 use Rattle.engine_reduced_table.specs.Weight.{reduced_weight, OnReduced}

@@ -10,7 +10,7 @@ ghost use Rattle.engine_settled_table.specs.Out.{out_of, OutReady};
 ghost use Rattle.engine_reduced_table.specs.Reduced.{Reduced};
 
 use decide_rows::NO_WALK;
-use engine_reduced_table::{FAR, ReducedStep, SPARE, entry_at, negative_part, reduced_step};
+use engine_reduced_table::{FAR, SPARE, entry_at, negative_part, reduced_step};
 use integers::halved;
 
 // Whether row s is nowhere above row u and the weight r.
@@ -29,13 +29,11 @@ fn row_settled(
     let own = pot + 2 * size + s * (size + SPARE);
     let other = pot + 2 * size + u * (size + SPARE);
     let mut sum: i64 = 0;
-    let mut t = 0;
-    while t < size {
+    for t in 0..size {
         let reach = work[other + t] + r;
         let old = work[own + t];
         let less = negative_part(reach - old);
         sum += less;
-        t += 1;
     }
     sum == 0
 }
@@ -45,7 +43,7 @@ fn step_settled(work: &[i64], count: usize, pot: usize, size: usize, i: usize) -
     requires { Reduced count pot size work.now × (i < count) }
     ensures { StepIf count pot size work.now i result }
 {
-    if let ReducedStep::Entry(s) = reduced_step(work, count, pot, size, i) {
+    if let Some(s) = reduced_step(work, count, pot, size, i) {
         return row_settled(work, count, pot, size, s.from, s.to, s.weight);
     }
     false
@@ -56,14 +54,12 @@ fn diagonal_settled(work: &[i64], count: usize, pot: usize, size: usize) -> bool
     requires { Reduced count pot size work.now }
     ensures { DiagonalIf pot size work.now result }
 {
-    let mut t = 0;
-    while t < size {
+    for t in 0..size {
         let own = entry_at(work, count, pot, size, t, t);
         let above = own > 0;
         if above {
             return false;
         }
-        t += 1;
     }
     true
 }
@@ -73,13 +69,11 @@ fn steps_settled(work: &[i64], count: usize, pot: usize, size: usize) -> bool
     requires { Reduced count pot size work.now }
     ensures { StepsIf count pot size work.now result }
 {
-    let mut i = 0;
-    while i < count {
+    for i in 0..count {
         let settled = step_settled(work, count, pot, size, i);
         if !settled {
             return false;
         }
-        i += 1;
     }
     true
 }

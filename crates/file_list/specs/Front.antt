@@ -2,7 +2,8 @@
 --
 -- A record is judged by its own bytes and by whether the file has that many. Since no more lines are taken than there is room for, the record that
 -- comes next always lies in the front, and so does the byte after the end. How many turns reading has does not matter: each file has enough of its own.
-use Rattle.std.specs.Prelude.{◌≡◌, Bool, true, false, cond, List, ltb, get_or, take}
+use Rattle.file_records.specs.declared.FileRefusal.{FileRefusal}
+use Rattle.std.specs.Prelude.{◌≡◌, Bool, true, false, cond, List, ltb, get_or, take, Err, None, Ok, Option, Result, Some}
 use Rattle.std.proofs.Math.Path.{refl, ap}
 use Rattle.std.proofs.Common.{sym, ◌∙◌, arith, ltb-true, ltb-false, lt-ltb, le-ltb, length-take, get_or-take, to_z}
 use Prim.Native.Nat.{ℕ, zero, suc, ◌+◌, ◌*◌, ◌/◌, ◌<◌, ◌≤◌, min}
@@ -12,12 +13,10 @@ use Rattle.integers.specs.Sequence.{tabulate, tabulate_cong}
 use Rattle.lines.specs.Limits.{line_size}
 use Rattle.lines.specs.Line.{line_of, numbers_of}
 use Rattle.little_endian.specs.Bytes.{le32, int32}
-use Rattle.file_records.specs.declared.BodySize.{BodySize}
-use Rattle.file_records.specs.declared.BodySize.TheVariants.{Known, Unknown}
 use Rattle.file_records.specs.declared.Cursor.{Cursor}
 use Rattle.file_records.specs.declared.FileRefusal.TheVariants.{Cut}
 use Rattle.file_records.specs.declared.Next.{Next}
-use Rattle.file_records.specs.declared.Next.TheVariants.{More, End, Refused}
+use Rattle.file_records.specs.declared.Next.TheVariants.{More, End}
 use Rattle.file_records.specs.Table.{header_size, variables_kind, identified_kind, body_size_lem, size_of, record_size_lem, le16, kind_at_lem, record_place, identifier_place}
 use Rattle.file_records.specs.Places.{longest, variables_record, identified_record, end_record, place_first, place_suc, place_most}
 use Rattle.file_records.specs.Scan.{start, taken, sized, next_record_lem, onward, scan_from, whole_file_lem, scan}
@@ -63,11 +62,11 @@ module _ (k : ℕ) (b d : List ℕ) (same : take k b ≡ take k d) where
   word i h = rw (byte i (omega arith), byte (i + 1) (omega arith), byte (i + 2) (omega arith), byte (i + 3) (omega arith))
 
   -- ---- one record
-  same_sized : (room : ℕ) (c : Cursor) → c.at + (header_size + 4 * line_size) ≤ k → (kind : ℕ) (s : BodySize) → ((size : ℕ) → s ≡ Known size → size ≤ 4 * line_size)
+  same_sized : (room : ℕ) (c : Cursor) → c.at + (header_size + 4 * line_size) ≤ k → (kind : ℕ) (s : Option ℕ) → ((size : ℕ) → s ≡ Some size → size ≤ 4 * line_size)
       → sized b room c kind s ≡ sized d room c kind s
   unfolding taken
-  same_sized room c h kind Unknown l = refl
-  same_sized room c h kind (Known size) l =
+  same_sized room c h kind None l = refl
+  same_sized room c h kind (Some size) l =
       let z = l size refl in
       rw (half c.at (omega arith), ends_before (c.at + header_size + size) (omega arith), word (c.at + header_size) (omega arith), word (identifier_place c.at) (omega arith))
 
@@ -79,7 +78,7 @@ module _ (k : ℕ) (b d : List ℕ) (same : take k b ≡ take k d) where
   same_next room c h =
       let kind = kind_at_lem d c.at in
       rw (ends_before (c.at + header_size) (omega arith), same_kind c.at (omega arith))
-      (ap (cond (ltb (length d) (c.at + header_size)) (Refused (Cut c.at)))
+      (ap (cond (ltb (length d) (c.at + header_size)) (Err (Cut c.at)))
       (same_sized room c h kind (body_size_lem kind) (λ size e. omega (arith, ap size_of e, longest kind))))
 
   -- ---- all records
@@ -101,12 +100,12 @@ module _ (k : ℕ) (b d : List ℕ) (same : take k b ≡ take k d) where
         let e = same_next room c (in_front c h) in
         rw e (go (next_record_lem d room c) (rw e at (next_left b room c h)) (next_left d room c g) (same_from i j))
       where
-        go : (m : Next) → Left b room c m → Left d room c m
+        go : (m : Result Next FileRefusal) → Left b room c m → Left d room c m
             → ((e : Cursor) → Reached b room e → Reached d room e → length b < e.at + i → length d < e.at + j → scan_from i b room e ≡ scan_from j d room e)
             → onward (scan_from i b room) m ≡ onward (scan_from j d room) m
-        go (More e) l r f = f e l.0 r.0 (omega (arith, l.1)) (omega (arith, r.1))
-        go (End e) l r f = refl
-        go (Refused x) l r f = refl
+        go (Ok (More e)) l r f = f e l.0 r.0 (omega (arith, l.1)) (omega (arith, r.1))
+        go (Ok (End e)) l r f = refl
+        go (Err x) l r f = refl
 
     same_scan : scan b room ≡ scan d room
     unfolding scan
@@ -114,10 +113,9 @@ module _ (k : ℕ) (b d : List ℕ) (same : take k b ≡ take k d) where
         ap (whole_file_lem b) (same_from (suc (length b)) (suc (length d)) start (start_reached b room) (start_reached d room) (omega arith) (omega arith))
         ∙ go (scan_from (suc (length d)) d room start) (scanned d room)
       where
-        go : (m : Next) → Scanned d room m → whole_file_lem b m ≡ whole_file_lem d m
-        go (More c) s = refl
-        go (End c) s = rw (goes_past c.at (omega (arith, s.size, s.fits, end_record, place_most d c.lines, front_is room)))
-        go (Refused r) s = refl
+        go : (m : Result Cursor FileRefusal) → Scanned d room m → whole_file_lem b m ≡ whole_file_lem d m
+        go (Ok c) s = rw (goes_past c.at (omega (arith, s.size, s.fits, end_record, place_most d c.lines, front_is room)))
+        go (Err r) s = refl
 
     -- ---- the list
     place_in_front : (j : ℕ) → line_size * j ≤ room → record_place b j + (header_size + 4 * line_size) ≤ k
@@ -147,7 +145,6 @@ module _ (k : ℕ) (b d : List ℕ) (same : take k b ≡ take k d) where
     unfolding read_answer
     same_read most = ap (after_scan most b) same_scan ∙ go (scan d room) refl
       where
-        go : (m : Next) → scan d room ≡ m → after_scan most b m ≡ after_scan most d m
-        go (More c) e = refl
-        go (End c) e = rw (same_list c.lines (scan_laid d room c e).fits)
-        go (Refused r) e = refl
+        go : (m : Result Cursor FileRefusal) → scan d room ≡ m → after_scan most b m ≡ after_scan most d m
+        go (Ok c) e = rw (same_list c.lines (scan_laid d room c e).fits)
+        go (Err r) e = refl

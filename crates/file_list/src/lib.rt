@@ -2,7 +2,7 @@
 
 #![tactic(auto)]
 
-ghost use Rattle.std.specs.Prelude.{◌≡◌, ◌++◌, ◌+◌, ◌*◌, ◌<◌, ◌≤◌, length, drop};
+ghost use Rattle.std.specs.Prelude.{◌≡◌, ◌++◌, ◌+◌, ◌*◌, ◌<◌, ◌≤◌, length, drop, Ok};
 ghost use Rattle.lines.specs.Limits.{line_size, max_variables};
 ghost use Rattle.lines.specs.Line.{line_numbers_lem, line_at, line_count, lines_of};
 ghost use Rattle.little_endian.specs.Writing.{bytes16, int32_bytes, put};
@@ -10,16 +10,15 @@ ghost use Rattle.file_records.specs.Table.{header_size, variables_kind, record_s
 ghost use Rattle.file_records.specs.Record.{LineAt};
 ghost use Rattle.file_records.specs.Laid.{Lines};
 ghost use Rattle.file_list.specs.File.{kind_of, line_record, line_records, file_of, lines_end, file_size_lem, line_in, file_list_lem};
-ghost use Rattle.file_records.specs.declared.Next.TheVariants.{End};
 ghost use Rattle.file_list.specs.Read.{list_validity_lem, after_scan, Leaves, ReadDone};
 ghost use Rattle.file_list.specs.Write.{WriteDone};
 
 use file_records::{
     BARE_SIZE, Cursor, END_KIND, FileRefusal, HEADER_SIZE, IDENTIFIED_KIND, LINE_KIND,
-    NUMBER_BYTES, Next, VARIABLES_KIND, kind_at, record_size, scan,
+    NUMBER_BYTES, VARIABLES_KIND, kind_at, record_size, scan,
 };
 use lines::limits::{LINE_SIZE, MAX_LINES, MAX_VARIABLES};
-use lines::{Line, Refusal, Validity, line_at, list_validity};
+use lines::{Line, Refusal, line_at, list_validity};
 use little_endian::{decode_i32, put_i32, put_u16, put_u32};
 
 // The bytes of the record of n, and of the longest of a line.
@@ -36,20 +35,6 @@ pub struct Listed {
     pub lines: usize,
 }
 
-// What reading answers.
-#[derive(Clone, Copy)]
-pub enum ReadAnswer {
-    Read(Listed),
-    Refused(FileRefusal),
-}
-
-// What writing answers: how many bytes were written, or a refusal.
-#[derive(Clone, Copy)]
-pub enum WriteAnswer {
-    Written(usize),
-    Refused(FileRefusal),
-}
-
 // A header: the length of the body and the kind, each in one half.
 fn put_header(out: &mut [u8], at: usize, size: usize, kind: usize)
     requires { (at + header_size ≤ length out.old) × (size < 65536) × (kind < 65536) }
@@ -64,10 +49,8 @@ fn put_numbers(out: &mut [u8], at: usize, numbers: &[i32])
     requires { at + 4 * length numbers.now ≤ length out.old }
     ensures { out.new ≡ put out.old at (int32_bytes numbers.now) }
 {
-    let mut i = 0;
-    while i < numbers.len() {
-        put_i32(out, at + NUMBER_BYTES * i, numbers[i]);
-        i += 1;
+    for (i, number) in numbers.iter().enumerate() {
+        put_i32(out, at + NUMBER_BYTES * i, *number);
     }
 }
 
@@ -106,10 +89,8 @@ fn put_lines(list: &[i32], out: &mut [u8]) -> usize
 {
     let count = list.len() / LINE_SIZE;
     let mut at = VARIABLES_RECORD;
-    let mut k = 0;
-    while k < count {
+    for k in 0..count {
         at = put_line(list, k, out, at);
-        k += 1;
     }
     at
 }
@@ -131,28 +112,23 @@ fn file_size(list: &[i32]) -> usize
 {
     let count = list.len() / LINE_SIZE;
     let mut size = VARIABLES_RECORD;
-    let mut k = 0;
-    while k < count {
+    for k in 0..count {
         size += record_size(line_kind(line_at(list, k)));
-        k += 1;
     }
     size + HEADER_SIZE
 }
 
 // Writes the file of a list for n variables. All refusals come before the first byte, so that each leaves the buffer as it was.
-pub fn write_list(n: usize, list: &[i32], out: &mut [u8]) -> WriteAnswer
+pub fn write_list(n: usize, list: &[i32], out: &mut [u8]) -> Result<usize, FileRefusal>
     ensures { WriteDone n list.now result out.old out.new }
 {
-    let found = list_validity(n, list);
-    if let Validity::Refused(r) = found {
-        return WriteAnswer::Refused(FileRefusal::List(r));
-    }
+    list_validity(n, list)?;
     let size = file_size(list);
     if out.len() < size {
-        return WriteAnswer::Refused(FileRefusal::NoRoom(0));
+        return Err(FileRefusal::NoRoom(0));
     }
     put_file(n, list, out);
-    WriteAnswer::Written(size)
+    Ok(size)
 }
 
 // The numbers of the line at `at`, and where its record ends. An identifier that does not stand there is 0.
@@ -173,61 +149,59 @@ pub fn decode_lines(bytes: &[u8], lines: usize, numbers: &mut [i32])
     ensures { numbers.new ≡ file_list_lem bytes.now lines ++ drop (line_size * lines) numbers.old }
 {
     let mut at = VARIABLES_RECORD;
-    let mut k = 0;
-    while k < lines {
+    for k in 0..lines {
         let first = LINE_SIZE * k;
         at = decode_line(bytes, at, &mut numbers[first..first + LINE_SIZE]);
-        k += 1;
     }
 }
 
 // Whether the list of a file is refused: by 1, with a limit of the caller's own, then by those of the list. Its numbers are
 // looked at beside the caller's buffer, which a refusal must leave as it was.
-fn file_validity(bytes: &[u8], most: usize, n: usize, lines: usize) -> Validity
+#[tactic(auto, unfolding(crate::specs::Read::list_validity_lem))]
+fn file_validity(bytes: &[u8], most: usize, n: usize, lines: usize) -> Result<(), Refusal>
     requires { (most ≤ max_variables) × Lines bytes.now lines }
     ensures { result ≡ list_validity_lem most n (file_list_lem bytes.now lines) }
 {
     if most < n {
-        return Validity::Refused(Refusal::TooManyVariables);
+        return Err(Refusal::TooManyVariables);
     }
     if MAX_LINES < lines {
-        return Validity::Refused(Refusal::TooManyLines);
+        return Err(Refusal::TooManyLines);
     }
     let mut numbers = [0i32; MOST_NUMBERS];
     decode_lines(bytes, lines, &mut numbers);
-    list_validity(n, &numbers[0..LINE_SIZE * lines])
+    list_validity(n, &numbers[..LINE_SIZE * lines])
 }
 
 // Where the records are whole: the list's refusals, then its numbers are written.
-fn read_lines(bytes: &[u8], most: usize, found: Cursor, numbers: &mut [i32]) -> ReadAnswer
+fn read_lines(
+    bytes: &[u8],
+    most: usize,
+    found: Cursor,
+    numbers: &mut [i32],
+) -> Result<Listed, FileRefusal>
     requires { (most ≤ max_variables) × Lines bytes.now found.lines × (line_size * found.lines ≤ length numbers.old) }
-    ensures { (result ≡ after_scan most bytes.now (End found)) × Leaves bytes.now result numbers.old numbers.new }
+    ensures { (result ≡ after_scan most bytes.now (Ok found)) × Leaves bytes.now result numbers.old numbers.new }
 {
-    let validity = file_validity(bytes, most, found.n, found.lines);
-    if let Validity::Refused(r) = validity {
-        return ReadAnswer::Refused(FileRefusal::List(r));
-    }
+    file_validity(bytes, most, found.n, found.lines)?;
     decode_lines(bytes, found.lines, numbers);
-    ReadAnswer::Read(Listed {
+    Ok(Listed {
         n: found.n,
         lines: found.lines,
     })
 }
 
 // Reads a file's list into the front of a buffer, with at most so many variables.
-pub fn read_within(bytes: &[u8], most: usize, numbers: &mut [i32]) -> ReadAnswer
+pub fn read_within(bytes: &[u8], most: usize, numbers: &mut [i32]) -> Result<Listed, FileRefusal>
     requires { most ≤ max_variables }
     ensures { ReadDone most bytes.now result numbers.old numbers.new }
 {
-    match scan(bytes, numbers.len()) {
-        Next::More(c) => ReadAnswer::Refused(FileRefusal::Cut(c.at)),
-        Next::End(c) => read_lines(bytes, most, c, numbers),
-        Next::Refused(r) => ReadAnswer::Refused(r),
-    }
+    let found = scan(bytes, numbers.len())?;
+    read_lines(bytes, most, found, numbers)
 }
 
 // Reads a file's list into the front of a buffer: n and the number of lines, or the first refusal, which changes nothing.
-pub fn read_list(bytes: &[u8], numbers: &mut [i32]) -> ReadAnswer
+pub fn read_list(bytes: &[u8], numbers: &mut [i32]) -> Result<Listed, FileRefusal>
     ensures { ReadDone max_variables bytes.now result numbers.old numbers.new }
 {
     read_within(bytes, MAX_VARIABLES, numbers)

@@ -1,10 +1,9 @@
 -- What one record leaves is one of the outcomes, and a record that passes all tests is taken.
-use Rattle.std.specs.Prelude.{◌≡◌, Bool, true, false, not, cond, List, ℕ, ◌+◌, eqb, ltb, length}
+use Rattle.file_records.specs.declared.FileRefusal.{FileRefusal}
+use Rattle.std.specs.Prelude.{◌≡◌, Bool, true, false, not, cond, List, ℕ, ◌+◌, eqb, ltb, length, None, Option, Result, Some}
 use Rattle.std.proofs.Math.Path.{refl}
 use Rattle.std.proofs.Common.{sym, ap, subst, ◌∙◌, arith}
 use borrow.Author.Tests.{ltb-false, eqb-true, not-false, le-ltb, eq-eqb}
-use Rattle.file_records.specs.declared.BodySize.{BodySize}
-use Rattle.file_records.specs.declared.BodySize.TheVariants.{Known, Unknown}
 use Rattle.file_records.specs.declared.Cursor.{Cursor}
 use Rattle.file_records.specs.declared.Next.{Next}
 use Rattle.file_records.specs.Table.{header_size, body_size_lem, is_line, size_of, le16, kind_at_lem}
@@ -42,7 +41,7 @@ module _ (b : List ℕ) (room : ℕ) (c : Cursor) where
   of_taken _ end w p i r = of_end w (begun _ p)
 
   -- the tests, one after the other
-  of_known : (kind size : ℕ) → kind_at_lem b c.at ≡ kind → body_size_lem kind ≡ Known size → Outcome b room c (sized b room c kind (Known size))
+  of_known : (kind size : ℕ) → kind_at_lem b c.at ≡ kind → body_size_lem kind ≡ Some size → Outcome b room c (sized b room c kind (Some size))
   of_known kind size k z =
       let s : size_of (body_size_lem kind) ≡ size = ap size_of z in
       by_test P (not (eqb (le16 b c.at) size)) (λ e. refused _) (λ e.
@@ -53,16 +52,16 @@ module _ (b : List ℕ) (room : ℕ) (c : Cursor) where
       let w : Whole b c.at kind = record { named = k; sized = eqb-true _ _ (not-false _ e) ∙ sym s; whole = omega (arith, ltb-false (length b) (c.at + header_size + size) f) } in
       subst (λ (i : ℕ). P (taken b c kind i)) s (of_taken kind (known_kind kind size z) w p i r))))))
     where
-      P : Next → Type 0
+      P : Result Next FileRefusal → Type 0
       P = Outcome b room c
 
   pub outcome : Outcome b room c (next_record_lem b room c)
   unfolding next_record_lem
   outcome = by_test (Outcome b room c) (ltb (length b) (c.at + header_size)) (λ e. refused _) (λ e. go (body_size_lem (kind_at_lem b c.at)) refl)
     where
-      go : (z : BodySize) → body_size_lem (kind_at_lem b c.at) ≡ z → Outcome b room c (sized b room c (kind_at_lem b c.at) z)
-      go Unknown e = refused _
-      go (Known size) e = of_known (kind_at_lem b c.at) size refl e
+      go : (z : Option ℕ) → body_size_lem (kind_at_lem b c.at) ≡ z → Outcome b room c (sized b room c (kind_at_lem b c.at) z)
+      go None e = refused _
+      go (Some size) e = of_known (kind_at_lem b c.at) size refl e
 
   -- the other way: a record that passes all tests is taken
   pub next_taken : (kind : ℕ) → KnownKind kind → Whole b c.at kind → out_of_place_lem c kind ≡ false → no_identifier_lem b c.at kind ≡ false → no_room_lem room c kind ≡ false

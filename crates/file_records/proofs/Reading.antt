@@ -1,5 +1,6 @@
 -- Reading records comes to the end of just those bytes that are laid out as a file.
-use Rattle.std.specs.Prelude.{◌≡◌, Bool, true, false, List, ltb}
+use Rattle.file_records.specs.declared.FileRefusal.{FileRefusal}
+use Rattle.std.specs.Prelude.{◌≡◌, Bool, true, false, List, ltb, Err, Ok, Result}
 use Rattle.std.proofs.Math.Path.{refl, ap}
 use Rattle.std.proofs.Common.{sym, subst, ◌∙◌, zero-add, below_more, ltb-false, le-ltb}
 use Rattle.std.proofs.Math.Bool.{cond}
@@ -12,7 +13,7 @@ use Rattle.little_endian.specs.Bytes.{le32}
 use Rattle.file_records.specs.declared.FileRefusal.TheVariants.{Trailing}
 use Rattle.file_records.specs.declared.Cursor.{Cursor}
 use Rattle.file_records.specs.declared.Next.{Next}
-use Rattle.file_records.specs.declared.Next.TheVariants.{More, End, Refused}
+use Rattle.file_records.specs.declared.Next.TheVariants.{More, End}
 use Rattle.file_records.specs.Table.{header_size, variables_kind, end_kind, is_line, record_size_lem, kind_at_lem, record_place}
 use Rattle.file_records.specs.Places.{variables, line, end, line_is, variables_record, end_record, place_first, place_next}
 use Rattle.file_records.specs.Scan.{start, taken, next_record_lem, onward, scan_from, whole_file_lem, scan}
@@ -46,7 +47,7 @@ module _ (b : List ℕ) (room : ℕ) where
   after_end c w z g fits =
       record { within = omega (arith, w.whole); size = omega arith; begun = g; end = subst (λ (i : ℕ). Whole b i end_kind) z w; fits = fits }
 
-  left : (c : Cursor) (m : Next) → Outcome b room c m → Reached b room c → Left b room c m
+  left : (c : Cursor) (m : Result Next FileRefusal) → Outcome b room c m → Reached b room c → Left b room c m
   left c _ (of_variables w e) h = let p = rw e at h.placed in (after_variables c w p.0 p.1 h.fits, omega arith)
   left c _ (of_line l e r) h = let p = rw e at h.placed in (after_line c l e p.0 p.1 r, omega arith)
   left c _ (of_end w e) h = let p = rw e at h.placed in after_end c w p.0 p.1 h.fits
@@ -60,29 +61,28 @@ module _ (b : List ℕ) (room : ℕ) where
   scanned_from zero c h = tt
   scanned_from (suc k) c h = go (next_record_lem b room c) (next_left c h) (scanned_from k)
     where
-      go : (m : Next) → Left b room c m → ((d : Cursor) → Reached b room d → Scanned b room (scan_from k b room d)) → Scanned b room (onward (scan_from k b room) m)
-      go (More d) l f = f d l.0
-      go (End d) l f = l
-      go (Refused r) l f = tt
+      go : (m : Result Next FileRefusal) → Left b room c m → ((d : Cursor) → Reached b room d → Scanned b room (scan_from k b room d)) → Scanned b room (onward (scan_from k b room) m)
+      go (Ok (More d)) l f = f d l.0
+      go (Ok (End d)) l f = l
+      go (Err r) l f = tt
 
   pub scanned : Scanned b room (scan_from (suc (length b)) b room start)
   scanned = scanned_from (suc (length b)) start (start_reached b room)
 
-pub scan_laid : (b : List ℕ) (room : ℕ) (c : Cursor) → scan b room ≡ End c → Found b room c
+pub scan_laid : (b : List ℕ) (room : ℕ) (c : Cursor) → scan b room ≡ Ok c → Found b room c
 unfolding scan
 scan_laid b room c = go (scan_from (suc (length b)) b room start) (scanned b room)
   where
     found : (d : Cursor) → Ended b room d → length b ≤ d.at → Found b room d
     found d h l = record { at = omega arith; laid = record { begun = h.begun; end = h.end; size = omega arith }; fits = h.fits }
 
-    at_end : (d : Cursor) → Ended b room d → (t : Bool) → ltb d.at (length b) ≡ t → cond t (Refused (Trailing d.at)) (End d) ≡ End c → Found b room c
+    at_end : (d : Cursor) → Ended b room d → (t : Bool) → ltb d.at (length b) ≡ t → cond t (Err (Trailing d.at)) (Ok d) ≡ Ok c → Found b room c
     at_end d h true p e = never (cc)
     at_end d h false p e = let q : d ≡ c = cc in rw (← q) (found d h (ltb-false _ _ p))
 
-    go : (m : Next) → Scanned b room m → whole_file_lem b m ≡ End c → Found b room c
-    go (More d) s e = absurd s
-    go (End d) s e = at_end d s (ltb d.at (length b)) refl e
-    go (Refused r) s e = never (cc)
+    go : (m : Result Cursor FileRefusal) → Scanned b room m → whole_file_lem b m ≡ Ok c → Found b room c
+    go (Ok d) s e = at_end d s (ltb d.at (length b)) refl e
+    go (Err r) s e = never (cc)
 
 -- ---- laid out
 module _ (b : List ℕ) (room n k : ℕ) (h : Laid b n k) (r : line_size * k ≤ room) where
@@ -93,41 +93,41 @@ module _ (b : List ℕ) (room n k : ℕ) (h : Laid b n k) (r : line_size * k ≤
   abbrev ended : Cursor
   ended = record { at = length b; n = n; begun = true; lines = k }
 
-  next_variables : next_record_lem b room start ≡ More (cursor 0)
+  next_variables : next_record_lem b room start ≡ Ok (More (cursor 0))
   unfolding taken is_line
   next_variables =
       let at : behind start variables_kind ≡ record_place b 0 = omega (arith, place_first b, variables_record) in
       next_taken b room start variables_kind variables h.begun.first refl refl refl
-      ∙ ap (λ (i : ℕ). More (record { at = i; n = le32 b header_size; begun = true; lines = 0 })) at
-      ∙ ap (λ (i : ℕ). More (record { at = record_place b 0; n = i; begun = true; lines = 0 })) h.begun.variables
+      ∙ ap (λ (i : ℕ). Ok (More (record { at = i; n = le32 b header_size; begun = true; lines = 0 }))) at
+      ∙ ap (λ (i : ℕ). Ok (More (record { at = record_place b 0; n = i; begun = true; lines = 0 }))) h.begun.variables
 
-  next_line : (j : ℕ) → j < k → next_record_lem b room (cursor j) ≡ More (cursor (j + 1))
+  next_line : (j : ℕ) → j < k → next_record_lem b room (cursor j) ≡ Ok (More (cursor (j + 1)))
   unfolding taken
   next_line j m =
       let l = h.begun.lines j m in
       let is = line_is l.is_line_law in
       let at : behind (cursor j) l.kind ≡ record_place b (j + 1) = omega (arith, behind_line b j l) in
       next_taken b room (cursor j) l.kind (line l.is_line_law) l.whole is.0 l.identified (rw is.1 (le-ltb room (line_size * (j + 1)) (omega (arith, r))))
-      ∙ rw (is.0, is.1) (ap (λ (i : ℕ). More (record { at = i; n = n; begun = true; lines = j + 1 })) at)
+      ∙ rw (is.0, is.1) (ap (λ (i : ℕ). Ok (More (record { at = i; n = n; begun = true; lines = j + 1 }))) at)
 
-  next_end : next_record_lem b room (cursor k) ≡ End ended
+  next_end : next_record_lem b room (cursor k) ≡ Ok (End ended)
   unfolding taken is_line
   next_end =
       let at : behind (cursor k) end_kind ≡ length b = omega (arith, h.size) in
-      next_taken b room (cursor k) end_kind end h.end refl refl refl ∙ ap (λ (i : ℕ). End (record { at = i; n = n; begun = true; lines = k })) at
+      next_taken b room (cursor k) end_kind end h.end refl refl refl ∙ ap (λ (i : ℕ). Ok (End (record { at = i; n = n; begun = true; lines = k }))) at
 
-  laid_lines : (f m j : ℕ) → j + m ≡ k → m < f → scan_from f b room (cursor j) ≡ End ended
+  laid_lines : (f m j : ℕ) → j + m ≡ k → m < f → scan_from f b room (cursor j) ≡ Ok ended
   unfolding scan_from
   laid_lines zero m j e l = absurd (omega arith)
   laid_lines (suc f) zero j e l = let z : j ≡ k = omega arith in rw (z, next_end)
   laid_lines (suc f) (suc m) j e l = rw (next_line j (omega arith)) (laid_lines f m (j + 1) (omega arith) (omega arith))
 
-  pub laid_scan : scan b room ≡ End ended
+  pub laid_scan : scan b room ≡ Ok ended
   unfolding scan scan_from
   laid_scan =
       rw next_variables
       (ap (whole_file_lem b) (laid_lines (length b) k 0 (zero-add k) (omega (arith, h.size, end_record, place_least b k h.begun.lines)))
-      ∙ ap (λ (t : Bool). cond t (Refused (Trailing (length b))) (End ended)) (le-ltb (length b) (length b) (omega arith)))
+      ∙ ap (λ (t : Bool). cond t (Err (Trailing (length b))) (Ok ended)) (le-ltb (length b) (length b) (omega arith)))
 
 -- ---- one turn of the reader
 module _ (b : List ℕ) (room : ℕ) where
@@ -135,11 +135,11 @@ module _ (b : List ℕ) (room : ℕ) where
   begins = record { reached = start_reached b room; turns = suc (length b); enough = omega arith; same = refl }
 
   -- one turn
-  turn : (k : ℕ) (c : Cursor) (m : Next) → next_record_lem b room c ≡ m → onward (scan_from k b room) m ≡ scan_from (suc k) b room c
+  turn : (k : ℕ) (c : Cursor) (m : Result Next FileRefusal) → next_record_lem b room c ≡ m → onward (scan_from k b room) m ≡ scan_from (suc k) b room c
   unfolding scan_from
   turn k c m e = ap (onward (scan_from k b room)) (sym e)
 
-  pub goes_on : (c d : Cursor) → Running b room c → next_record_lem b room c ≡ More d → Running b room d × (c.at < d.at)
+  pub goes_on : (c d : Cursor) → Running b room c → next_record_lem b room c ≡ Ok (More d) → Running b room d × (c.at < d.at)
   goes_on c d h e = go h.turns h.enough h.same
     where
       l : Reached b room d × (c.at + header_size ≤ d.at)
@@ -147,12 +147,12 @@ module _ (b : List ℕ) (room : ℕ) where
 
       go : (k : ℕ) → length b < c.at + k → scan_from k b room c ≡ scan_from (suc (length b)) b room start → Running b room d × (c.at < d.at)
       go zero p q = absurd (omega (arith, h.reached.within))
-      go (suc k) p q = (record { reached = l.0; turns = k; enough = omega (arith, l.1); same = turn k c (More d) e ∙ q }, omega (arith, l.1))
+      go (suc k) p q = (record { reached = l.0; turns = k; enough = omega (arith, l.1); same = turn k c (Ok (More d)) e ∙ q }, omega (arith, l.1))
 
-  pub stops : (c : Cursor) → Running b room c → (m : Next) → next_record_lem b room c ≡ m → ((k : ℕ) → onward (scan_from k b room) m ≡ m) → whole_file_lem b m ≡ scan b room
+  pub stops : (c : Cursor) → Running b room c → (m : Result Next FileRefusal) (a : Result Cursor FileRefusal) → next_record_lem b room c ≡ m → ((k : ℕ) → onward (scan_from k b room) m ≡ a) → whole_file_lem b a ≡ scan b room
   unfolding scan
-  stops c h m e f = go h.turns h.enough h.same
+  stops c h m a e f = go h.turns h.enough h.same
     where
-      go : (k : ℕ) → length b < c.at + k → scan_from k b room c ≡ scan_from (suc (length b)) b room start → whole_file_lem b m ≡ whole_file_lem b (scan_from (suc (length b)) b room start)
+      go : (k : ℕ) → length b < c.at + k → scan_from k b room c ≡ scan_from (suc (length b)) b room start → whole_file_lem b a ≡ whole_file_lem b (scan_from (suc (length b)) b room start)
       go zero p q = absurd (omega (arith, h.reached.within))
       go (suc k) p q = ap (whole_file_lem b) (sym (f k) ∙ turn k c m e ∙ q)

@@ -2,7 +2,8 @@
 --
 -- One way: what is known of the records before the cursor grows with each record, and at the end it is the layout. The other way: in bytes that are laid
 -- out so, each record passes its tests. Where a line begins goes by the bytes before it, and so both ways go from the first line to the last.
-use Rattle.std.specs.Prelude.{◌≡◌, Bool, true, false, List}
+use Rattle.file_records.specs.declared.FileRefusal.{FileRefusal}
+use Rattle.std.specs.Prelude.{◌≡◌, Bool, true, false, List, Err, Ok, Result}
 use Rattle.std.proofs.Math.Path.{refl, ap}
 use Rattle.std.proofs.Common.{◌∙◌, add-one}
 use Prim.Native.Nat.{ℕ, zero, suc, ◌+◌, ◌*◌, ◌<◌, ◌≤◌}
@@ -12,7 +13,7 @@ use Rattle.lines.specs.Limits.{line_size}
 use Rattle.little_endian.specs.Bytes.{le32}
 use Rattle.file_records.specs.declared.Cursor.{Cursor}
 use Rattle.file_records.specs.declared.Next.{Next}
-use Rattle.file_records.specs.declared.Next.TheVariants.{More, End, Refused}
+use Rattle.file_records.specs.declared.Next.TheVariants.{More, End}
 use Rattle.file_records.specs.Table.{header_size, variables_kind, end_kind, record_size_lem, record_place}
 use Rattle.file_records.specs.Places.{line_is, place_next}
 use Rattle.file_records.specs.Scan.{start}
@@ -68,18 +69,17 @@ pub record Ended (b : List ℕ) (room : ℕ) (c : Cursor) : Type 0 where
 
 module _ (b : List ℕ) (room : ℕ) where
   -- what one record leaves
-  abbrev pub Left : Cursor → Next → Type 0
-  Left c (More d) = Reached b room d × (c.at + header_size ≤ d.at)
-  Left c (End d) = Ended b room d
-  Left c (Refused r) = Unit {0}
+  abbrev pub Left : Cursor → Result Next FileRefusal → Type 0
+  Left c (Ok (More d)) = Reached b room d × (c.at + header_size ≤ d.at)
+  Left c (Ok (End d)) = Ended b room d
+  Left c (Err r) = Unit {0}
 
   pub start_reached : Reached b room start
   start_reached = record { within = omega arith; placed = (refl, refl); fits = omega arith }
 
-  abbrev pub Scanned : Next → Type 0
-  Scanned (More c) = ⊥
-  Scanned (End c) = Ended b room c
-  Scanned (Refused r) = Unit {0}
+  abbrev pub Scanned : Result Cursor FileRefusal → Type 0
+  Scanned (Ok c) = Ended b room c
+  Scanned (Err r) = Unit {0}
 
 -- what is known of a file that has an end and nothing after it
 pub record Found (b : List ℕ) (room : ℕ) (c : Cursor) : Type 0 where

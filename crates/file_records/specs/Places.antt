@@ -1,13 +1,11 @@
 -- The kinds of the table, those of lines among them, and the places of records: the first line's, the next one's, and how far they can lie.
-use Rattle.std.specs.Prelude.{◌≡◌, Bool, false, cond, ◌||◌, List, ℕ, zero, suc, ◌+◌, ◌*◌, ◌≤◌}
+use Rattle.std.specs.Prelude.{◌≡◌, Bool, false, cond, List, ℕ, zero, suc, ◌+◌, ◌*◌, ◌≤◌, None, Option, Some}
 use Rattle.std.proofs.Math.Path.{refl, subst}
 use Rattle.std.proofs.Common.{sym, add-one, arith, eqb-true}
 use Rattle.std.proofs.Math.Bool.{true}
 use Rattle.std.proofs.Math.Dec.{eqb}
 use Rattle.integers.specs.Laws.{never}
 use Rattle.lines.specs.Limits.{line_size, bare_size}
-use Rattle.file_records.specs.declared.BodySize.{BodySize}
-use Rattle.file_records.specs.declared.BodySize.TheVariants.{Known, Unknown}
 use Rattle.file_records.specs.Table.{header_size, variables_kind, line_kind, end_kind, identified_kind, body_size_lem, is_line, size_of, record_size_lem, kind_at_lem, record_place}
 
 -- ---- kinds
@@ -23,7 +21,7 @@ pub data KnownKind : ℕ → Type 0 where
   end : KnownKind end_kind
 
 -- the table as tests, one after the other
-module _ (P : ℕ → BodySize → Type 0) (by_kind : (k : ℕ) → KnownKind k → P k (body_size_lem k)) (unknown : (k : ℕ) → P k Unknown) where
+module _ (P : ℕ → Option ℕ → Type 0) (by_kind : (k : ℕ) → KnownKind k → P k (body_size_lem k)) (unknown : (k : ℕ) → P k None) where
   pub each_kind : (k : ℕ) → P k (body_size_lem k)
   unfolding body_size_lem
   each_kind k = go (eqb k variables_kind) refl (eqb k line_kind) refl (eqb k end_kind) refl (eqb k identified_kind) refl
@@ -32,38 +30,22 @@ module _ (P : ℕ → BodySize → Type 0) (by_kind : (k : ℕ) → KnownKind k 
       known m h e = subst (λ (i : ℕ). P i (body_size_lem m)) (sym (eqb-true k m e)) (by_kind m h)
 
       go : (t : Bool) → eqb k variables_kind ≡ t → (u : Bool) → eqb k line_kind ≡ u → (v : Bool) → eqb k end_kind ≡ v → (w : Bool) → eqb k identified_kind ≡ w
-          → P k (cond t (Known 4) (cond u (Known (4 * bare_size)) (cond v (Known 0) (cond w (Known (4 * line_size)) Unknown))))
+          → P k (cond t (Some 4) (cond u (Some (4 * bare_size)) (cond v (Some 0) (cond w (Some (4 * line_size)) None))))
       go true p u q v r w s = known variables_kind variables p
       go false p true q v r w s = known line_kind (line bare) q
       go false p false q true r w s = known end_kind end r
       go false p false q false r true s = known identified_kind (line identified) s
       go false p false q false r false s = unknown k
 
-pub known_kind : (k size : ℕ) → body_size_lem k ≡ Known size → KnownKind k
-known_kind k size = each_kind (λ i z. z ≡ Known size → KnownKind i) (λ i h e. h) (λ i e. never (cc)) k
+pub known_kind : (k size : ℕ) → body_size_lem k ≡ Some size → KnownKind k
+known_kind k size = each_kind (λ i z. z ≡ Some size → KnownKind i) (λ i h e. h) (λ i e. never (cc)) k
 
-pub known_size : {k : ℕ} → KnownKind k → body_size_lem k ≡ Known (size_of (body_size_lem k))
+pub known_size : {k : ℕ} → KnownKind k → body_size_lem k ≡ Some (size_of (body_size_lem k))
 unfolding body_size_lem
 known_size variables = refl
 known_size (line bare) = refl
 known_size (line identified) = refl
 known_size end = refl
-
--- which the code knows by their numbers
-pub line_kinds : (k : ℕ) → (eqb k line_kind || eqb k identified_kind) ≡ is_line k
-unfolding is_line
-line_kinds k = go (eqb k variables_kind) refl (eqb k line_kind) refl (eqb k end_kind) refl (eqb k identified_kind) refl
-  where
-    same : (m : ℕ) → eqb k m ≡ true → (eqb m line_kind || eqb m identified_kind) ≡ is_line m → (eqb k line_kind || eqb k identified_kind) ≡ is_line k
-    same m e h = rw (eqb-true k m e) h
-
-    go : (t : Bool) → eqb k variables_kind ≡ t → (u : Bool) → eqb k line_kind ≡ u → (v : Bool) → eqb k end_kind ≡ v → (w : Bool) → eqb k identified_kind ≡ w
-        → (eqb k line_kind || eqb k identified_kind) ≡ is_line k
-    go true p u q v r w s = same variables_kind p refl
-    go false p true q v r w s = same line_kind q refl
-    go false p false q true r w s = same end_kind r refl
-    go false p false q false r true s = same identified_kind s refl
-    go false p false q false r false s = rw (p, q, r, s)
 
 -- ---- records, by the table
 pub variables_record : record_size_lem variables_kind ≡ header_size + 4

@@ -1,8 +1,6 @@
 -- The records of a file: their kinds, the length of each kind's body and which of them are lines, in one table, and the places of records, by those before them.
-use Rattle.std.specs.Prelude.{Bool, true, false, cond, List, [], ◌∷◌, ℕ, zero, suc, ◌+◌, ◌*◌, eqb, get_or}
+use Rattle.std.specs.Prelude.{Bool, true, false, cond, List, [], ◌∷◌, ℕ, zero, suc, ◌+◌, ◌*◌, eqb, get_or, None, Option, Some, unwrap_or}
 use Rattle.lines.specs.Limits.{line_size, bare_size}
-use Rattle.file_records.specs.declared.BodySize.{BodySize}
-use Rattle.file_records.specs.declared.BodySize.TheVariants.{Known, Unknown}
 
 -- a record is the length of its body, its kind, and the body
 abbrev pub header_size : ℕ
@@ -35,11 +33,11 @@ table =
     ∷ record { kind = identified_kind; size = 4 * line_size; line = true }
     ∷ []
 
-abbrev pub size_in : List Row → ℕ → BodySize
-size_in [] k = Unknown
-size_in (r ∷ rs) k = cond (eqb k r.kind) (Known r.size) (size_in rs k)
+abbrev pub size_in : List Row → ℕ → Option ℕ
+size_in [] k = None
+size_in (r ∷ rs) k = cond (eqb k r.kind) (Some r.size) (size_in rs k)
 
-unfoldable pub body_size_lem : ℕ → BodySize
+unfoldable pub body_size_lem : ℕ → Option ℕ
 body_size_lem k = size_in table k
 
 abbrev pub is_line_in : List Row → ℕ → Bool
@@ -50,9 +48,8 @@ unfoldable pub is_line : ℕ → Bool
 is_line k = is_line_in table k
 
 -- ---- places
-abbrev pub size_of : BodySize → ℕ
-size_of Unknown = 0
-size_of (Known size) = size
+abbrev pub size_of : Option ℕ → ℕ
+size_of size = unwrap_or size 0
 
 -- the bytes of a record of this kind
 abbrev pub record_size_lem : ℕ → ℕ

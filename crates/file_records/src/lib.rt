@@ -2,13 +2,12 @@
 
 #![tactic(auto)]
 
-ghost use Rattle.std.specs.Prelude.{◌≡◌, ◌+◌, ◌*◌, ◌^◌, ◌<◌, ◌≤◌, length};
+ghost use Rattle.std.specs.Prelude.{◌≡◌, ◌+◌, ◌*◌, ◌^◌, ◌<◌, ◌≤◌, length, Ok, Some};
 ghost use Rattle.lines.specs.Limits.{line_size};
 ghost use Rattle.file_records.specs.Table.{header_size, record_size_lem, le16, kind_at_lem};
 ghost use Rattle.file_records.specs.Refusal.{file_number, file_place};
 ghost use Rattle.file_records.specs.Table as table;
-ghost use Rattle.file_records.specs.declared.BodySize.TheVariants.{Known};
-ghost use Rattle.file_records.specs.declared.Next.TheVariants.{End};
+ghost use Rattle.file_records.specs.declared.FileRefusal.TheVariants.{List};
 ghost use Rattle.file_records.specs.Scan as scanned;
 ghost use Rattle.file_records.specs.Laws.{InFile};
 
@@ -44,11 +43,12 @@ pub enum FileRefusal {
     List(Refusal),
 }
 
-// The length of a kind's body.
-#[derive(Clone, Copy)]
-pub enum BodySize {
-    Known(usize),
-    Unknown,
+impl From<Refusal> for FileRefusal {
+    ghost from_gives = { λ r e. e ≡ List r };
+
+    fn from(r: Refusal) -> FileRefusal {
+        FileRefusal::List(r)
+    }
 }
 
 // Where the next record begins, and what was read before it.
@@ -60,12 +60,11 @@ pub struct Cursor {
     pub lines: usize,
 }
 
-// What a record leaves: more to read, the end, or a refusal.
+// What a record that is not refused leaves: more to read, or the end.
 #[derive(Clone, Copy)]
 pub enum Next {
     More(Cursor),
     End(Cursor),
-    Refused(FileRefusal),
 }
 
 // The number and the place of each refusal: the byte offset of its record, or the specification's of its list.
@@ -84,27 +83,12 @@ pub fn file_number_and_place(r: FileRefusal) -> Numbered
     }
 }
 
-// A byte as a number.
-fn wide(x: u8) -> usize
-    ensures { (result ≡ x) × (result < 256) }
+// Two bytes of the file, the first the lowest.
+fn u16_at(bytes: &[u8], at: usize) -> usize
+    requires { at + 2 ≤ length bytes.now }
+    ensures { (result ≡ le16 bytes.now at) × (result < 2 ^ 16) }
 {
-    x as usize
-}
-
-// Two bytes, the first the lowest.
-fn u16_of(two: &[u8]) -> usize
-    requires { 2 ≤ length two.now }
-    ensures { (result ≡ le16 two.now 0) × (result < 2 ^ 16) }
-{
-    wide(two[0]) + wide(two[1]) * 256
-}
-
-// The two bytes from `at`, a part of the file.
-fn u16_at(b: &[u8], at: usize) -> usize
-    requires { at + 2 ≤ length b.now }
-    ensures { (result ≡ le16 b.now at) × (result < 2 ^ 16) }
-{
-    u16_of(&b[at..at + 2])
+    usize::from(bytes[at]) + usize::from(bytes[at + 1]) * 256
 }
 
 // The kind of the record that begins at `at`.
@@ -116,39 +100,33 @@ pub fn kind_at(bytes: &[u8], at: usize) -> usize
 }
 
 // The length of a kind's body, by the table in specs/.
-pub fn body_size(kind: usize) -> BodySize
+#[tactic(auto, unfolding(crate::specs::Table::body_size_lem))]
+pub fn body_size(kind: usize) -> Option<usize>
     ensures { result ≡ table.body_size_lem kind }
 {
-    if kind == VARIABLES_KIND {
-        return BodySize::Known(NUMBER_BYTES);
+    match kind {
+        VARIABLES_KIND => Some(NUMBER_BYTES),
+        LINE_KIND => Some(NUMBER_BYTES * BARE_SIZE),
+        END_KIND => Some(0),
+        IDENTIFIED_KIND => Some(NUMBER_BYTES * LINE_SIZE),
+        _ => None,
     }
-    if kind == LINE_KIND {
-        return BodySize::Known(NUMBER_BYTES * BARE_SIZE);
-    }
-    if kind == END_KIND {
-        return BodySize::Known(0);
-    }
-    if kind == IDENTIFIED_KIND {
-        return BodySize::Known(NUMBER_BYTES * LINE_SIZE);
-    }
-    BodySize::Unknown
 }
 
 // The bytes of a record of this kind.
+#[tactic(auto, using(crate::specs::Places::longest))]
 pub fn record_size(kind: usize) -> usize
     ensures { result ≡ record_size_lem kind }
 {
-    match body_size(kind) {
-        BodySize::Known(size) => HEADER_SIZE + size,
-        BodySize::Unknown => HEADER_SIZE,
-    }
+    HEADER_SIZE + body_size(kind).unwrap_or(0)
 }
 
 // Whether a record of this kind is a line.
+#[tactic(auto, unfolding(crate::specs::Table::is_line))]
 fn is_line(kind: usize) -> bool
     ensures { result ≡ table.is_line kind }
 {
-    (kind == LINE_KIND) | (kind == IDENTIFIED_KIND)
+    matches!(kind, LINE_KIND | IDENTIFIED_KIND)
 }
 
 // Whether a record of n comes later than first, or another record comes first.
@@ -162,14 +140,12 @@ fn out_of_place(cursor: Cursor, kind: usize) -> bool
 }
 
 // Whether the record at `at` is a line with its identifier, which is 0.
+#[tactic(auto, using(crate::specs::Places::identified_record))]
 fn no_identifier(bytes: &[u8], at: usize, kind: usize) -> bool
     requires { at + record_size_lem kind ≤ length bytes.now }
     ensures { result ≡ scanned.no_identifier_lem bytes.now at kind }
 {
-    if kind != IDENTIFIED_KIND {
-        return false;
-    }
-    i32_at(bytes, at + HEADER_SIZE + NUMBER_BYTES * BARE_SIZE) == 0
+    kind == IDENTIFIED_KIND && i32_at(bytes, at + HEADER_SIZE + NUMBER_BYTES * BARE_SIZE) == 0
 }
 
 // Whether the record is a line for which the list's buffer has no room.
@@ -177,78 +153,94 @@ fn no_room(room: usize, cursor: Cursor, kind: usize) -> bool
     requires { line_size * (cursor.lines + 1) < 2 ^ 64 }
     ensures { result ≡ scanned.no_room_lem room cursor kind }
 {
-    is_line(kind) & (room < LINE_SIZE * (cursor.lines + 1))
+    is_line(kind) && room < LINE_SIZE * (cursor.lines + 1)
 }
 
 // A whole record in its place: n is kept, a line is counted.
-fn taken(bytes: &[u8], mut cursor: Cursor, kind: usize, size: usize) -> Next
-    requires { InFile bytes.now cursor × (table.body_size_lem kind ≡ Known size) × (cursor.at + header_size + size ≤ length bytes.now) }
+#[tactic(auto, using(crate::specs::Laws::variables_size), unfolding(crate::specs::Scan::taken))]
+fn taken(bytes: &[u8], cursor: Cursor, kind: usize, size: usize) -> Result<Next, FileRefusal>
+    requires { InFile bytes.now cursor × (table.body_size_lem kind ≡ Some size) × (cursor.at + header_size + size ≤ length bytes.now) }
     ensures { result ≡ scanned.taken bytes.now cursor kind size }
 {
     let body = cursor.at + HEADER_SIZE;
-    cursor.at = body + size;
+    let at = body + size;
     if kind == VARIABLES_KIND {
-        cursor.n = u32_at(&bytes[body..body + size], 0) as usize;
-        cursor.begun = true;
-        return Next::More(cursor);
+        let n = u32_at(bytes, body) as usize;
+        return Ok(Next::More(Cursor {
+            at,
+            n,
+            begun: true,
+            ..cursor
+        }));
     }
     if is_line(kind) {
-        cursor.lines = cursor.lines + 1;
-        return Next::More(cursor);
+        let lines = cursor.lines + 1;
+        return Ok(Next::More(Cursor {
+            at,
+            lines,
+            ..cursor
+        }));
     }
-    Next::End(cursor)
+    Ok(Next::End(Cursor { at, ..cursor }))
 }
 
 // A record of a known kind: 22, 20 for a cut body, 23, 26, 25; or it is taken.
-fn placed(bytes: &[u8], room: usize, cursor: Cursor, kind: usize, size: usize) -> Next
-    requires { InFile bytes.now cursor × (table.body_size_lem kind ≡ Known size) × (cursor.at + header_size ≤ length bytes.now) }
-    ensures { result ≡ scanned.sized bytes.now room cursor kind (Known size) }
+fn placed(
+    bytes: &[u8],
+    room: usize,
+    cursor: Cursor,
+    kind: usize,
+    size: usize,
+) -> Result<Next, FileRefusal>
+    requires { InFile bytes.now cursor × (table.body_size_lem kind ≡ Some size) × (cursor.at + header_size ≤ length bytes.now) }
+    ensures { result ≡ scanned.sized bytes.now room cursor kind (Some size) }
 {
     if u16_at(bytes, cursor.at) != size {
-        return Next::Refused(FileRefusal::WrongLength(cursor.at));
+        return Err(FileRefusal::WrongLength(cursor.at));
     }
     if bytes.len() < cursor.at + HEADER_SIZE + size {
-        return Next::Refused(FileRefusal::Cut(cursor.at));
+        return Err(FileRefusal::Cut(cursor.at));
     }
     if out_of_place(cursor, kind) {
-        return Next::Refused(FileRefusal::OutOfPlace(cursor.at));
+        return Err(FileRefusal::OutOfPlace(cursor.at));
     }
     if no_identifier(bytes, cursor.at, kind) {
-        return Next::Refused(FileRefusal::NoIdentifier(cursor.at));
+        return Err(FileRefusal::NoIdentifier(cursor.at));
     }
     if no_room(room, cursor, kind) {
-        return Next::Refused(FileRefusal::NoRoom(cursor.at));
+        return Err(FileRefusal::NoRoom(cursor.at));
     }
     taken(bytes, cursor, kind, size)
 }
 
 // The record at the cursor: 20 for a cut header and 21 go first.
-fn next_record(bytes: &[u8], room: usize, cursor: Cursor) -> Next
+#[tactic(auto, unfolding(crate::specs::Scan::next_record_lem))]
+fn next_record(bytes: &[u8], room: usize, cursor: Cursor) -> Result<Next, FileRefusal>
     requires { InFile bytes.now cursor }
     ensures { result ≡ scanned.next_record_lem bytes.now room cursor }
 {
     if bytes.len() < cursor.at + HEADER_SIZE {
-        return Next::Refused(FileRefusal::Cut(cursor.at));
+        return Err(FileRefusal::Cut(cursor.at));
     }
     let kind = kind_at(bytes, cursor.at);
     match body_size(kind) {
-        BodySize::Known(size) => placed(bytes, room, cursor, kind, size),
-        BodySize::Unknown => Next::Refused(FileRefusal::UnknownKind(cursor.at)),
+        Some(size) => placed(bytes, room, cursor, kind, size),
+        None => Err(FileRefusal::UnknownKind(cursor.at)),
     }
 }
 
 // The end is the end of the file, or 24 at the first byte after it.
-fn whole_file(bytes: &[u8], cursor: Cursor) -> Next
-    ensures { result ≡ scanned.whole_file_lem bytes.now (End cursor) }
+fn whole_file(bytes: &[u8], cursor: Cursor) -> Result<Cursor, FileRefusal>
+    ensures { result ≡ scanned.whole_file_lem bytes.now (Ok cursor) }
 {
     if cursor.at < bytes.len() {
-        return Next::Refused(FileRefusal::Trailing(cursor.at));
+        return Err(FileRefusal::Trailing(cursor.at));
     }
-    Next::End(cursor)
+    Ok(cursor)
 }
 
 // What the records of a file say: n and the number of lines at the end, or the first refusal.
-pub fn scan(bytes: &[u8], room: usize) -> Next
+pub fn scan(bytes: &[u8], room: usize) -> Result<Cursor, FileRefusal>
     ensures { result ≡ scanned.scan bytes.now room }
 {
     let mut cursor = Cursor {
@@ -258,15 +250,12 @@ pub fn scan(bytes: &[u8], room: usize) -> Next
         lines: 0,
     };
     loop {
-        match next_record(bytes, room, cursor) {
+        match next_record(bytes, room, cursor)? {
             Next::More(c) => {
                 cursor = c;
             }
             Next::End(c) => {
                 return whole_file(bytes, c);
-            }
-            Next::Refused(r) => {
-                return Next::Refused(r);
             }
         }
     }

@@ -1,6 +1,5 @@
 -- What the parts of the report ask of their callers.
-use Rattle.std.specs.Prelude.{◌≡◌, List, ℕ, ◌+◌, ◌≤◌, ℤ, length}
-use Rattle.lines.specs.declared.Validity.TheVariants.{Valid}
+use Rattle.std.specs.Prelude.{◌≡◌, List, ℕ, ◌+◌, ◌≤◌, ℤ, length, Ok}
 use Rattle.lines.specs.Refusal.{validity_of}
 use Rattle.check_refutation.specs.Progress.{head_size}
 use Rattle.check_soundness.specs.Head.{steps_in}
@@ -17,6 +16,6 @@ pub record RefutationReady (R text : List ℕ) : Type 0 where
   pub size : text_size ≤ length text
 
 pub record ListReady (n : ℕ) (L : List ℤ) (text : List ℕ) : Type 0 where
-  pub valid : validity_of n L ≡ Valid
+  pub valid : validity_of n L ≡ Ok tt
   pub few : n ≤ most_variables
   pub size : text_size ≤ length text

@@ -1,5 +1,5 @@
 -- What the program prints for the bytes of a file: the text of a yes, of a no or of a refusal.
-use Rattle.std.specs.Prelude.{◌≡◌, true, false, List, ℕ, ◌*◌, drop}
+use Rattle.std.specs.Prelude.{◌≡◌, true, false, List, ℕ, ◌*◌, drop, Err, Ok}
 use Rattle.io.specs.Counts.{IsPrefixLen}
 use Rattle.lines.specs.Limits.{line_size}
 use Rattle.lines.specs.Line.{lines_of}
@@ -9,7 +9,6 @@ use Rattle.theory_answers.specs.Refuted.{Due}
 use Rattle.file_records.specs.declared.FileRefusal.{FileRefusal}
 use Rattle.file_records.specs.Refusal.{file_number, file_place}
 use Rattle.file_list.specs.declared.Listed.{Listed}
-use Rattle.file_list.specs.declared.ReadAnswer.TheVariants.{Read, Refused}
 use Rattle.file_list.specs.File.{file_list_lem}
 use Rattle.file_list.specs.Read.{read_answer}
 use Rattle.file_text.specs.Text.{yes_text, no_text, refused_text}
@@ -33,5 +32,5 @@ pub data Decided (n : ℕ) (L : List _) : List ℕ → Type 0 where
 
 -- a file read and its list decided, or refused
 pub data Reported (b : List ℕ) : List ℕ → Type 0 where
-  refused : (r : FileRefusal) → read_answer most_variables b (line_size * most_lines) ≡ Refused r → Reported b (refused_text (file_number r) (file_place r))
-  decided : (z : Listed) → read_answer most_variables b (line_size * most_lines) ≡ Read z → {T : List ℕ} → Decided z.n (file_list_lem b z.lines) T → Reported b T
+  refused : (r : FileRefusal) → read_answer most_variables b (line_size * most_lines) ≡ Err r → Reported b (refused_text (file_number r) (file_place r))
+  decided : (z : Listed) → read_answer most_variables b (line_size * most_lines) ≡ Ok z → {T : List ℕ} → Decided z.n (file_list_lem b z.lines) T → Reported b T

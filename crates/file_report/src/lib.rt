@@ -16,7 +16,7 @@ use decide_buffers::{
     FEW_BOUNDS, FEW_GROUPS, FEW_IDENTIFIERS, FEW_MODEL, FEW_REFUTATION, FEW_VARIABLES, FEW_WORK,
     bounds_room, groups_room, model_room,
 };
-use file_list::{LONGEST_LINE_RECORD, ReadAnswer, VARIABLES_RECORD, read_within};
+use file_list::{LONGEST_LINE_RECORD, VARIABLES_RECORD, read_within};
 use file_records::file_number_and_place;
 use file_text::{write_no, write_refused, write_yes};
 use lines::limits::LINE_SIZE;
@@ -38,7 +38,7 @@ fn report_no(refutation: &[u32], text: &mut [u8]) -> usize
     ensures { Wrote (no_text (stated refutation.now)) text.old text.new result }
 {
     let count = HEAD_SIZE + refutation[1] as usize + refutation[2] as usize;
-    write_no(&refutation[0..count], text)
+    write_no(&refutation[..count], text)
 }
 
 // A list decided, as text.
@@ -52,7 +52,7 @@ fn report_list(n: usize, list: &[i32], text: &mut [u8]) -> usize
     let mut refutation = [0u32; FEW_REFUTATION];
     let mut identifiers = [0u32; FEW_IDENTIFIERS];
     let mut work = [0i64; FEW_WORK];
-    let answer = decide(
+    let decided = decide(
         n,
         list,
         &mut model,
@@ -62,22 +62,17 @@ fn report_list(n: usize, list: &[i32], text: &mut [u8]) -> usize
         &mut identifiers,
         &mut work,
     );
+    // The list is valid, and the buffers are as long as this many variables need.
+    let answer = decided.unwrap();
     match answer {
-        Answer::Yes => {
-            let values = model_room(n);
-            let ends = bounds_room(n);
-            let firsts = groups_room(n);
-            write_yes(
-                n,
-                &model[0..values],
-                &bounds[0..ends],
-                &groups[0..firsts],
-                text,
-            )
-        },
+        Answer::Yes => write_yes(
+            n,
+            &model[..model_room(n)],
+            &bounds[..bounds_room(n)],
+            &groups[..groups_room(n)],
+            text,
+        ),
         Answer::No => report_no(&refutation, text),
-        // Never: the buffers are as long as this many variables need.
-        Answer::Refused(_) => 0,
     }
 }
 
@@ -87,10 +82,10 @@ pub fn report_file(bytes: &[u8], text: &mut [u8; TEXT_SIZE]) -> usize
 {
     let mut numbers = [0i32; MOST_NUMBERS];
     match read_within(bytes, MOST_VARIABLES, &mut numbers) {
-        ReadAnswer::Read(z) => report_list(z.n, &numbers[0..LINE_SIZE * z.lines], text),
-        ReadAnswer::Refused(r) => {
-            let s = file_number_and_place(r);
-            write_refused(s.number, s.place, text)
+        Ok(z) => report_list(z.n, &numbers[..LINE_SIZE * z.lines], text),
+        Err(r) => {
+            let numbered = file_number_and_place(r);
+            write_refused(numbered.number, numbered.place, text)
         }
     }
 }
@@ -99,9 +94,5 @@ pub fn report_file(bytes: &[u8], text: &mut [u8; TEXT_SIZE]) -> usize
 pub fn report_input(input: &[u8; INPUT_SIZE], count: usize, text: &mut [u8; TEXT_SIZE]) -> usize
     ensures { InputReported input.now count (take result text.new) × Behind text.old text.new result }
 {
-    let bytes: &[u8] = input;
-    if INPUT_SIZE <= count {
-        return report_file(bytes, text);
-    }
-    report_file(&bytes[0..count], text)
+    report_file(&input[..count.min(INPUT_SIZE)], text)
 }

@@ -1,10 +1,8 @@
 -- What one step of the writing adds to a text.
-use Rattle.std.specs.Prelude.{◌≡◌, refl, List, [], ◌∷◌, ◌++◌, ℕ, zero, suc, ◌+◌, ◌*◌, ◌^◌, ◌<◌, ◌≤◌, T, ℤ, pos, negsuc, nat_abs, ◌+ℤ◌, ◌-ℤ◌, length, get_or, take, drop, set}
-use Rattle.std.proofs.Common.{sym, ap, ◌∙◌, append_assoc, append-nil, add-one, arith, take-suc, Fits, SFits}
-use Rattle.std.specs.Int.Signed.{non_neg}
+use Rattle.std.specs.Prelude.{◌≡◌, refl, List, [], ◌∷◌, ◌++◌, ℕ, zero, suc, ◌+◌, ◌*◌, ◌<◌, ℤ, pos, negsuc, nat_abs, length, get_or, take, drop, set}
+use Rattle.std.proofs.Common.{sym, ap, ◌∙◌, append_assoc, append-nil, add-one, arith, take-suc}
 use Rattle.std.proofs.lemmas.List.{set_split}
 use Rattle.std.proofs.Math.Seq.{append_snoc}
-use Rattle.std.specs.Int.{w64}
 use Rattle.integers.specs.Integer.{◌⩽◌, ◌⋖◌}
 use Rattle.integers.proofs.Linear.{ints}
 use Rattle.lines.specs.Limits.{absent_least, absent_greatest}
@@ -18,31 +16,6 @@ byte_put d at b h =
     ∙ ap (λ (i : ℕ). take at d ++ b ∷ [] ++ drop i d) (sym (add-one at))
 
 -- ---- a number of either sign
--- one more than a number below 0, negated, as the code computes it
-module _ (z : ℤ) where
-  pub more_fits : z ⋖ pos 0 → SFits w64 z → SFits w64 (z +ℤ pos 1)
-  more_fits = simp ints (omega arith)
-
-  pub minus_fits : z ⋖ pos 0 → SFits w64 z → SFits w64 (pos 0 -ℤ (z +ℤ pos 1))
-  minus_fits = simp ints (omega arith)
-
-  pub from_0 : z ⋖ pos 0 → pos 0 ⩽ pos 0 -ℤ (z +ℤ pos 1)
-  from_0 = simp ints (omega arith)
-
-  pub magnitude_is : z ⋖ pos 0 → nat_abs (pos 0 -ℤ (z +ℤ pos 1)) + 1 ≡ nat_abs z
-  magnitude_is = simp ints (omega arith)
-
-  pub magnitude_fits : SFits w64 z → nat_abs z ≤ 2 ^ 63
-  magnitude_fits = simp ints (omega arith)
-
--- a number from 0 on, as an unsigned one
-pub unsigned : (z : ℤ) → pos 0 ⩽ z → SFits w64 z → T (non_neg z) × Fits w64 (nat_abs z)
-unsigned (pos n) h f = (tt, record { fits = omega (arith, f.sfits) })
-unsigned (negsuc n) h f = absurd (no n h)
-  where
-    no : (n : ℕ) → pos 0 ⩽ negsuc n → ⊥
-    no n = simp ints (omega arith)
-
 pub signed_below : (z : ℤ) → z ⋖ pos 0 → minus ++ decimal_of (nat_abs z) ≡ signed_text z
 unfolding signed_text
 signed_below (pos n) h = absurd (no n h)

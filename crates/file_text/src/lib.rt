@@ -3,8 +3,7 @@
 
 #![tactic(auto)]
 
-ghost use Rattle.std.specs.Prelude.{◌≡◌, ◌∷◌, [], ◌+◌, ◌*◌, ◌<◌, ◌≤◌, pos, nat_abs, length};
-ghost use Rattle.integers.specs.Integer.{◌⋖◌};
+ghost use Rattle.std.specs.Prelude.{◌≡◌, ◌∷◌, [], ◌+◌, ◌*◌, ◌<◌, ◌≤◌, length};
 ghost use Rattle.file_text.specs.Text.{decimal_of, signed_text, bound_text, line_text, yes_text, no_text, refused_text};
 ghost use Rattle.file_text.specs.Put.{Put, Wrote};
 ghost use Rattle.file_text.specs.Rooms.{digits_room, signed_room, field_room, line_room};
@@ -26,12 +25,9 @@ fn put_text(out: &mut [u8], at: usize, text: &[u8]) -> usize
     requires { at + length text.now ≤ length out.old }
     ensures { Put (length text.now) at text.now out.old out.new result }
 {
-    let mut i = 0;
-    while i < text.len() {
-        out[at + i] = text[i];
-        i += 1;
-    }
-    at + i
+    let end = at + text.len();
+    out[at..end].copy_from_slice(text);
+    end
 }
 
 // A number in decimal.
@@ -44,14 +40,6 @@ fn put_decimal(out: &mut [u8], at: usize, n: u64) -> usize
     put_text(out, at, &digits[..count])
 }
 
-// A number below 0 without its sign. The lowest of all has no negative that fits, but the one above it has.
-fn magnitude(z: i64) -> u64
-    requires { z ⋖ pos 0 }
-    ensures { result ≡ nat_abs z }
-{
-    -(z + 1) as u64 + 1
-}
-
 // A number in decimal, with its sign where it is below 0.
 fn put_signed(out: &mut [u8], at: usize, z: i64) -> usize
     requires { at + signed_room ≤ length out.old }
@@ -59,9 +47,9 @@ fn put_signed(out: &mut [u8], at: usize, z: i64) -> usize
 {
     if z < 0 {
         let next = put_byte(out, at, b'-');
-        return put_decimal(out, next, magnitude(z));
+        return put_decimal(out, next, z.unsigned_abs());
     }
-    put_decimal(out, at, z as u64)
+    put_decimal(out, at, z.unsigned_abs())
 }
 
 // A bound, or a dot for the number that stands for none.
@@ -131,10 +119,8 @@ pub fn write_yes(n: usize, model: &[i32], bounds: &[i64], groups: &[u32], out: &
     ensures { Wrote (yes_text n model.now bounds.now groups.now) out.old out.new result }
 {
     let mut at = put_text(out, 0, b"yes\n");
-    let mut x = 0;
-    while x < n {
+    for x in 0..n {
         at = put_variable_line(out, at, x, model, bounds, groups);
-        x += 1;
     }
     at
 }
@@ -157,10 +143,8 @@ pub fn write_no(numbers: &[u32], out: &mut [u8]) -> usize
     ensures { Wrote (no_text numbers.now) out.old out.new result }
 {
     let mut at = put_text(out, 0, b"no\n");
-    let mut i = 0;
-    while i < numbers.len() {
-        at = put_next(out, at, i, numbers[i]);
-        i += 1;
+    for (i, number) in numbers.iter().enumerate() {
+        at = put_next(out, at, i, *number);
     }
     put_byte(out, at, b'\n')
 }

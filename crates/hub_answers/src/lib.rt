@@ -40,10 +40,8 @@ fn write_hub_model(weights: &[i64], n: usize, v: i64, model: &mut [i32])
     requires { ModelAsked n weights.now v × (n ≤ length model.old) }
     ensures { model.new ≡ tabulate n (hub_model n (weights_in n weights.now)) ++ drop n model.old }
 {
-    let mut x = 0;
-    while x < n {
+    for x in 0..n {
         model[x] = value_at(weights, n, v, x) as i32;
-        x += 1;
     }
 }
 
@@ -82,10 +80,8 @@ fn write_hub_bounds(weights: &[i64], n: usize, a: i64, b: i64, bounds: &mut [i64
     ensures { bounds.new ≡ tabulate (2 * n) (hub_bound_lem n (weights_in n weights.now)) ++ drop (2 * n) bounds.old }
 {
     let count = 2 * n;
-    let mut i = 0;
-    while i < count {
+    for i in 0..count {
         bounds[i] = hub_bound(weights, n, a, b, i);
-        i += 1;
     }
 }
 
@@ -94,11 +90,9 @@ fn write_own_groups(n: usize, groups: &mut [u32])
     requires { (n ≤ max_variables) × (2 * n ≤ length groups.old) }
     ensures { groups.new ≡ tabulate (2 * n) own_group ++ drop (2 * n) groups.old }
 {
-    let mut x = 0;
-    while x < n {
+    for x in 0..n {
         groups[2 * x] = x as u32;
         groups[2 * x + 1] = 0;
-        x += 1;
     }
 }
 

@@ -51,10 +51,8 @@ pub fn hub_limit(weights: &[i64], n: usize, g: usize) -> i64
 {
     let count = 2 * n;
     let mut limit = own_at(weights, n, g);
-    let mut p = HUB_POINTS;
-    while p < count {
+    for p in HUB_POINTS..count {
         limit = smaller(limit, leaves_at(weights, n, g, p));
-        p += 1;
     }
     limit
 }
@@ -76,12 +74,10 @@ pub fn all_sound(weights: &[i64], n: usize) -> bool
     ensures { result ≡ all_sound_lem n (weights_in n weights.now) }
 {
     let count = 2 * n;
-    let mut p = HUB_POINTS;
-    while p < count {
+    for p in HUB_POINTS..count {
         if !sound_at(weights, n, p) {
             return false;
         }
-        p += 1;
     }
     true
 }
@@ -112,12 +108,10 @@ pub fn all_loose(weights: &[i64], n: usize, v: i64) -> bool
     ensures { result ≡ all_loose_lem n (weights_in n weights.now) v }
 {
     let count = 2 * n;
-    let mut p = HUB_POINTS;
-    while p < count {
+    for p in HUB_POINTS..count {
         if !loose_at(weights, n, v, p) {
             return false;
         }
-        p += 1;
     }
     true
 }

@@ -1,5 +1,5 @@
 -- The weights of steps put into the rows, where they are lower than what stands there.
-use Rattle.std.specs.Prelude.{◌≡◌, refl, ◌⊎◌, Bool, true, false, List, [], ◌∷◌, ◌++◌, ℕ, zero, suc, ◌+◌, ◌*◌, ◌≤◌, ◌<◌, ℤ, pos, length}
+use Rattle.std.specs.Prelude.{◌≡◌, refl, ◌⊎◌, Bool, true, false, List, [], ◌∷◌, ◌++◌, ℕ, zero, suc, ◌+◌, ◌*◌, ◌≤◌, ◌<◌, ℤ, pos, length, None, Option, Some}
 use Rattle.std.proofs.Common.{sym, ap, subst, ◌∙◌, inl, inr, ⊎_elim, mul-le-mul_right, arith}
 use Rattle.std.proofs.Math.Decide.{ℕ_discrete}
 use Rattle.integers.specs.Integer.{◌⩽◌, Within}
@@ -10,8 +10,6 @@ use Rattle.lines.specs.Limits.{max_variables}
 use Rattle.lines.specs.Line.{number, line_count, lines_of}
 use Rattle.lines.specs.Valid.{all_ok}
 use Rattle.steps.specs.declared.Step.{Step}
-use Rattle.steps.specs.declared.NamedStep.{NamedStep}
-use Rattle.steps.specs.declared.NamedStep.TheVariants.{Found, Nothing}
 use Rattle.steps.specs.Point.{opposite}
 use Rattle.steps.specs.Step.{max_weight, step_numbered_lem, steps_of, named}
 use Rattle.theory_walks.specs.Distance.{some, le_refl, le_trans}
@@ -168,11 +166,11 @@ pub puts_all : {n : ℕ} {F : List Step} {w w' : List ℤ} → StepsPut (2 * n) 
 puts_all p = record { scratch = p.lowers.scratch; put = λ _. p }
 
 -- by what a number was found to name
-pub puts_found : {n : ℕ} {s : NamedStep} {t : Step} {w w' : List ℤ} → s ≡ Found t → StepsPut (2 * n) (t ∷ []) w w' → Puts n (named s) w w' true
-puts_found {n} {s} {t} {w} {w'} e p = subst (λ (x : NamedStep). Puts n (named x) w w' true) (sym e) (puts_all p)
+pub puts_found : {n : ℕ} {s : Option Step} {t : Step} {w w' : List ℤ} → s ≡ Some t → StepsPut (2 * n) (t ∷ []) w w' → Puts n (named s) w w' true
+puts_found {n} {s} {t} {w} {w'} e p = subst (λ (x : Option Step). Puts n (named x) w w' true) (sym e) (puts_all p)
 
-pub puts_nothing : {n : ℕ} {s : NamedStep} {w : List ℤ} → s ≡ Nothing → Puts n (named s) w w true
-puts_nothing {n} {s} {w} e = subst (λ (x : NamedStep). Puts n (named x) w w true) (sym e) (puts_all (put_none (2 * n) w))
+pub puts_nothing : {n : ℕ} {s : Option Step} {w : List ℤ} → s ≡ None → Puts n (named s) w w true
+puts_nothing {n} {s} {w} e = subst (λ (x : Option Step). Puts n (named x) w w true) (sym e) (puts_all (put_none (2 * n) w))
 
 -- after the steps with the first k numbers
 pub record Going (n : ℕ) (L w w' : List ℤ) (k : ℕ) : Type 0 where

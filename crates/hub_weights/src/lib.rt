@@ -14,7 +14,7 @@ ghost use Rattle.hub_weights.specs.Put.{Placed, StepReady, StepsPut, Puts};
 use decide_rows::NO_WALK;
 use engine_closed_walk::fill;
 use lines::limits::LINE_SIZE;
-use steps::{NamedStep, Step, opposite_of, step_numbered};
+use steps::{Step, opposite_of, step_numbered};
 
 // The hub's two points are below this. In theory_hub it is `hub_points`.
 pub const HUB_POINTS: usize = 2;
@@ -73,7 +73,7 @@ fn put_numbered(list: &[i32], n: usize, work: &mut [i64], number: usize) -> bool
     ensures { Puts n (named (step_numbered_lem list.now number)) work.old work.new result }
 {
     let named = step_numbered(list, number);
-    if let NamedStep::Found(t) = named {
+    if let Some(t) = named {
         let here = has_place(t.from, t.to);
         if !here {
             return false;
@@ -89,13 +89,11 @@ fn put_steps(list: &[i32], n: usize, work: &mut [i64]) -> bool
     ensures { Puts n (steps_of (lines_of list.now)) work.old work.new result }
 {
     let count = 2 * (list.len() / LINE_SIZE);
-    let mut number = 0;
-    while number < count {
+    for number in 0..count {
         let put = put_numbered(list, n, work, number);
         if !put {
             return false;
         }
-        number += 1;
     }
     true
 }

@@ -1,16 +1,13 @@
 -- The two searches give the answer: what they ask and leave, and why that is right in each way out.
-use Rattle.std.specs.Prelude.{◌≡◌, Bool, not, List, [], ◌∷◌, ◌++◌, ℕ, ◌+◌, ◌*◌, ◌<◌, ◌≤◌, ℤ, pos, length, drop, replicate}
+use Rattle.std.specs.Prelude.{◌≡◌, Bool, not, List, ◌++◌, ℕ, ◌+◌, ◌≤◌, ℤ, pos, length, drop, replicate, Err, Ok, Result}
 use Rattle.std.proofs.Math.Path.{refl, sym, ap}
-use Rattle.std.proofs.Common.{ap₂, subst, ◌∙◌, arith, length-append}
+use Rattle.std.proofs.Common.{ap₂, ◌∙◌, arith, length-append}
 use Rattle.std.proofs.Math.Bool.{true, false}
 use Rattle.std.proofs.lemmas.List.{length-replicate}
 use Rattle.integers.specs.Integer.{Within}
 use Rattle.lines.specs.declared.Line.{Line}
 use Rattle.lines.specs.declared.Refusal.{Refusal}
-use Rattle.lines.specs.declared.Validity.{Validity}
-use Rattle.lines.specs.declared.Validity.TheVariants.{Valid}
-use Rattle.lines.specs.declared.Validity.TheVariants as validity
-use Rattle.lines.specs.Limits.{line_size, max_variables, max_lines, shown_constant_lem}
+use Rattle.lines.specs.Limits.{line_size, max_variables, shown_constant_lem}
 use Rattle.lines.specs.Line.{line_count, lines_of, line_numbers_lem}
 use Rattle.lines.specs.LineNumbers.{length_numbers}
 use Rattle.lines.specs.Refusal.{line_validity_lem, validity_of}
@@ -21,20 +18,20 @@ use Rattle.decide_buffers.specs.Room.{ModelLent, model_lengths_of, model_room_le
 use Rattle.longer_list.specs.Written.{most_numbers}
 use Rattle.decide.specs.Searched.{used_room, SearchReady, Searched}
 use Rattle.decide.specs.Modelled.{ModelAsked, Modelled}
-use Rattle.decide.specs.Decided.{cleared, used_room_law, cleared_is}
+use Rattle.decide.specs.Decided.{used_room_law, cleared_is}
 use Rattle.implied_line.specs.declared.LineAnswer.{LineAnswer}
-use Rattle.implied_line.specs.declared.LineAnswer.TheVariants.{Implied, NotImplied, Unsolvable, Refused}
+use Rattle.implied_line.specs.declared.LineAnswer.TheVariants.{Implied, NotImplied, Unsolvable}
 use Rattle.opposite_line.specs.Opposite.{opposite, opposed, opposed_works, opposed_modellable}
-use Rattle.implied_line.specs.Answer.{question_validity_lem, judged_by, judged, unless_refused, implied_answer, model_left, work_left, AnswersLine}
+use Rattle.implied_line.specs.Answer.{question_validity_lem, judged_by, judged, unless_refused, implied_answer, model_left, AnswersLine}
 
 -- ---- nothing is refused
 pub record LineAsked (n : ℕ) (L : List ℤ) (l : Line) (model work : List ℤ) : Type 0 where
-  pub list : validity_of n L ≡ Valid
-  pub line : line_validity_lem n (line_count L) l ≡ Valid
+  pub list : validity_of n L ≡ Ok tt
+  pub line : line_validity_lem n (line_count L) l ≡ Ok tt
   pub model_room : model_room_lem n ≤ length model
   pub work_room : work_room_lem n ≤ length work
 
-pub asked : (n : ℕ) (L : List ℤ) (l : Line) (b : ModelLent) → question_validity_lem n L l (model_lengths_of b) ≡ Valid → LineAsked n L l b.model b.work
+pub asked : (n : ℕ) (L : List ℤ) (l : Line) (b : ModelLent) → question_validity_lem n L l (model_lengths_of b) ≡ Ok tt → LineAsked n L l b.model b.work
 unfolding question_validity_lem
 asked n L l b e =
     let p = or_valid (validity_of n L) _ e in
@@ -45,7 +42,7 @@ asked n L l b e =
 -- ---- what the searches leave: before model and work, after model' and work'
 pub record LineJudged (n : ℕ) (L : List ℤ) (l : Line) (model work : List ℤ) (answer : LineAnswer) (model' work' : List ℤ) : Type 0 where
   pub is : answer ≡ judged n L l
-  pub model_left_law : model' ≡ model_left n L l answer model
+  pub model_left_law : model' ≡ model_left n L l (Ok answer) model
   pub same_length : length work' ≡ length work
   pub behind : drop (used_room n) work' ≡ drop (used_room n) work
 
@@ -131,25 +128,20 @@ module _ (n : ℕ) (L : List ℤ) (l : Line) (model work : List ℤ) (a : LineAs
 
 -- ---- the call
 module _ (n : ℕ) (L : List ℤ) (l : Line) (b : ModelLent) where
-  pub refused : (r : Refusal) → question_validity_lem n L l (model_lengths_of b) ≡ validity.Refused r → AnswersLine n L l (Refused r) b b
+  pub refused : (r : Refusal) → question_validity_lem n L l (model_lengths_of b) ≡ Err r → AnswersLine n L l (Err r) b b
   unfolding implied_answer
-  refused r e = record { is = sym (ap (λ (v : Validity). unless_refused v (judged n L l)) e); model = refl; work = refl }
+  refused r e = record { is = sym (ap (λ (v : Result Unit Refusal). unless_refused v (judged n L l)) e); model = refl; work = refl }
 
-  module _ (e : question_validity_lem n L l (model_lengths_of b) ≡ Valid) where
+  module _ (e : question_validity_lem n L l (model_lengths_of b) ≡ Ok tt) where
     pub room_left : {x : LineAnswer} {m w : List ℤ} → LineJudged n L l b.model b.work x m w → work_room_lem n ≤ length w
     room_left j = omega (arith, j.same_length, (asked n L l b e).work_room)
 
     pub answers : {x : LineAnswer} {m w : List ℤ} → LineJudged n L l b.model b.work x m w
-        → (v : List ℤ) → v ≡ replicate (work_room_lem n) (pos 0) ++ drop (work_room_lem n) w → AnswersLine n L l x b (record { model = m; work = v })
+        → (v : List ℤ) → v ≡ replicate (work_room_lem n) (pos 0) ++ drop (work_room_lem n) w → AnswersLine n L l (Ok x) b (record { model = m; work = v })
     unfolding implied_answer
     answers {x} {m} {w} j v z =
         record {
-          is = j.is ∙ sym (ap (λ (u : Validity). unless_refused u (judged n L l)) e);
+          is = ap Ok j.is ∙ sym (ap (λ (u : Result Unit Refusal). unless_refused u (judged n L l)) e);
           model = j.model_left_law;
-          work = cleared_is n b.work w v j.behind z ∙ sym (not_refused_clears (verdict_of n (lines_of L)) (verdict_of n (lines_of (opposed L l))) j.is);
+          work = cleared_is n b.work w v j.behind z;
         }
-      where
-        not_refused_clears : (s t : Bool) → x ≡ judged_by s t → work_left n x b.work ≡ cleared n b.work
-        not_refused_clears false t i = ap (λ (y : LineAnswer). work_left n y b.work) i
-        not_refused_clears true false i = ap (λ (y : LineAnswer). work_left n y b.work) i
-        not_refused_clears true true i = ap (λ (y : LineAnswer). work_left n y b.work) i

@@ -1,18 +1,16 @@
 -- What the answers on a line mean, without any algorithm: every solution of the list meets the line, some solution does not, or there is none; and what a no
 -- writes is a solution of the list that does not meet the line.
-use Rattle.std.specs.Prelude.{◌≡◌, refl, ◌↔◌, Bool, true, false, List, ◌++◌, ℕ, ℤ, pos, length}
+use Rattle.std.specs.Prelude.{◌≡◌, refl, ◌↔◌, Bool, true, false, List, ℕ, ℤ, pos, length, Ok}
 use Rattle.std.proofs.Math.Path.{sym}
 use Rattle.std.proofs.Common.{◌∙◌, arith}
 use Rattle.std.proofs.Math.Seq.{ext_get_or}
 use Rattle.integers.specs.Laws.{never}
 use Rattle.integers.specs.Sequence.{length_tabulate}
 use Rattle.lines.specs.declared.Line.{Line}
-use Rattle.lines.specs.declared.Validity.TheVariants.{Valid}
-use Rattle.lines.specs.Limits.{line_size}
 use Rattle.lines.specs.Line.{line_count, lines_of, Assignment, assignment_of, Meets, Solves, Solvable, Entails, Implies, Breaks}
 use Rattle.lines.specs.Refusal.{line_validity_lem, validity_of}
 use Rattle.lines.specs.Solutions.{meets_stable}
-use Rattle.lines.specs.Valid.{Workable, valid_list, workable}
+use Rattle.lines.specs.Valid.{Workable, workable}
 use Rattle.check_soundness.specs.Refutes.{Refutes}
 use Rattle.theory_bounds.specs.Verdict.{verdict_of}
 use Rattle.theory_bounds.specs.Answers.{model_of}
@@ -39,7 +37,7 @@ pub breaks_before : (ls ms : List Line) (l : Line) → Entails ms ls → Breaks 
 breaks_before ls ms l entails b = record { assignment = b.assignment; solves = entails b.assignment b.solves; breaks = b.breaks }
 
 -- ---- of a valid list and a valid line
-module _ (n : ℕ) (L : List ℤ) (l : Line) (valid : validity_of n L ≡ Valid) (line_valid : line_validity_lem n (line_count L) l ≡ Valid) where
+module _ (n : ℕ) (L : List ℤ) (l : Line) (valid : validity_of n L ≡ Ok tt) (line_valid : line_validity_lem n (line_count L) l ≡ Ok tt) where
   list_works : Workable n L
   list_works = workable n L valid
 

@@ -9,35 +9,34 @@ ghost use Rattle.implied_line.specs.Answer.{question_validity_lem, AnswersLine};
 ghost use Rattle.implied_line.specs.Judged.{LineAsked, LineJudged};
 
 use decide::{refuted, refuted_or_modelled};
-use decide_buffers::{MOST_REFUTATION, clear, model_validity, work_room};
+use decide_buffers::{Lengths, MOST_REFUTATION, clear, model_validity, work_room};
 use lines::limits::LINE_SIZE;
-use lines::{Line, Refusal, Validity, line_validity, list_validity};
+use lines::{Line, Refusal, line_validity, list_validity};
 use longer_list::{MOST_NUMBERS, copy_with_line};
 use opposite_line::opposite_line;
 
-// The list implies the line, it does not, or it has no solution; or a refusal.
+// The list implies the line, it does not, or it has no solution.
 #[derive(Clone, Copy)]
 pub enum LineAnswer {
     Implied,
     NotImplied,
     Unsolvable,
-    Refused(Refusal),
 }
 
 // The first refusal that applies: the list's, the line's as if it stood behind the list, then 7 and 8. The buffers are
 // given by their lengths.
-fn question_validity(n: usize, list: &[i32], line: Line, model: usize, work: usize) -> Validity
+fn question_validity(
+    n: usize,
+    list: &[i32],
+    line: Line,
+    model: usize,
+    work: usize,
+) -> Result<(), Refusal>
     ensures { result ≡ question_validity_lem n list.now line (model_lengths model work) }
 {
-    let found = list_validity(n, list);
-    if let Validity::Refused(r) = found {
-        return Validity::Refused(r);
-    }
-    let found = line_validity(n, list.len() / LINE_SIZE, line);
-    if let Validity::Refused(r) = found {
-        return Validity::Refused(r);
-    }
-    model_validity(n, model, work)
+    list_validity(n, list)?;
+    line_validity(n, list.len() / LINE_SIZE, line)?;
+    model_validity(n, Lengths::of_model(model, work))
 }
 
 // The answer by two searches: of the list, and of the list with the opposite line behind it. The second one, where it
@@ -72,16 +71,13 @@ pub fn implied_line(
     line: Line,
     model: &mut [i32],
     work: &mut [i64],
-) -> LineAnswer
+) -> Result<LineAnswer, Refusal>
     ensures { AnswersLine n list.now line result
         (record { model = model.old; work = work.old })
         (record { model = model.new; work = work.new }) }
 {
-    let found = question_validity(n, list, line, model.len(), work.len());
-    if let Validity::Refused(r) = found {
-        return LineAnswer::Refused(r);
-    }
+    question_validity(n, list, line, model.len(), work.len())?;
     let answer = judged_line(n, list, line, model, work);
     clear(work, work_room(n));
-    answer
+    Ok(answer)
 }

@@ -1,11 +1,10 @@
 -- What the pair means, without any algorithm: each of its four numbers is the greatest value of its sum over all solutions, or absent. The meaning fixes
 -- the numbers, an absent one is told from every other, and with lines added each number stays or falls.
-use Rattle.std.specs.Prelude.{◌≡◌, refl, ◌↔◌, true, List, ℕ, zero, suc, ◌<◌, ℤ, pos, neg_ℤ, nat_abs, ◌+ℤ◌, length, get_or}
+use Rattle.std.specs.Prelude.{◌≡◌, refl, ◌↔◌, true, List, ℕ, zero, suc, ◌<◌, ℤ, pos, neg_ℤ, nat_abs, ◌+ℤ◌, length, get_or, Ok}
 use Rattle.std.proofs.Common.{sym, ap₂, ◌∙◌, inl, inr, arith, ext_get_or}
 use Rattle.integers.specs.Integer.{◌⩽◌, ◌⋖◌, Within}
 use Rattle.integers.proofs.Linear.{ints, zs}
 use Rattle.lines.specs.declared.Line.{Line}
-use Rattle.lines.specs.declared.Validity.TheVariants.{Valid}
 use Rattle.lines.specs.Limits.{absent_greatest}
 use Rattle.lines.specs.Line.{lines_of, Solvable, Entails}
 use Rattle.lines.specs.Refusal.{validity_of}
@@ -40,7 +39,7 @@ pub record IsPair (ls : List Line) (x y : ℕ) (pair : Pair) : Type 0 where
   pub greatest : (s u : ℕ) → s < 2 → u < 2 → GreatestWritten ls (sum_of s x u y) (number_for pair s u)
 
 -- ---- the pair off the distances is it
-module _ (n : ℕ) (L : List ℤ) (valid : validity_of n L ≡ Valid) (yes_verdict : verdict_of n (lines_of L) ≡ true) (x y : ℕ) (hx : x < n) (hy : y < n) where
+module _ (n : ℕ) (L : List ℤ) (valid : validity_of n L ≡ Ok tt) (yes_verdict : verdict_of n (lines_of L) ≡ true) (x y : ℕ) (hx : x < n) (hy : y < n) where
   abbrev ls : List Line
   ls = lines_of L
 
@@ -88,7 +87,7 @@ module _ (n : ℕ) (L : List ℤ) (valid : validity_of n L ≡ Valid) (yes_verdi
         go none e k = absurd (no_both_greatest ls (sum_of s x u y) w i (none_sum n ls (lines_ok n L (workable n L valid)) yes_verdict s x u y hs hx hu hy e))
 
 -- ---- whatever is the pair
-module _ (n : ℕ) (L : List ℤ) (valid : validity_of n L ≡ Valid) (yes_verdict : verdict_of n (lines_of L) ≡ true) (x y : ℕ) (hx : x < n) (hy : y < n) where
+module _ (n : ℕ) (L : List ℤ) (valid : validity_of n L ≡ Ok tt) (yes_verdict : verdict_of n (lines_of L) ≡ true) (x y : ℕ) (hx : x < n) (hy : y < n) where
   -- it is what is computed
   pub one_pair : (pair : Pair) → IsPair (lines_of L) x y pair → pair ≡ pair_in_lem (distances n (lines_of L)) x y
   one_pair pair p = ap₂ both (row 0 (omega arith)) (row 1 (omega arith))

@@ -1,9 +1,7 @@
 -- The pair as computed definitions: its four numbers off a table of distances, its refusals, and what a call of it answers and leaves.
-use Rattle.std.specs.Prelude.{Bool, true, false, not, List, [], ◌∷◌, ℕ, ltb, ℤ, pos, length}
+use Rattle.lines.specs.declared.Refusal.{Refusal}
+use Rattle.std.specs.Prelude.{Bool, true, false, not, List, [], ◌∷◌, ℕ, ltb, ℤ, length, Err, None, Ok, Option, Result, Some}
 use Rattle.lines.specs.declared.Refusal.TheVariants.{BadVariable, ShortWorkArea}
-use Rattle.lines.specs.declared.Validity.{Validity}
-use Rattle.lines.specs.declared.Validity.TheVariants.{Valid}
-use Rattle.lines.specs.declared.Validity.TheVariants as validity
 use Rattle.lines.specs.Line.{lines_of}
 use Rattle.lines.specs.Refusal.{◌or_else◌, refuse_if, validity_of}
 use Rattle.steps.specs.Point.{point, opposite}
@@ -13,8 +11,6 @@ use Rattle.theory_bounds.specs.Verdict.{distances, verdict_of}
 use Rattle.decide_buffers.specs.Room.{work_room_lem}
 use Rattle.decide.specs.Decided.{cleared}
 use Rattle.implied_pair.specs.declared.Pair.{Pair}
-use Rattle.implied_pair.specs.declared.PairOutcome.TheVariants.{Implied, Unsolvable, Refused}
-use Rattle.implied_pair.specs.declared.PairAnswer.{PairAnswer}
 
 -- ---- the four numbers
 -- the row of the point p: its greatest sum with y, then with -y
@@ -24,11 +20,8 @@ pair_row D p y = greatest_of (tight D p (opposite (point y 0))) ∷ greatest_of 
 abbrev pub pair_in_lem : Table → ℕ → ℕ → Pair
 pair_in_lem D x y = record { plus = pair_row D (point x 0) y; minus = pair_row D (point x 1) y }
 
-abbrev pub no_pair_lem : Pair
-no_pair_lem = record { plus = pos 0 ∷ pos 0 ∷ []; minus = pos 0 ∷ pos 0 ∷ [] }
-
 -- ---- refusals: the list's; then 5 at place 0 for x and at place 1 for y; then 8
-unfoldable pub pair_validity_lem : ℕ → List ℤ → ℕ → ℕ → ℕ → Validity
+unfoldable pub pair_validity_lem : ℕ → List ℤ → ℕ → ℕ → ℕ → Result Unit Refusal
 pair_validity_lem n L x y size =
     validity_of n L
     or_else refuse_if (not (ltb x n)) (BadVariable 0)
@@ -38,22 +31,22 @@ pair_validity_lem n L x y size =
 -- ---- the call
 -- its answer, and what the work area holds after it
 pub record PairCall : Type 0 where
-  pub answer : PairAnswer
+  pub answer : Result (Option Pair) Refusal
   pub work : List ℤ
 
-abbrev pub called : PairAnswer → List ℤ → PairCall
+abbrev pub called : Result (Option Pair) Refusal → List ℤ → PairCall
 called a w = record { answer = a; work = w }
 
--- by the verdict
-abbrev pub judged : Bool → Pair → PairAnswer
-judged true pair = record { outcome = Implied; pair = pair }
-judged false pair = record { outcome = Unsolvable; pair = no_pair_lem }
+-- by the verdict: the pair, or none where there is no solution
+abbrev pub judged : Bool → Pair → Option Pair
+judged true pair = Some pair
+judged false pair = None
 
 -- a refusal goes first, and leaves the work area as it was
-abbrev pub unless_refused : Validity → PairCall → List ℤ → PairCall
-unless_refused Valid c before = c
-unless_refused (validity.Refused r) c before = called (record { outcome = Refused r; pair = no_pair_lem }) before
+abbrev pub unless_refused : Result Unit Refusal → PairCall → List ℤ → PairCall
+unless_refused (Ok _) c before = c
+unless_refused (Err r) c before = called (Err r) before
 
 unfoldable pub pair_call : ℕ → List ℤ → ℕ → ℕ → List ℤ → PairCall
 pair_call n L x y before =
-    unless_refused (pair_validity_lem n L x y (length before)) (called (judged (verdict_of n (lines_of L)) (pair_in_lem (distances n (lines_of L)) x y)) (cleared n before)) before
+    unless_refused (pair_validity_lem n L x y (length before)) (called (Ok (judged (verdict_of n (lines_of L)) (pair_in_lem (distances n (lines_of L)) x y))) (cleared n before)) before

@@ -7,12 +7,12 @@ ghost use Rattle.steps.specs.Point.{opposite};
 ghost use Rattle.theory_bounds.specs.Tight.{tight};
 ghost use Rattle.decide_rows.specs.Stored.{stored};
 ghost use Rattle.decide_stored_table.specs.Table.{table_of, ShortTable};
-ghost use Rattle.implied_pair.specs.Pair.{pair_row, pair_in_lem, no_pair_lem, called, pair_validity_lem, pair_call};
+ghost use Rattle.implied_pair.specs.Pair.{pair_row, pair_in_lem, called, pair_validity_lem, pair_call};
 
 use decide::refuted;
 use decide_buffers::{MOST_REFUTATION, clear, work_room};
 use decide_stored_table::{entry_at, half_at, tightened};
-use lines::{Refusal, Validity, list_validity};
+use lines::{Refusal, list_validity};
 use steps::opposite_of;
 
 // A row for each sign of x: x + y and x - y, then -x + y and -x - y.
@@ -22,39 +22,21 @@ pub struct Pair {
     pub minus: [i64; 2],
 }
 
-// What came of the question.
-#[derive(Clone, Copy)]
-pub enum PairOutcome {
-    Implied,
-    Unsolvable,
-    Refused(Refusal),
-}
-
-// The pair is all zeros where none is implied.
-#[derive(Clone, Copy)]
-pub struct PairAnswer {
-    pub outcome: PairOutcome,
-    pub pair: Pair,
-}
-
 // The first refusal that applies: the list's, then 5 for x and for y, then 8. The work area is given by its length.
-fn pair_validity(n: usize, list: &[i32], x: usize, y: usize, work: usize) -> Validity
+fn pair_validity(n: usize, list: &[i32], x: usize, y: usize, work: usize) -> Result<(), Refusal>
     ensures { result ≡ pair_validity_lem n list.now x y work }
 {
-    let found = list_validity(n, list);
-    if let Validity::Refused(r) = found {
-        return Validity::Refused(r);
-    }
+    list_validity(n, list)?;
     if n <= x {
-        return Validity::Refused(Refusal::BadVariable(0));
+        return Err(Refusal::BadVariable(0));
     }
     if n <= y {
-        return Validity::Refused(Refusal::BadVariable(1));
+        return Err(Refusal::BadVariable(1));
     }
     if work < work_room(n) {
-        return Validity::Refused(Refusal::ShortWorkArea);
+        return Err(Refusal::ShortWorkArea);
     }
-    Validity::Valid
+    Ok(())
 }
 
 // The greatest sum of the points p and q: the tightened distance from p to the opposite of q.
@@ -89,44 +71,27 @@ fn pair_in(table: &[i64], n: usize, x: usize, y: usize) -> Pair
     Pair { plus, minus }
 }
 
-// Four zeros.
-pub fn no_pair() -> Pair
-    ensures { result ≡ no_pair_lem }
-{
-    let plus = [0; 2];
-    let minus = [0; 2];
-    Pair { plus, minus }
-}
-
 // For the variables x and y of a list of n: the greatest value over all solutions of each sum of the two, with either
-// sign of each; the highest 64-bit number stands for none.
-pub fn implied_pair(n: usize, list: &[i32], x: usize, y: usize, work: &mut [i64]) -> PairAnswer
+// sign of each; the highest 64-bit number stands for none. A list without a solution implies no pair.
+pub fn implied_pair(
+    n: usize,
+    list: &[i32],
+    x: usize,
+    y: usize,
+    work: &mut [i64],
+) -> Result<Option<Pair>, Refusal>
     ensures { called result work.new ≡ pair_call n list.now x y work.old }
 {
-    let found = pair_validity(n, list, x, y, work.len());
-    if let Validity::Refused(r) = found {
-        let pair = no_pair();
-        return PairAnswer {
-            outcome: PairOutcome::Refused(r),
-            pair,
-        };
-    }
+    pair_validity(n, list, x, y, work.len())?;
     let room = work_room(n);
     let mut refutation = [0; MOST_REFUTATION];
     if refuted(list, n, &mut refutation, work) {
         clear(work, room);
-        let pair = no_pair();
-        return PairAnswer {
-            outcome: PairOutcome::Unsolvable,
-            pair,
-        };
+        return Ok(None);
     }
     let size = 2 * n;
     let start = (size + 1) * size;
     let pair = pair_in(&work[start..start + size * size], n, x, y);
     clear(work, room);
-    PairAnswer {
-        outcome: PairOutcome::Implied,
-        pair,
-    }
+    Ok(Some(pair))
 }

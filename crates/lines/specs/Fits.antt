@@ -1,5 +1,5 @@
 -- The numbers of a valid list fit 32 bits, and so do those of a line that is shown.
-use Rattle.std.specs.Prelude.{◌≡◌, refl, Bool, true, false, cond, ◌&&◌, List, [], ◌∷◌, ℕ, zero, suc, ◌+◌, ◌*◌, ◌/◌, ◌%◌, ◌<◌, ◌≤◌, ltb, ℤ, pos, length}
+use Rattle.std.specs.Prelude.{◌≡◌, refl, Bool, true, false, cond, ◌&&◌, List, [], ◌∷◌, ℕ, zero, suc, ◌+◌, ◌*◌, ◌/◌, ◌%◌, ◌<◌, ◌≤◌, ltb, ℤ, pos, length, Ok}
 use Rattle.std.proofs.Common.{subst, arith, ltb-true, ltb-false, SFits}
 use Rattle.std.proofs.Math.ListN.{get_or-eq_default}
 use Rattle.std.specs.Int.Signed.{le_z, lt_z}
@@ -8,7 +8,6 @@ use Rattle.integers.specs.Integer.{eq_z, Within}
 use Rattle.integers.proofs.Linear.{ints, given, given₂}
 use Rattle.integers.specs.Laws.{and_true, eq_z_true}
 use Rattle.lines.specs.declared.Line.{Line}
-use Rattle.lines.specs.declared.Validity.TheVariants.{Valid}
 use Rattle.lines.specs.Limits.{line_size, max_variables, max_constant, shown_constant_lem}
 use Rattle.lines.specs.Line.{number, line_numbers_lem, line_at, line_count}
 use Rattle.lines.specs.LineNumbers.{number_at}
@@ -43,7 +42,7 @@ each_everywhere (z ∷ zs) h zero = h.0
 each_everywhere (z ∷ zs) h (suc i) = each_everywhere zs h.1 i
 
 -- by the rules, whatever the limit of d is: each keeps its own numbers within 32 bits
-line_fits : (most n k : ℕ) (l : Line) → most ≤ shown_constant_lem max_variables → n ≤ max_variables → first_broken (rules_within (pos most)) n k l ≡ Valid → Each (SFits w32) (line_numbers_lem l)
+line_fits : (most n k : ℕ) (l : Line) → most ≤ shown_constant_lem max_variables → n ≤ max_variables → first_broken (rules_within (pos most)) n k l ≡ Ok tt → Each (SFits w32) (line_numbers_lem l)
 unfolding line_numbers_lem
 line_fits most n k l low few e =
     let ok = line_within most n k l e in
@@ -52,10 +51,10 @@ line_fits most n k l low few e =
       (variable_fits n _ _ few v.0, (within_fits 1 _ (omega arith) ok.coefficient_b, (variable_fits n _ _ few v.1, (within_fits most _ low ok.constant, (identifier_fits _ ok.identifier, tt))))),
     )
 
-pub shown_fits : (n k : ℕ) (l : Line) → n ≤ max_variables → shown_validity_lem n k l ≡ Valid → (i : ℕ) → SFits w32 (number (line_numbers_lem l) i)
+pub shown_fits : (n k : ℕ) (l : Line) → n ≤ max_variables → shown_validity_lem n k l ≡ Ok tt → (i : ℕ) → SFits w32 (number (line_numbers_lem l) i)
 shown_fits n k l few e = each_everywhere (line_numbers_lem l) (line_fits (shown_constant_lem n) n k l (omega (arith, few)) few e)
 
-module _ (n : ℕ) (L : List ℤ) (v : validity_of n L ≡ Valid) where
+module _ (n : ℕ) (L : List ℤ) (v : validity_of n L ≡ Ok tt) where
   ok : ListOk n L
   ok = valid_list n L v
 

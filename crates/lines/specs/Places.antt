@@ -1,5 +1,5 @@
 -- A refusal's place is small: it is below any bound that passes the number of lines.
-use Rattle.std.specs.Prelude.{◌≡◌, refl, Bool, not, ℕ, ◌+◌, ◌%◌, ◌<◌, ◌≤◌, eqb, ℤ, pos, length}
+use Rattle.std.specs.Prelude.{◌≡◌, refl, Bool, not, ℕ, ◌+◌, ◌%◌, ◌<◌, ◌≤◌, eqb, ℤ, pos, length, Err, Ok, Result}
 use Rattle.std.proofs.Math.Bool.{true, false}
 use mathlib.Core.List.{List, [], ◌∷◌}
 use Rattle.std.proofs.Common.{arith}
@@ -9,25 +9,23 @@ use Rattle.integers.specs.Sequence.{length_tabulate}
 use Rattle.lines.specs.declared.Line.{Line}
 use Rattle.lines.specs.declared.Refusal.{Refusal}
 use Rattle.lines.specs.declared.Refusal.TheVariants.{TooManyVariables, BrokenLength, TooManyLines}
-use Rattle.lines.specs.declared.Validity.{Validity}
-use Rattle.lines.specs.declared.Validity.TheVariants.{Valid, Refused}
 use Rattle.lines.specs.Limits.{line_size, max_variables, max_lines, max_constant}
 use Rattle.lines.specs.Line.{line_at, line_count, lines_of}
 use Rattle.lines.specs.Refusal.{place_of, ◌or_else◌, refuse_if, Rule, rules_within, first_broken, line_validity_lem, lines_validity_lem, validity_of}
 
-pub data Placed (m : ℕ) : Validity → Type 0 where
-  valid : Placed m Valid
-  refused : {r : Refusal} → place_of r < m → Placed m (Refused r)
+pub data Placed (m : ℕ) : Result Unit Refusal → Type 0 where
+  valid : Placed m (Ok tt)
+  refused : {r : Refusal} → place_of r < m → Placed m (Err r)
 
-pub placed_or : (m : ℕ) (u v : Validity) → Placed m u → Placed m v → Placed m (u or_else v)
-placed_or m Valid v p q = q
-placed_or m (Refused r) v p q = p
+pub placed_or : (m : ℕ) (u v : Result Unit Refusal) → Placed m u → Placed m v → Placed m (u or_else v)
+placed_or m (Ok _) v p q = q
+placed_or m (Err r) v p q = p
 
 pub placed_if : (m : ℕ) (t : Bool) (r : Refusal) → place_of r < m → Placed m (refuse_if t r)
 placed_if m true r h = refused h
 placed_if m false r h = valid
 
-pub place_at : {m : ℕ} {r : Refusal} → Placed m (Refused r) → place_of r < m
+pub place_at : {m : ℕ} {r : Refusal} → Placed m (Err r) → place_of r < m
 place_at (refused h) = h
 
 -- every line rule's place is the line

@@ -1,13 +1,11 @@
 -- The specification's refusals of a list: the first that applies.
-use Rattle.std.specs.Prelude.{Bool, true, false, not, cond, ◌&&◌, List, [], ◌∷◌, ℕ, ◌+◌, ◌%◌, ltb, eqb, ℤ, pos, neg_ℤ, length}
+use Rattle.std.specs.Prelude.{Bool, true, false, not, cond, ◌&&◌, List, [], ◌∷◌, ℕ, ◌+◌, ◌%◌, ltb, eqb, ℤ, pos, neg_ℤ, length, Err, Ok, Result}
 use Rattle.std.specs.Int.Signed.{le_z, lt_z}
 use Rattle.integers.specs.Integer.{eq_z, is_between, is_within_lem}
 use Rattle.lines.specs.declared.Line.{Line}
 use Rattle.lines.specs.declared.Numbered.{Numbered}
 use Rattle.lines.specs.declared.Refusal.{Refusal}
 use Rattle.lines.specs.declared.Refusal.TheVariants.{TooManyVariables, BrokenLength, TooManyLines, BadCoefficient, BadVariable, BadConstant, ShortOutput, ShortWorkArea, WrongModelLength, BadValue, LongRefutation, MisplacedCoefficient, BadIdentifier, AfterNo, NoLines, NotDifference}
-use Rattle.lines.specs.declared.Validity.{Validity}
-use Rattle.lines.specs.declared.Validity.TheVariants.{Valid, Refused}
 use Rattle.lines.specs.Limits.{line_size, max_variables, max_lines, max_constant, shown_constant_lem, max_identifier}
 use Rattle.lines.specs.Line.{line_count, lines_of}
 
@@ -41,13 +39,13 @@ place_of r = (number_and_place r).place
 
 -- the first that applies
 infixr 20 ◌or_else◌
-abbrev pub ◌or_else◌ : Validity → Validity → Validity
-Valid or_else v = v
-Refused r or_else v = Refused r
+abbrev pub ◌or_else◌ : Result Unit Refusal → Result Unit Refusal → Result Unit Refusal
+Ok _ or_else v = v
+Err r or_else v = Err r
 
-abbrev pub refuse_if : Bool → Refusal → Validity
-refuse_if true r = Refused r
-refuse_if false r = Valid
+abbrev pub refuse_if : Bool → Refusal → Result Unit Refusal
+refuse_if true r = Err r
+refuse_if false r = Ok tt
 
 -- ---- the rules of a line
 -- 4: both coefficients are -1, 0 or 1
@@ -99,8 +97,8 @@ unfolding coefficients_ok_lem variable_ok_lem variables_ok_lem lone_ok_lem const
 line_tests = tt
 
 -- the first rule that line number k breaks
-abbrev pub first_broken : List Rule → ℕ → ℕ → Line → Validity
-first_broken [] n k l = Valid
+abbrev pub first_broken : List Rule → ℕ → ℕ → Line → Result Unit Refusal
+first_broken [] n k l = Ok tt
 first_broken (r ∷ rs) n k l = refuse_if (not (r.ok n l)) (r.refusal k) or_else first_broken rs n k l
 
 -- the test of the rule that has this refusal, wherever it stands
@@ -108,20 +106,20 @@ abbrev pub rule_of : (ℕ → Refusal) → List Rule → ℕ → Line → Bool
 rule_of refusal [] n l = true
 rule_of refusal (r ∷ rs) n l = cond (eqb (number_of (r.refusal 0)) (number_of (refusal 0))) (r.ok n l) (rule_of refusal rs n l)
 
-abbrev pub line_validity_lem : ℕ → ℕ → Line → Validity
+abbrev pub line_validity_lem : ℕ → ℕ → Line → Result Unit Refusal
 line_validity_lem n k l = first_broken line_rules n k l
 
 -- of a line that is shown, whose d has its own limit
-abbrev pub shown_validity_lem : ℕ → ℕ → Line → Validity
+abbrev pub shown_validity_lem : ℕ → ℕ → Line → Result Unit Refusal
 shown_validity_lem n k l = first_broken (rules_within (pos (shown_constant_lem n))) n k l
 
 -- lines from the first, which has number k
-unfoldable pub lines_validity_lem : ℕ → ℕ → List Line → Validity
-lines_validity_lem n k [] = Valid
+unfoldable pub lines_validity_lem : ℕ → ℕ → List Line → Result Unit Refusal
+lines_validity_lem n k [] = Ok tt
 lines_validity_lem n k (l ∷ ls) = line_validity_lem n k l or_else lines_validity_lem n (k + 1) ls
 
 -- 1, 2, 3; then lines from the first
-unfoldable pub validity_of : ℕ → List ℤ → Validity
+unfoldable pub validity_of : ℕ → List ℤ → Result Unit Refusal
 validity_of n L =
     refuse_if (ltb max_variables n) TooManyVariables
     or_else refuse_if (not (eqb (length L % line_size) 0)) BrokenLength

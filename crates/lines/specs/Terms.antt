@@ -1,5 +1,5 @@
 -- The terms of a line that are not zero: with its d and its identifier they determine a valid line, and so those of all lines a valid list.
-use Rattle.std.specs.Prelude.{◌≡◌, refl, Bool, true, false, cond, ◌&&◌, List, [], ◌∷◌, ◌++◌, ℕ, ◌<◌, ℤ, pos, get_or}
+use Rattle.std.specs.Prelude.{◌≡◌, refl, Bool, true, false, cond, ◌&&◌, List, [], ◌∷◌, ◌++◌, ℕ, ◌<◌, ℤ, pos, get_or, Ok}
 use Rattle.std.proofs.Common.{sym, ap, ◌∙◌, arith}
 use Rattle.std.specs.Int.Signed.{le_z, lt_z}
 use Rattle.integers.specs.Integer.{eq_z}
@@ -7,7 +7,6 @@ use Rattle.integers.specs.Laws.{never, eq_z_true}
 use Rattle.integers.specs.Sequence.{tabulate, tabulate_cong}
 use Rattle.lines.specs.declared.Line.{Line}
 use Rattle.lines.specs.declared.Refusal.TheVariants.{MisplacedCoefficient}
-use Rattle.lines.specs.declared.Validity.TheVariants.{Valid}
 use Rattle.lines.specs.Line.{line_at, line_count, numbers_of}
 use Rattle.lines.specs.LineNumbers.{numbers_of_lines}
 use Rattle.lines.specs.Refusal.{variable_ok_lem, lone_ok_lem, line_validity_lem, validity_of}
@@ -42,7 +41,7 @@ line_with ts d i =
     record { a = (term_at ts 0).coefficient; x = (term_at ts 0).variable; b = (term_at ts 1).coefficient; y = (term_at ts 1).variable; d = d; identifier = i }
 
 -- by rule 12 a coefficient 0 in the first place has another in the second, by rule 5 the variable beside it is 0
-line_with_terms : (n k : ℕ) (l : Line) → line_validity_lem n k l ≡ Valid → line_with (terms_of l) l.d l.identifier ≡ l
+line_with_terms : (n k : ℕ) (l : Line) → line_validity_lem n k l ≡ Ok tt → line_with (terms_of l) l.d l.identifier ≡ l
 unfolding terms_of variable_ok_lem lone_ok_lem
 line_with_terms n k l e =
     let v = line_variables n k l e in
@@ -77,12 +76,12 @@ line_with_terms n k l e =
     go false false a b x y lone = refl
 
 -- ---- so two valid lines with the same terms, d and identifier are one
-pub line_by_terms : (n m j k : ℕ) (l o : Line) → line_validity_lem n j l ≡ Valid → line_validity_lem m k o ≡ Valid
+pub line_by_terms : (n m j k : ℕ) (l o : Line) → line_validity_lem n j l ≡ Ok tt → line_validity_lem m k o ≡ Ok tt
     → terms_of l ≡ terms_of o → l.d ≡ o.d → l.identifier ≡ o.identifier → l ≡ o
 line_by_terms n m j k l o v w t d i = sym (line_with_terms n j l v) ∙ (λ r. line_with (t r) (d r) (i r)) ∙ line_with_terms m k o w
 
 -- and two valid lists whose lines mean the same are one
-pub list_by_terms : (n m : ℕ) (L M : List ℤ) → validity_of n L ≡ Valid → validity_of m M ≡ Valid → SameTerms L M → L ≡ M
+pub list_by_terms : (n m : ℕ) (L M : List ℤ) → validity_of n L ≡ Ok tt → validity_of m M ≡ Ok tt → SameTerms L M → L ≡ M
 list_by_terms n m L M v w same =
     sym (numbers_of_lines L (omega (arith, (valid_list n L v).whole)))
     ∙ ap numbers_of (tabulate_cong (line_count L) (line_at L) (line_at M) each ∙ ap (λ (c : ℕ). tabulate c (line_at M)) same.count)

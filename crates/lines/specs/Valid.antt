@@ -1,5 +1,5 @@
 -- What a valid list grants: its limits, and of each line what the rules say; and what deciding asks of a list, which is less.
-use Rattle.std.specs.Prelude.{◌≡◌, refl, Bool, true, false, not, cond, ◌&&◌, List, [], ◌∷◌, ◌++◌, ℕ, zero, suc, ◌+◌, ◌%◌, ◌<◌, ◌≤◌, ltb, eqb, ℤ, pos, nat_abs, length, drop}
+use Rattle.std.specs.Prelude.{◌≡◌, refl, Bool, true, false, not, cond, ◌&&◌, List, [], ◌∷◌, ◌++◌, ℕ, zero, suc, ◌+◌, ◌%◌, ◌<◌, ◌≤◌, ltb, eqb, ℤ, pos, nat_abs, length, drop, Err, Ok, Result}
 use Rattle.std.proofs.Common.{sym, ap, subst, ◌∙◌, add-one, arith, ltb-false, le-ltb, eq-eqb, eqb-true, length-append}
 use Rattle.std.proofs.Math.Decide.{dec_lt}
 use Rattle.std.proofs.lemmas.Bool.{not-false}
@@ -12,8 +12,6 @@ use Rattle.integers.specs.Sequence.{tabulate}
 use Rattle.lines.specs.declared.Line.{Line}
 use Rattle.lines.specs.declared.Refusal.{Refusal}
 use Rattle.lines.specs.declared.Refusal.TheVariants.{TooManyVariables, BrokenLength, TooManyLines, BadCoefficient, BadVariable, BadConstant, BadIdentifier}
-use Rattle.lines.specs.declared.Validity.{Validity}
-use Rattle.lines.specs.declared.Validity.TheVariants.{Valid, Refused}
 use Rattle.lines.specs.Limits.{line_size, max_variables, max_lines, max_constant, shown_constant_lem, work_lines, work_constant, model_constant, max_identifier}
 use Rattle.lines.specs.Line.{line_numbers_lem, line_at, line_count, lines_of}
 use Rattle.lines.specs.Refusal.{number_of, ◌or_else◌, refuse_if, coefficients_ok_lem, variable_ok_lem, variables_ok_lem, constant_ok_lem, identifier_ok_lem, Rule, rules_within, line_rules, first_broken, rule_of, line_validity_lem, shown_validity_lem, lines_validity_lem, validity_of}
@@ -68,14 +66,14 @@ pub record ListOk (n : ℕ) (L : List ℤ) : Type 0 where
   pub variables : n ≤ max_variables
   pub whole : length L % line_size ≡ 0
   pub count : line_count L ≤ max_lines
-  pub each : (k : ℕ) → k < line_count L → line_validity_lem n k (line_at L k) ≡ Valid
+  pub each : (k : ℕ) → k < line_count L → line_validity_lem n k (line_at L k) ≡ Ok tt
   pub lines : LinesOk n L
 
-pub or_valid : (u v : Validity) → (u or_else v) ≡ Valid → (u ≡ Valid) × (v ≡ Valid)
-or_valid Valid v e = (refl, e)
-or_valid (Refused r) v e = never (cc)
+pub or_valid : (u v : Result Unit Refusal) → (u or_else v) ≡ Ok tt → (u ≡ Ok tt) × (v ≡ Ok tt)
+or_valid (Ok _) v e = (refl, e)
+or_valid (Err r) v e = never (cc)
 
-pub not_refused : (t : Bool) (r : Refusal) → refuse_if t r ≡ Valid → t ≡ false
+pub not_refused : (t : Bool) (r : Refusal) → refuse_if t r ≡ Ok tt → t ≡ false
 not_refused true r e = never (cc)
 not_refused false r e = refl
 
@@ -92,10 +90,10 @@ identifier_ok i e =
 
 -- the rules of a line that none breaks
 module _ (n k : ℕ) (l : Line) where
-  holds : (r : Rule) {v : Validity} → (refuse_if (not (r.ok n l)) (r.refusal k) or_else v) ≡ Valid → (r.ok n l ≡ true) × (v ≡ Valid)
+  holds : (r : Rule) {v : Result Unit Refusal} → (refuse_if (not (r.ok n l)) (r.refusal k) or_else v) ≡ Ok tt → (r.ok n l ≡ true) × (v ≡ Ok tt)
   holds r e = let p = or_valid _ _ e in (not-false _ (not_refused _ _ p.0), p.1)
 
-  holds_in : (rs : List Rule) (refusal : ℕ → Refusal) → first_broken rs n k l ≡ Valid → rule_of refusal rs n l ≡ true
+  holds_in : (rs : List Rule) (refusal : ℕ → Refusal) → first_broken rs n k l ≡ Ok tt → rule_of refusal rs n l ≡ true
   holds_in [] refusal e = refl
   holds_in (r ∷ rs) refusal e = let h = holds r e in go (eqb (number_of (r.refusal 0)) (number_of (refusal 0))) h.0 (holds_in rs refusal h.1)
     where
@@ -104,10 +102,10 @@ module _ (n k : ℕ) (l : Line) where
       go false x y = y
 
   -- the rule that has this refusal holds
-  rule_within : (most : ℕ) (refusal : ℕ → Refusal) → first_broken (rules_within (pos most)) n k l ≡ Valid → rule_of refusal (rules_within (pos most)) n l ≡ true
+  rule_within : (most : ℕ) (refusal : ℕ → Refusal) → first_broken (rules_within (pos most)) n k l ≡ Ok tt → rule_of refusal (rules_within (pos most)) n l ≡ true
   rule_within most = holds_in (rules_within (pos most))
 
-  pub rule_holds : (refusal : ℕ → Refusal) → line_validity_lem n k l ≡ Valid → rule_of refusal line_rules n l ≡ true
+  pub rule_holds : (refusal : ℕ → Refusal) → line_validity_lem n k l ≡ Ok tt → rule_of refusal line_rules n l ≡ true
   rule_holds = rule_within max_constant
 
   -- rules that hold among m variables where they hold among n: none is broken there either, whatever the line's number is
@@ -116,12 +114,12 @@ module _ (n k : ℕ) (l : Line) where
     HoldMore [] = Unit {0}
     HoldMore (r ∷ rs) = (r.ok n l ≡ true → r.ok m l ≡ true) × HoldMore rs
 
-    none_more : (rs : List Rule) → HoldMore rs → first_broken rs n k l ≡ Valid → first_broken rs m j l ≡ Valid
+    none_more : (rs : List Rule) → HoldMore rs → first_broken rs n k l ≡ Ok tt → first_broken rs m j l ≡ Ok tt
     none_more [] more e = refl
     none_more (r ∷ rs) more e = let h = holds r e in rw (more.0 h.0) (none_more rs more.1 h.1)
 
 -- whatever the limit of d is
-module _ (most n k : ℕ) (l : Line) (e : first_broken (rules_within (pos most)) n k l ≡ Valid) where
+module _ (most n k : ℕ) (l : Line) (e : first_broken (rules_within (pos most)) n k l ≡ Ok tt) where
   pub variables_within : (variable_ok_lem n l.a l.x ≡ true) × (variable_ok_lem n l.b l.y ≡ true)
   unfolding variables_ok_lem
   variables_within = and_true (variable_ok_lem n l.a l.x) (variable_ok_lem n l.b l.y) (rule_within n k l most BadVariable e)
@@ -140,10 +138,10 @@ module _ (most n k : ℕ) (l : Line) (e : first_broken (rules_within (pos most))
         identifier = identifier_ok l.identifier (rule_within n k l most BadIdentifier e);
       }
 
-pub line_variables : (n k : ℕ) (l : Line) → line_validity_lem n k l ≡ Valid → (variable_ok_lem n l.a l.x ≡ true) × (variable_ok_lem n l.b l.y ≡ true)
+pub line_variables : (n k : ℕ) (l : Line) → line_validity_lem n k l ≡ Ok tt → (variable_ok_lem n l.a l.x ≡ true) × (variable_ok_lem n l.b l.y ≡ true)
 line_variables = variables_within max_constant
 
-pub line_ok : (n k : ℕ) (l : Line) → line_validity_lem n k l ≡ Valid → LineOk n l
+pub line_ok : (n k : ℕ) (l : Line) → line_validity_lem n k l ≡ Ok tt → LineOk n l
 line_ok = line_within max_constant
 
 line_wider : (most more n : ℕ) (l : Line) → most ≤ more → LineWithin most n l → LineWithin more n l
@@ -164,20 +162,20 @@ pub modellable_works : (n : ℕ) (L : List ℤ) → Modellable n L → Workable 
 modellable_works n L o =
     record { variables = o.variables; whole = o.whole; count = o.count; lines = λ k h. line_works model_constant n (line_at L k) (omega arith) (o.lines k h) }
 
-module _ (n : ℕ) (L : List ℤ) (e : lines_validity_lem n 0 (lines_of L) ≡ Valid) where
+module _ (n : ℕ) (L : List ℤ) (e : lines_validity_lem n 0 (lines_of L) ≡ Ok tt) where
   -- none is refused from line k on, so neither line k nor what comes after it is
-  parts : (k : ℕ) → k < line_count L → lines_validity_lem n k (drop k (lines_of L)) ≡ Valid
-      → (line_validity_lem n k (line_at L k) ≡ Valid) × (lines_validity_lem n (k + 1) (drop (k + 1) (lines_of L)) ≡ Valid)
+  parts : (k : ℕ) → k < line_count L → lines_validity_lem n k (drop k (lines_of L)) ≡ Ok tt
+      → (line_validity_lem n k (line_at L k) ≡ Ok tt) × (lines_validity_lem n (k + 1) (drop (k + 1) (lines_of L)) ≡ Ok tt)
   parts k h v = or_valid (line_validity_lem n k (line_at L k)) _ (sym (validity_from L n k h) ∙ v)
 
-  from : (k : ℕ) → k ≤ line_count L → lines_validity_lem n k (drop k (lines_of L)) ≡ Valid
+  from : (k : ℕ) → k ≤ line_count L → lines_validity_lem n k (drop k (lines_of L)) ≡ Ok tt
   from zero h = e
   from (suc k) h = rw (← add-one k) (parts k h (from k (omega arith))).1
 
-  each_valid : (k : ℕ) → k < line_count L → line_validity_lem n k (line_at L k) ≡ Valid
+  each_valid : (k : ℕ) → k < line_count L → line_validity_lem n k (line_at L k) ≡ Ok tt
   each_valid k h = (parts k h (from k (omega arith))).0
 
-pub valid_list : (n : ℕ) (L : List ℤ) → validity_of n L ≡ Valid → ListOk n L
+pub valid_list : (n : ℕ) (L : List ℤ) → validity_of n L ≡ Ok tt → ListOk n L
 unfolding validity_of
 valid_list n L e =
     let p = or_valid _ _ e in
@@ -192,7 +190,7 @@ valid_list n L e =
     }
 
 -- of a valid list
-module _ (most n : ℕ) (L : List ℤ) (wide : max_constant ≤ most) (e : validity_of n L ≡ Valid) where
+module _ (most n : ℕ) (L : List ℤ) (wide : max_constant ≤ most) (e : validity_of n L ≡ Ok tt) where
   lines_within : (k : ℕ) → k < line_count L → LineWithin most n (line_at L k)
   lines_within k h = line_wider max_constant most n (line_at L k) wide (line_ok n k (line_at L k) ((valid_list n L e).each k h))
 
@@ -217,24 +215,24 @@ module _ (most n : ℕ) (L : List ℤ) (wide : max_constant ≤ most) (e : valid
           let z : k ≡ line_count L = omega arith in
           subst (LineWithin most n) (sym (ap (line_at (L ++ line_numbers_lem l)) z ∙ line_last L l (valid_list n L e).whole)) ok
 
-pub workable : (n : ℕ) (L : List ℤ) → validity_of n L ≡ Valid → Workable n L
+pub workable : (n : ℕ) (L : List ℤ) → validity_of n L ≡ Ok tt → Workable n L
 workable n L e = works_within work_constant n L (omega arith) e
 
-pub modellable : (n : ℕ) (L : List ℤ) → validity_of n L ≡ Valid → Modellable n L
+pub modellable : (n : ℕ) (L : List ℤ) → validity_of n L ≡ Ok tt → Modellable n L
 modellable n L e = works_within model_constant n L (omega arith) e
 
 -- and the other way round: what is within the limits, and has no line that breaks a rule, is valid
-pub list_valid : (n : ℕ) (L : List ℤ) → n ≤ max_variables → length L % line_size ≡ 0 → line_count L ≤ max_lines → lines_validity_lem n 0 (lines_of L) ≡ Valid → validity_of n L ≡ Valid
+pub list_valid : (n : ℕ) (L : List ℤ) → n ≤ max_variables → length L % line_size ≡ 0 → line_count L ≤ max_lines → lines_validity_lem n 0 (lines_of L) ≡ Ok tt → validity_of n L ≡ Ok tt
 unfolding validity_of
 list_valid n L few whole count lines = rw (le-ltb max_variables n few, eq-eqb (length L % line_size) 0 whole, le-ltb max_lines (line_count L) count, lines)
 
 -- ---- a list of whole lines with which a valid list begins is valid
-front_valid : (n k : ℕ) (ls ms : List Line) → lines_validity_lem n k (ls ++ ms) ≡ Valid → lines_validity_lem n k ls ≡ Valid
+front_valid : (n k : ℕ) (ls ms : List Line) → lines_validity_lem n k (ls ++ ms) ≡ Ok tt → lines_validity_lem n k ls ≡ Ok tt
 unfolding lines_validity_lem
 front_valid n k [] ms e = refl
 front_valid n k (l ∷ ls) ms e = let p = or_valid (line_validity_lem n k l) _ e in rw p.0 (front_valid n (k + 1) ls ms p.1)
 
-pub shorter_valid : (n : ℕ) (L M : List ℤ) → length L % line_size ≡ 0 → validity_of n (L ++ M) ≡ Valid → validity_of n L ≡ Valid
+pub shorter_valid : (n : ℕ) (L M : List ℤ) → length L % line_size ≡ 0 → validity_of n (L ++ M) ≡ Ok tt → validity_of n L ≡ Ok tt
 unfolding validity_of
 shorter_valid n L M whole e =
     let o = valid_list n (L ++ M) e in
@@ -280,18 +278,18 @@ variables_more n m l h e =
     rw (x, y)
 
 -- whatever the line's number is
-pub line_valid_more : (n m k j : ℕ) (l : Line) → n ≤ m → line_validity_lem n k l ≡ Valid → line_validity_lem m j l ≡ Valid
+pub line_valid_more : (n m k j : ℕ) (l : Line) → n ≤ m → line_validity_lem n k l ≡ Ok tt → line_validity_lem m j l ≡ Ok tt
 line_valid_more n m k j l h = none_more n k l m j line_rules (search (variables_more n m l h))
 
-pub shown_anywhere : (n k j : ℕ) (l : Line) → shown_validity_lem n k l ≡ Valid → shown_validity_lem n j l ≡ Valid
+pub shown_anywhere : (n k j : ℕ) (l : Line) → shown_validity_lem n k l ≡ Ok tt → shown_validity_lem n j l ≡ Ok tt
 shown_anywhere n k j l = none_more n k l n j (rules_within (pos (shown_constant_lem n))) (search (variables_more n n l))
 
 -- lines of which none breaks a rule, whatever their numbers are
-pub lines_valid : (n c : ℕ) (f : ℕ → Line) (k : ℕ) → ((i : ℕ) → i < c → line_validity_lem n 0 (f i) ≡ Valid) → lines_validity_lem n k (tabulate c f) ≡ Valid
+pub lines_valid : (n c : ℕ) (f : ℕ → Line) (k : ℕ) → ((i : ℕ) → i < c → line_validity_lem n 0 (f i) ≡ Ok tt) → lines_validity_lem n k (tabulate c f) ≡ Ok tt
 unfolding lines_validity_lem
 lines_valid n zero f k h = refl
 lines_valid n (suc c) f k h =
-    let first : line_validity_lem n k (f 0) ≡ Valid = line_valid_more n n 0 k (f 0) (omega arith) (h 0 (omega arith)) in
+    let first : line_validity_lem n k (f 0) ≡ Ok tt = line_valid_more n n 0 k (f 0) (omega arith) (h 0 (omega arith)) in
     rw first (lines_valid n c (λ i. f (suc i)) (k + 1) (λ i l. h (suc i) (omega arith)))
 
 -- the same of some lines

@@ -1,5 +1,5 @@
 -- The line 0 ≤ 0, which every assignment meets; and a line from its numbers.
-use Rattle.std.specs.Prelude.{◌≡◌, refl, List, [], ◌++◌, ℕ, ◌<◌, ℤ, pos, ◌+ℤ◌, replicate}
+use Rattle.std.specs.Prelude.{◌≡◌, refl, List, [], ◌++◌, ℕ, ◌<◌, ℤ, pos, ◌+ℤ◌, replicate, Ok}
 use Rattle.std.proofs.Common.{sym, ap, ap₂, subst, ◌∙◌, arith, get_or-take, take_all}
 use Rattle.std.proofs.Math.IntN.{zero-*ℤ}
 use Rattle.std.proofs.lemmas.List.{length-replicate, get_or-replicate}
@@ -7,7 +7,6 @@ use Rattle.integers.specs.Integer.{◌⩽◌}
 use Rattle.integers.proofs.Linear.{ints}
 use Rattle.integers.specs.Sequence.{tabulate, tabulate_cong, tabulate_get_d}
 use Rattle.lines.specs.declared.Line.{Line}
-use Rattle.lines.specs.declared.Validity.TheVariants.{Valid}
 use Rattle.lines.specs.Limits.{line_size}
 use Rattle.lines.specs.Line.{number, line_numbers_lem, line_of, Assignment, left_side_lem, Meets}
 use Rattle.lines.specs.LineNumbers.{length_numbers, line_of_numbers, numbers_of_line}
@@ -28,7 +27,7 @@ pub zero_met : (s : Assignment) → Meets s zero_line
 unfolding left_side_lem
 zero_met s = subst (λ (z : ℤ). z ⩽ pos 0) (sym (ap₂ (λ (p q : ℤ). p +ℤ q) (zero-*ℤ (s 0)) (zero-*ℤ (s 0)))) (simp ints (omega arith))
 
-pub zero_valid : (n k : ℕ) → line_validity_lem n k zero_line ≡ Valid
+pub zero_valid : (n k : ℕ) → line_validity_lem n k zero_line ≡ Ok tt
 unfolding line_tests
 zero_valid n k = refl
 

@@ -47,13 +47,6 @@ pub enum Refusal {
     NotDifference(usize),
 }
 
-// Whether something is refused, and by what.
-#[derive(Clone, Copy)]
-pub enum Validity {
-    Valid,
-    Refused(Refusal),
-}
-
 // The specification's number and place of a refusal.
 #[derive(Clone, Copy)]
 pub struct Numbered {
@@ -174,24 +167,24 @@ fn identifier_ok(line: Line) -> bool
 }
 
 // What was found before, or else the refusal of a rule that is broken.
-fn or_unless(found: Validity, ok: bool, r: Refusal) -> Validity
+fn or_unless(found: Result<(), Refusal>, ok: bool, r: Refusal) -> Result<(), Refusal>
     ensures { result ≡ (found or_else refuse_if (not ok) r) }
 {
-    if let Validity::Refused(q) = found {
-        return Validity::Refused(q);
+    if let Err(q) = found {
+        return Err(q);
     }
     if ok {
-        return Validity::Valid;
+        return Ok(());
     }
-    Validity::Refused(r)
+    Err(r)
 }
 
 // The first rule that line number k breaks, with a limit for d: a line here for each, in the order of specs/Refusal.antt.
-fn validity_within(most: i64, n: usize, k: usize, line: Line) -> Validity
+fn validity_within(most: i64, n: usize, k: usize, line: Line) -> Result<(), Refusal>
     requires { Within work_constant most × (n ≤ max_variables) }
     ensures { result ≡ first_broken (rules_within most) n k line }
 {
-    let found = Validity::Valid;
+    let found = Ok(());
     let found = or_unless(found, coefficients_ok(line), Refusal::BadCoefficient(k));
     let found = or_unless(found, variables_ok(n, line), Refusal::BadVariable(k));
     let found = or_unless(found, lone_ok(line), Refusal::MisplacedCoefficient(k));
@@ -201,7 +194,7 @@ fn validity_within(most: i64, n: usize, k: usize, line: Line) -> Validity
 }
 
 // The first rule that line number k of a list breaks.
-pub fn line_validity(n: usize, k: usize, line: Line) -> Validity
+pub fn line_validity(n: usize, k: usize, line: Line) -> Result<(), Refusal>
     requires { n ≤ max_variables }
     ensures { result ≡ line_validity_lem n k line }
 {
@@ -209,7 +202,7 @@ pub fn line_validity(n: usize, k: usize, line: Line) -> Validity
 }
 
 // The first rule that a line breaks which is shown, as line number k.
-pub fn shown_validity(n: usize, k: usize, line: Line) -> Validity
+pub fn shown_validity(n: usize, k: usize, line: Line) -> Result<(), Refusal>
     requires { n ≤ max_variables }
     ensures { result ≡ shown_validity_lem n k line }
 {
@@ -217,34 +210,29 @@ pub fn shown_validity(n: usize, k: usize, line: Line) -> Validity
 }
 
 // The first refusal among the lines.
-fn lines_validity(n: usize, list: &[i32]) -> Validity
+fn lines_validity(n: usize, list: &[i32]) -> Result<(), Refusal>
     requires { n ≤ max_variables }
     ensures { result ≡ lines_validity_lem n 0 (lines_of list.now) }
 {
     let count = list.len() / LINE_SIZE;
-    let mut k = 0;
-    while k < count {
-        let found = line_validity(n, k, line_at(list, k));
-        if let Validity::Refused(r) = found {
-            return Validity::Refused(r);
-        }
-        k += 1;
+    for k in 0..count {
+        line_validity(n, k, line_at(list, k))?;
     }
-    Validity::Valid
+    Ok(())
 }
 
 // The first refusal that applies to a list for n variables.
-pub fn list_validity(n: usize, list: &[i32]) -> Validity
+pub fn list_validity(n: usize, list: &[i32]) -> Result<(), Refusal>
     ensures { result ≡ validity_of n list.now }
 {
     if MAX_VARIABLES < n {
-        return Validity::Refused(Refusal::TooManyVariables);
+        return Err(Refusal::TooManyVariables);
     }
     if list.len() % LINE_SIZE != 0 {
-        return Validity::Refused(Refusal::BrokenLength);
+        return Err(Refusal::BrokenLength);
     }
     if MAX_LINES < list.len() / LINE_SIZE {
-        return Validity::Refused(Refusal::TooManyLines);
+        return Err(Refusal::TooManyLines);
     }
     lines_validity(n, list)
 }

@@ -87,7 +87,7 @@ module _ {A : Type 0} where
       ∙ ap (λ (m : List A). set m (i + 3) d) (put_one l i (a ∷ b ∷ []) (i + 2) c refl)
       ∙ put_one l i (a ∷ b ∷ c ∷ []) (i + 3) d refl
 
--- ---- the bits of a signed number z, as the code computes them
+-- ---- the bits of a signed number z
 -- one that is not negative is its own bits
 pub cast_up : (z : ℤ) → le_z (pos 0) z ≡ true → SFits w32 z → T (non_neg z) × Fits w32 (nat_abs z)
 cast_up (pos n) e f = (tt, record { fits = omega (arith, f.sfits) })

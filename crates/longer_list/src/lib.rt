@@ -18,11 +18,7 @@ pub fn copy_to(numbers: &[i32], list: &mut [i32])
     requires { length numbers.now ≤ length list.old }
     ensures { list.new ≡ numbers.now ++ drop (length numbers.now) list.old }
 {
-    let mut i = 0;
-    while i < numbers.len() {
-        list[i] = numbers[i];
-        i += 1;
-    }
+    list[..numbers.len()].copy_from_slice(numbers);
 }
 
 // Writes the numbers of a line to the front of a list.
@@ -30,8 +26,7 @@ pub fn write_line(list: &mut [i32], line: Line)
     requires { line_size ≤ length list.old }
     ensures { list.new ≡ line_numbers_lem line ++ drop line_size list.old }
 {
-    let numbers = line_numbers(line);
-    copy_to(&numbers, list);
+    copy_to(&line_numbers(line), list);
 }
 
 // Copies the numbers of a list, and those of one line more, to the front of a longer one.

@@ -1,12 +1,11 @@
 -- The opposite of a line: an assignment meets it exactly if it does not meet the line. A valid list with the opposite of a line behind it is one that
 -- deciding works on, and its solutions are those of the list that do not meet the line.
-use Rattle.std.specs.Prelude.{◌≡◌, ◌↔◌, List, [], ◌∷◌, ◌++◌, ℕ, ◌+◌, ◌%◌, ◌≤◌, ℤ, pos, neg_ℤ, nat_abs, ◌+ℤ◌, ◌-ℤ◌, ◌*ℤ◌, length}
+use Rattle.std.specs.Prelude.{◌≡◌, ◌↔◌, List, [], ◌∷◌, ◌++◌, ℕ, ◌+◌, ◌%◌, ◌≤◌, ℤ, pos, neg_ℤ, nat_abs, ◌+ℤ◌, ◌-ℤ◌, ◌*ℤ◌, length, Ok}
 use Rattle.std.proofs.Common.{sym, ap, ap₂, subst, ◌∙◌, arith}
 use Rattle.integers.specs.Integer.{◌⩽◌, Within}
 use Rattle.integers.proofs.Linear.{ints, given}
 use Rattle.integers.proofs.Products.{neg_times}
 use Rattle.lines.specs.declared.Line.{Line}
-use Rattle.lines.specs.declared.Validity.TheVariants.{Valid}
 use Rattle.lines.specs.Limits.{line_size, max_variables, max_constant, shown_constant_lem, model_constant}
 use Rattle.lines.specs.Line.{line_numbers_lem, lines_of, Assignment, left_side_lem, Meets, Solves}
 use Rattle.lines.specs.LineNumbers.{lines_snoc}
@@ -68,10 +67,10 @@ pub opposite_works : (most n : ℕ) (l : Line) → most ≤ shown_constant_lem m
 opposite_works most n l small o = line_works (most + 1) n (opposite l) (omega arith) (opposite_within most n l o)
 
 -- and writes the model
-pub opposed_modellable : (n k : ℕ) (L : List ℤ) (l : Line) → validity_of n L ≡ Valid → line_validity_lem n k l ≡ Valid → Modellable n (opposed L l)
+pub opposed_modellable : (n k : ℕ) (L : List ℤ) (l : Line) → validity_of n L ≡ Ok tt → line_validity_lem n k l ≡ Ok tt → Modellable n (opposed L l)
 opposed_modellable n k L l v e = works_more model_constant n L (omega arith) v (opposite l) (opposite_within max_constant n l (line_ok n k l e))
 
-pub opposed_works : (n k : ℕ) (L : List ℤ) (l : Line) → validity_of n L ≡ Valid → line_validity_lem n k l ≡ Valid → Workable n (opposed L l)
+pub opposed_works : (n k : ℕ) (L : List ℤ) (l : Line) → validity_of n L ≡ Ok tt → line_validity_lem n k l ≡ Ok tt → Workable n (opposed L l)
 opposed_works n k L l v e = modellable_works n (opposed L l) (opposed_modellable n k L l v e)
 
 -- ---- its solutions: those of the list that do not meet the line

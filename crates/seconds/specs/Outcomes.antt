@@ -1,6 +1,6 @@
 -- What was written where nothing is refused: each float, what lies beyond, and that the order of counts is kept.
-use Rattle.std.specs.Prelude.{◌≡◌, true, List, ℕ, zero, suc, ◌<◌, leb, Float, ℤ, pos, length, get_or, drop}
-use Rattle.std.proofs.Common.{sym, subst, ◌∙◌, arith, ltb-true, drop_at}
+use Rattle.std.specs.Prelude.{◌≡◌, true, List, ℕ, zero, suc, ◌<◌, leb, Float, ℤ, pos, length, get_or, drop, Ok}
+use Rattle.std.proofs.Common.{sym, subst, ◌∙◌, drop_at}
 use Rattle.std.specs.Float.{nan}
 use Rattle.std.specs.Float.Ieee.{le}
 use Rattle.std.proofs.Math.ListN.{get_or-append}
@@ -10,10 +10,9 @@ use Rattle.integers.specs.Sequence.{tabulate, length_tabulate, get_d_tabulate}
 use Rattle.integers.specs.Fill.{filled}
 use Rattle.seconds.specs.declared.Clock.{Clock}
 use Rattle.seconds.specs.declared.SecondsRefusal.TheVariants.{UnusableClock}
-use Rattle.seconds.specs.declared.SecondsAnswer.TheVariants.{Written}
 use Rattle.seconds.specs.Clock.{is_count, seconds_of_lem, usable, usable_clock_lem, ticks_form, clock_of_lem, usable_form_lem}
-use Rattle.seconds.specs.Promise.{count_at, usable_at, named_at, counts_answer_lem, model_answer, events_answer_lem, model_value, clock_at, event_value}
-use Rattle.seconds.specs.Laws.{all_pass, test_says, counts_say, events_say}
+use Rattle.seconds.specs.Promise.{count_at, usable_at, counts_answer_lem, model_answer, events_answer_lem, model_value, clock_at, event_value}
+use Rattle.seconds.specs.Laws.{all_pass, test_says, counts_say, events_say, recorder_known}
 use Rattle.seconds.specs.Ordered.{order_kept}
 
 -- ---- a buffer that is filled from the front
@@ -25,7 +24,7 @@ pub filled_beyond : (value : ℕ → Float) (b : List Float) (n : ℕ) → drop 
 filled_beyond value b n = drop_at (tabulate n value) (drop n b) n (length_tabulate n value)
 
 -- ---- one clock
-module _ (clock : Clock) (counts : List ℤ) (room : ℕ) (done : model_answer clock counts room ≡ Written) where
+module _ (clock : Clock) (counts : List ℤ) (room : ℕ) (done : model_answer clock counts room ≡ Ok tt) where
   pub model_usable : usable_clock_lem clock ≡ true
   model_usable = (test_says (usable_clock_lem clock) (UnusableClock 0) (counts_answer_lem counts room) done).0
 
@@ -43,12 +42,9 @@ clock_usable form rate e = of form (and_true (leb form ticks_form) (usable rate)
     of zero h = h
     of (suc k) h = h
 
-module _ (forms : List ℕ) (rates : List Float) (recorders : List ℕ) (counts : List ℤ) (room : ℕ) (done : events_answer_lem forms rates recorders counts room ≡ Written) where
+module _ (forms : List ℕ) (rates : List Float) (recorders : List ℕ) (counts : List ℤ) (room : ℕ) (done : events_answer_lem forms rates recorders counts room ≡ Ok tt) where
   pub event_named : (i : ℕ) → i < length counts → get_or recorders i 0 < length forms
-  event_named i h =
-      let w = events_say forms rates recorders counts room done in
-      let k : i < length recorders = omega (arith, w.each) in
-      ltb-true (get_or recorders i 0) (length forms) (all_pass (length recorders) (named_at (length forms) recorders) w.named i k)
+  event_named i h = (recorder_known forms rates recorders counts room (events_say forms rates recorders counts room done) i h).0
 
   pub event_usable : (i : ℕ) → i < length counts → usable_clock_lem (clock_at forms rates (get_or recorders i 0)) ≡ true
   event_usable i h =

@@ -1,13 +1,11 @@
 -- What writing seconds promises: the answer, by tests in their order, and what the buffer holds after it.
-use Rattle.std.specs.Prelude.{◌≡◌, Bool, cond, ◌&&◌, List, ℕ, ◌≤◌, leb, ltb, eqb, Float, ℤ, pos, length, get_or}
+use Rattle.std.specs.Prelude.{◌≡◌, Bool, cond, ◌&&◌, List, ℕ, ◌≤◌, leb, ltb, eqb, Float, ℤ, pos, length, get_or, Err, Ok, Result}
 use Rattle.std.specs.Float.{nan}
 use Rattle.integers.specs.Fill.{filled}
 use Rattle.integers.specs.Lowest.{first_failing_lem}
 use Rattle.seconds.specs.declared.Clock.{Clock}
 use Rattle.seconds.specs.declared.SecondsRefusal.{SecondsRefusal}
 use Rattle.seconds.specs.declared.SecondsRefusal.TheVariants.{UnusableClock, CountOutside, NoRoom, NoRecorder, NoTable}
-use Rattle.seconds.specs.declared.SecondsAnswer.{SecondsAnswer}
-use Rattle.seconds.specs.declared.SecondsAnswer.TheVariants.{Written, Refused}
 use Rattle.seconds.specs.Clock.{max_recorders, is_count, seconds_of_lem, usable_clock_lem, ticks_form, clock_of_lem, usable_form_lem}
 
 -- ---- the tests, each by an index
@@ -36,33 +34,43 @@ abbrev pub is_table_lem : ℕ → ℕ → ℕ → ℕ → Bool
 is_table_lem forms rates events counts = leb forms max_recorders && eqb forms rates && eqb events counts
 
 -- ---- the answers: what fails is refused, else the next test follows
-abbrev pub tested : Bool → SecondsRefusal → SecondsAnswer → SecondsAnswer
-tested ok r next = cond ok next (Refused r)
+abbrev pub tested : Bool → SecondsRefusal → Result Unit SecondsRefusal → Result Unit SecondsRefusal
+tested ok r next = cond ok next (Err r)
 
-abbrev pub searched : ℕ → (ℕ → Bool) → (ℕ → SecondsRefusal) → SecondsAnswer → SecondsAnswer
+abbrev pub searched : ℕ → (ℕ → Bool) → (ℕ → SecondsRefusal) → Result Unit SecondsRefusal → Result Unit SecondsRefusal
 searched n ok r next = tested (leb n (first_failing_lem n ok)) (r (first_failing_lem n ok)) next
 
+-- 51, 50 and 53, each alone
+abbrev pub counts_inside_lem : List ℤ → Result Unit SecondsRefusal
+counts_inside_lem counts = searched (length counts) (count_at counts) CountOutside (Ok tt)
+
+abbrev pub clocks_usable_lem : List ℕ → List Float → Result Unit SecondsRefusal
+clocks_usable_lem forms rates = searched (length forms) (usable_at forms rates) UnusableClock (Ok tt)
+
+abbrev pub recorders_named_lem : ℕ → List ℕ → Result Unit SecondsRefusal
+recorders_named_lem size recorders = searched (length recorders) (named_at size recorders) NoRecorder (Ok tt)
+
 -- 51, 52
-abbrev pub counts_answer_lem : List ℤ → ℕ → SecondsAnswer
-counts_answer_lem counts room = searched (length counts) (count_at counts) CountOutside (tested (leb (length counts) room) NoRoom Written)
+abbrev pub counts_answer_lem : List ℤ → ℕ → Result Unit SecondsRefusal
+counts_answer_lem counts room = searched (length counts) (count_at counts) CountOutside (tested (leb (length counts) room) NoRoom (Ok tt))
 
 -- 50, 51, 52
-abbrev pub model_answer : Clock → List ℤ → ℕ → SecondsAnswer
+abbrev pub model_answer : Clock → List ℤ → ℕ → Result Unit SecondsRefusal
 model_answer clock counts room = tested (usable_clock_lem clock) (UnusableClock 0) (counts_answer_lem counts room)
 
-abbrev pub form_answer : ℕ → Float → List ℤ → ℕ → SecondsAnswer
+abbrev pub form_answer : ℕ → Float → List ℤ → ℕ → Result Unit SecondsRefusal
 form_answer form rate counts room = tested (leb form ticks_form) (UnusableClock 0) (model_answer (clock_of_lem form rate) counts room)
 
 -- 53, 51, 52
-abbrev pub named_answer : ℕ → List ℕ → List ℤ → ℕ → SecondsAnswer
+abbrev pub named_answer : ℕ → List ℕ → List ℤ → ℕ → Result Unit SecondsRefusal
 named_answer size recorders counts room = searched (length recorders) (named_at size recorders) NoRecorder (counts_answer_lem counts room)
 
 -- 50, 53, 51, 52
-abbrev pub clocks_answer : List ℕ → List Float → List ℕ → List ℤ → ℕ → SecondsAnswer
+abbrev pub clocks_answer : List ℕ → List Float → List ℕ → List ℤ → ℕ → Result Unit SecondsRefusal
 clocks_answer forms rates recorders counts room = searched (length forms) (usable_at forms rates) UnusableClock (named_answer (length forms) recorders counts room)
 
 -- 54, 50, 53, 51, 52
-abbrev pub events_answer_lem : List ℕ → List Float → List ℕ → List ℤ → ℕ → SecondsAnswer
+abbrev pub events_answer_lem : List ℕ → List Float → List ℕ → List ℤ → ℕ → Result Unit SecondsRefusal
 events_answer_lem forms rates recorders counts room =
     tested (is_table_lem (length forms) (length rates) (length recorders) (length counts)) NoTable (clocks_answer forms rates recorders counts room)
 
@@ -77,21 +85,21 @@ abbrev pub event_value : List ℕ → List Float → List ℕ → List ℤ → �
 event_value forms rates recorders counts k = seconds_of_lem (clock_at forms rates (get_or recorders k 0)) (get_or counts k (pos 0))
 
 -- ---- the promise, of any answer due and any values: b is what the buffer held before, a what it holds after
-abbrev pub left_by : SecondsAnswer → ℕ → (ℕ → Float) → List Float → List Float
-left_by Written count value b = filled value b count
-left_by (Refused r) count value b = b
+abbrev pub left_by : Result Unit SecondsRefusal → ℕ → (ℕ → Float) → List Float → List Float
+left_by (Ok _) count value b = filled value b count
+left_by (Err r) count value b = b
 
-pub record Writes (due : SecondsAnswer) (count : ℕ) (value : ℕ → Float) (x : SecondsAnswer) (b a : List Float) : Type 0 where
+pub record Writes (due : Result Unit SecondsRefusal) (count : ℕ) (value : ℕ → Float) (x : Result Unit SecondsRefusal) (b a : List Float) : Type 0 where
   pub is : x ≡ due
   pub leaves : a ≡ left_by x count value b
 
-abbrev pub ModelWritten : Clock → List ℤ → SecondsAnswer → (b a : List Float) → Type 0
+abbrev pub ModelWritten : Clock → List ℤ → Result Unit SecondsRefusal → (b a : List Float) → Type 0
 ModelWritten clock counts x b a = Writes (model_answer clock counts (length b)) (length counts) (model_value clock counts) x b a
 
-abbrev pub FormWritten : ℕ → Float → List ℤ → SecondsAnswer → (b a : List Float) → Type 0
+abbrev pub FormWritten : ℕ → Float → List ℤ → Result Unit SecondsRefusal → (b a : List Float) → Type 0
 FormWritten form rate counts x b a = Writes (form_answer form rate counts (length b)) (length counts) (model_value (clock_of_lem form rate) counts) x b a
 
-abbrev pub EventsWritten : List ℕ → List Float → List ℕ → List ℤ → SecondsAnswer → (b a : List Float) → Type 0
+abbrev pub EventsWritten : List ℕ → List Float → List ℕ → List ℤ → Result Unit SecondsRefusal → (b a : List Float) → Type 0
 EventsWritten forms rates recorders counts x b a =
     Writes (events_answer_lem forms rates recorders counts (length b)) (length counts) (event_value forms rates recorders counts) x b a
 

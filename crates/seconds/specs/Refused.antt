@@ -1,5 +1,5 @@
 -- When each refusal of seconds is given: exactly if its condition holds and none that goes before does.
-use Rattle.std.specs.Prelude.{◌≡◌, refl, ◌↔◌, ◌⊎◌, Bool, true, false, not, ◌&&◌, List, ℕ, zero, suc, ◌+◌, ◌<◌, ◌≤◌, leb, eqb, Float, ℤ, pos, length, get_or}
+use Rattle.std.specs.Prelude.{◌≡◌, refl, ◌↔◌, ◌⊎◌, Bool, true, false, not, ◌&&◌, List, ℕ, zero, suc, ◌+◌, ◌<◌, ◌≤◌, leb, eqb, Float, ℤ, pos, length, get_or, Err, Ok, Result}
 use Rattle.std.proofs.Common.{sym, ap, subst, ◌∙◌, inl, inr, arith, le-leb, leb-false, le-ltb, ltb-false, eq-eqb}
 use Rattle.std.proofs.lemmas.Bool.{false≢true, lt-leb, not-true, not-false}
 use Rattle.std.proofs.Math.Decide.{dec_lt}
@@ -9,8 +9,6 @@ use Rattle.integers.proofs.Halving.{is_within, within_is}
 use Rattle.integers.specs.Lowest.{Passed, NonePassed, lowest_known, first_failing_lem}
 use Rattle.seconds.specs.declared.SecondsRefusal.{SecondsRefusal}
 use Rattle.seconds.specs.declared.SecondsRefusal.TheVariants.{UnusableClock, CountOutside, NoRoom, NoRecorder, NoTable}
-use Rattle.seconds.specs.declared.SecondsAnswer.{SecondsAnswer}
-use Rattle.seconds.specs.declared.SecondsAnswer.TheVariants.{Written, Refused}
 use Rattle.seconds.specs.Clock.{max_count, max_recorders, is_count, usable, ticks_form, usable_form_lem}
 use Rattle.seconds.specs.Promise.{count_at, usable_at, named_at, is_table_lem, tested, searched, counts_answer_lem, form_answer, named_answer, clocks_answer, events_answer_lem}
 use Rattle.seconds.specs.Laws.{all_pass, test_passed, test_failed, search_passed, search_failed, table_says}
@@ -69,7 +67,7 @@ module _ (forms : List ℕ) (rates : List Float) (recorders : List ℕ) (counts 
   EventsRefuse NoRoom = Table × AllUsable × AllNamed × NoneBad (length counts) (OutsideAt counts) × (room < length counts)
 
 -- ---- a search by its condition: the test of an index fails exactly if it is bad
-module _ (n : ℕ) (ok : ℕ → Bool) (Bad : ℕ → Type 0) (tells : (i : ℕ) → (ok i ≡ false) ↔ Bad i) (r : ℕ → SecondsRefusal) (next : SecondsAnswer) where
+module _ (n : ℕ) (ok : ℕ → Bool) (Bad : ℕ → Type 0) (tells : (i : ℕ) → (ok i ≡ false) ↔ Bad i) (r : ℕ → SecondsRefusal) (next : Result Unit SecondsRefusal) where
   abbrev Known : Type 0
   Known = Passed (λ i. not (ok i)) zero (zero + n) (first_failing_lem n ok) ⊎ NonePassed (λ i. not (ok i)) zero (zero + n) (first_failing_lem n ok)
 
@@ -105,7 +103,7 @@ module _ (n : ℕ) (ok : ℕ → Bool) (Bad : ℕ → Type 0) (tells : (i : ℕ)
           pick (no l) (yes m) = absurd (b.before (first_failing_lem n ok) m ((tells _).0 (not-true _ s.passes)))
           pick (no l) (no m) = omega arith
 
-  pub lowest_refused : (k : ℕ) → LowestBad n Bad k → searched n ok r next ≡ Refused (r k)
+  pub lowest_refused : (k : ℕ) → LowestBad n Bad k → searched n ok r next ≡ Err (r k)
   lowest_refused k b = sym (search_failed n ok r next k (lowest_is k b) b.below)
 
   pub none_refused : NoneBad n Bad → searched n ok r next ≡ next
@@ -116,25 +114,21 @@ module _ (n : ℕ) (ok : ℕ → Bool) (Bad : ℕ → Type 0) (tells : (i : ℕ)
       go (inr s) = sym (search_passed n ok r next (first_failing_lem n ok) refl (omega (arith, s.at_end)))
 
   -- a refusal is that of the lowest, or that of what follows
-  pub search_refused : (P : SecondsRefusal → Type 0) → ((k : ℕ) → LowestBad n Bad k → P (r k)) → (NoneBad n Bad → (s : SecondsRefusal) → next ≡ Refused s → P s)
-      → (s : SecondsRefusal) → searched n ok r next ≡ Refused s → P s
+  pub search_refused : (P : SecondsRefusal → Type 0) → ((k : ℕ) → LowestBad n Bad k → P (r k)) → (NoneBad n Bad → (s : SecondsRefusal) → next ≡ Err s → P s)
+      → (s : SecondsRefusal) → searched n ok r next ≡ Err s → P s
   search_refused P f g s e = go (dec_lt (first_failing_lem n ok) n)
     where
-      same : (q s : SecondsRefusal) → Refused q ≡ Refused s → q ≡ s
-      same q s e = cc
-
       go : Dec (first_failing_lem n ok < n) → P s
-      go (yes l) = subst P (same _ s (search_failed n ok r next (first_failing_lem n ok) refl l ∙ e)) (f (first_failing_lem n ok) (found_lowest l))
+      go (yes l) =
+          let q : r (first_failing_lem n ok) ≡ s = cc (search_failed n ok r next (first_failing_lem n ok) refl l) in
+          subst P q (f (first_failing_lem n ok) (found_lowest l))
       go (no l) = let h : n ≤ first_failing_lem n ok = omega arith in g (none_found h) s (search_passed n ok r next (first_failing_lem n ok) refl h ∙ e)
 
 -- ---- a test
-pub test_refused : (ok : Bool) (r : SecondsRefusal) (next : SecondsAnswer) (P : SecondsRefusal → Type 0) → (ok ≡ false → P r) → (ok ≡ true → (s : SecondsRefusal) → next ≡ Refused s → P s)
-    → (s : SecondsRefusal) → tested ok r next ≡ Refused s → P s
+pub test_refused : (ok : Bool) (r : SecondsRefusal) (next : Result Unit SecondsRefusal) (P : SecondsRefusal → Type 0) → (ok ≡ false → P r) → (ok ≡ true → (s : SecondsRefusal) → next ≡ Err s → P s)
+    → (s : SecondsRefusal) → tested ok r next ≡ Err s → P s
 test_refused true r next P f g s e = g refl s e
-test_refused false r next P f g s e = subst P (same r s e) (f refl)
-  where
-    same : (q s : SecondsRefusal) → Refused q ≡ Refused s → q ≡ s
-    same q s e = cc
+test_refused false r next P f g s e = let q : r ≡ s = cc in subst P q (f refl)
 
 -- ---- what the tests tell
 outside_tells : (counts : List ℤ) (k : ℕ) → (count_at counts k ≡ false) ↔ OutsideAt counts k
@@ -152,42 +146,42 @@ unnamed_tells size recorders k = (ltb-false (get_or recorders k 0) size, le-ltb 
 
 -- ---- the counts
 module _ (counts : List ℤ) (room : ℕ) where
-  abbrev room_answer : SecondsAnswer
-  room_answer = tested (leb (length counts) room) NoRoom Written
+  abbrev room_answer : Result Unit SecondsRefusal
+  room_answer = tested (leb (length counts) room) NoRoom (Ok tt)
 
   counts_refused : (P : SecondsRefusal → Type 0) → ((k : ℕ) → LowestBad (length counts) (OutsideAt counts) k → P (CountOutside k))
       → (NoneBad (length counts) (OutsideAt counts) → room < length counts → P NoRoom)
-      → (s : SecondsRefusal) → counts_answer_lem counts room ≡ Refused s → P s
+      → (s : SecondsRefusal) → counts_answer_lem counts room ≡ Err s → P s
   counts_refused P f g =
       search_refused (length counts) (count_at counts) (OutsideAt counts) (outside_tells counts) CountOutside room_answer P f
-      (λ all. test_refused (leb (length counts) room) NoRoom Written P (λ e. g all (leb-false (length counts) room e)) (λ e s q. never (cc)))
+      (λ all. test_refused (leb (length counts) room) NoRoom (Ok tt) P (λ e. g all (leb-false (length counts) room e)) (λ e s q. never (cc)))
 
-  outside_refused : (k : ℕ) → LowestBad (length counts) (OutsideAt counts) k → counts_answer_lem counts room ≡ Refused (CountOutside k)
+  outside_refused : (k : ℕ) → LowestBad (length counts) (OutsideAt counts) k → counts_answer_lem counts room ≡ Err (CountOutside k)
   outside_refused = lowest_refused (length counts) (count_at counts) (OutsideAt counts) (outside_tells counts) CountOutside room_answer
 
-  room_refused : NoneBad (length counts) (OutsideAt counts) → room < length counts → counts_answer_lem counts room ≡ Refused NoRoom
+  room_refused : NoneBad (length counts) (OutsideAt counts) → room < length counts → counts_answer_lem counts room ≡ Err NoRoom
   room_refused all h =
       none_refused (length counts) (count_at counts) (OutsideAt counts) (outside_tells counts) CountOutside room_answer all
-      ∙ sym (test_failed (leb (length counts) room) NoRoom Written (lt-leb (length counts) room h))
+      ∙ sym (test_failed (leb (length counts) room) NoRoom (Ok tt) (lt-leb (length counts) room h))
 
 -- ---- one clock
 module _ (u : Bool) (counts : List ℤ) (room : ℕ) where
-  abbrev clock_answer : SecondsAnswer
+  abbrev clock_answer : Result Unit SecondsRefusal
   clock_answer = tested u (UnusableClock 0) (counts_answer_lem counts room)
 
   past : u ≡ true → clock_answer ≡ counts_answer_lem counts room
   past e = sym (test_passed u (UnusableClock 0) (counts_answer_lem counts room) e)
 
-  pub model_refused : (r : SecondsRefusal) → (clock_answer ≡ Refused r) ↔ ModelRefuses u counts room r
+  pub model_refused : (r : SecondsRefusal) → (clock_answer ≡ Err r) ↔ ModelRefuses u counts room r
   model_refused r = (fore r, back r)
     where
-      fore : (r : SecondsRefusal) → clock_answer ≡ Refused r → ModelRefuses u counts room r
+      fore : (r : SecondsRefusal) → clock_answer ≡ Err r → ModelRefuses u counts room r
       fore =
           test_refused u (UnusableClock 0) (counts_answer_lem counts room) (ModelRefuses u counts room) (λ e. (e, refl))
           (λ e. counts_refused counts room (ModelRefuses u counts room) (λ k b. (e, b)) (λ all h. (e, all, h)))
 
-      back : (r : SecondsRefusal) → ModelRefuses u counts room r → clock_answer ≡ Refused r
-      back (UnusableClock k) h = sym (test_failed u (UnusableClock 0) (counts_answer_lem counts room) h.0) ∙ ap (λ (q : ℕ). Refused (UnusableClock q)) (sym h.1)
+      back : (r : SecondsRefusal) → ModelRefuses u counts room r → clock_answer ≡ Err r
+      back (UnusableClock k) h = sym (test_failed u (UnusableClock 0) (counts_answer_lem counts room) h.0) ∙ ap (λ (q : ℕ). Err (UnusableClock q)) (sym h.1)
       back (CountOutside k) h = past h.0 ∙ outside_refused counts room k h.1
       back NoRoom h = past h.0 ∙ room_refused counts room h.1 h.2
       back (NoRecorder k) h = absurd h
@@ -226,10 +220,10 @@ module _ (forms : List ℕ) (rates : List Float) (recorders : List ℕ) (counts 
   to_counts : AllNamed forms rates recorders counts room → named_answer (length forms) recorders counts room ≡ counts_answer_lem counts room
   to_counts = none_refused (length recorders) (named_at (length forms) recorders) (UnnamedAt (length forms) recorders) (unnamed_tells (length forms) recorders) NoRecorder (counts_answer_lem counts room)
 
-  pub events_refused : (r : SecondsRefusal) → (events_answer_lem forms rates recorders counts room ≡ Refused r) ↔ EventsRefuse forms rates recorders counts room r
+  pub events_refused : (r : SecondsRefusal) → (events_answer_lem forms rates recorders counts room ≡ Err r) ↔ EventsRefuse forms rates recorders counts room r
   events_refused r = (fore r, back r)
     where
-      fore : (r : SecondsRefusal) → events_answer_lem forms rates recorders counts room ≡ Refused r → EventsRefuse forms rates recorders counts room r
+      fore : (r : SecondsRefusal) → events_answer_lem forms rates recorders counts room ≡ Err r → EventsRefuse forms rates recorders counts room r
       fore =
           test_refused table NoTable (clocks_answer forms rates recorders counts room) Refuses (λ e h. false≢true (sym e ∙ is_table h))
           (λ e. let t = table_says (length forms) (length rates) (length recorders) (length counts) e in
@@ -237,7 +231,7 @@ module _ (forms : List ℕ) (rates : List Float) (recorders : List ℕ) (counts 
           (λ clocks. search_refused (length recorders) (named_at (length forms) recorders) (UnnamedAt (length forms) recorders) (unnamed_tells (length forms) recorders) NoRecorder (counts_answer_lem counts room) Refuses (λ k b. (t, clocks, b))
           (λ names. counts_refused counts room Refuses (λ k b. (t, clocks, names, b)) (λ all h. (t, clocks, names, all, h)))))
 
-      back : (r : SecondsRefusal) → EventsRefuse forms rates recorders counts room r → events_answer_lem forms rates recorders counts room ≡ Refused r
+      back : (r : SecondsRefusal) → EventsRefuse forms rates recorders counts room r → events_answer_lem forms rates recorders counts room ≡ Err r
       back NoTable h = sym (test_failed table NoTable (clocks_answer forms rates recorders counts room) (go table refl))
         where
           go : (t : Bool) → table ≡ t → t ≡ false

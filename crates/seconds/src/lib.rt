@@ -6,7 +6,7 @@ ghost use Rattle.std.specs.Prelude.{◌≡◌, true, ◌≤◌, length};
 ghost use Rattle.integers.specs.Fill.{filled};
 ghost use Rattle.seconds.specs.Clock.{seconds_of_lem, is_count, usable, usable_clock_lem, usable_form_lem, clock_of_lem};
 ghost use Rattle.seconds.specs.Refusal.{seconds_number, seconds_place};
-ghost use Rattle.seconds.specs.Promise.{first_outside_lem, first_unusable_lem, first_unnamed_lem, is_table_lem, counts_answer_lem, events_answer_lem, model_value, event_value, EventsOk, ModelWritten, FormWritten, EventsWritten};
+ghost use Rattle.seconds.specs.Promise.{first_outside_lem, counts_inside_lem, clocks_usable_lem, recorders_named_lem, is_table_lem, counts_answer_lem, events_answer_lem, model_value, event_value, EventsOk, ModelWritten, FormWritten, EventsWritten};
 
 use integers::between;
 use lines::{Numbered, numbered_at};
@@ -37,12 +37,6 @@ pub enum SecondsRefusal {
     NoTable,
 }
 
-#[derive(Clone, Copy)]
-pub enum SecondsAnswer {
-    Written,
-    Refused(SecondsRefusal),
-}
-
 // The number and the place of each refusal.
 pub fn seconds_number_and_place(r: SecondsRefusal) -> Numbered
     ensures { (result.number ≡ seconds_number r) × (result.place ≡ seconds_place r) }
@@ -67,11 +61,11 @@ fn seconds_of(clock: Clock, count: i64) -> f64
     }
 }
 
-// Whether a number is finite and above zero: 1.0 / 0.0 is the infinity.
+// Whether a number is finite and above zero.
 fn usable_rate(x: f64) -> bool
     ensures { result ≡ usable x }
 {
-    if x > 0.0 { x < 1.0 / 0.0 } else { false }
+    x > 0.0 && x.is_finite()
 }
 
 // Whether a clock's number is one that a clock can have.
@@ -102,68 +96,52 @@ fn clock_of(form: u32, rate: f64) -> Clock
     }
 }
 
-// A recorder's number as an index.
-fn wide(x: u32) -> usize
-    ensures { result ≡ x }
+// 51, with the lowest index of a count outside its limit.
+fn counts_inside(counts: &[i64]) -> Result<(), SecondsRefusal>
+    ensures { result ≡ counts_inside_lem counts.now }
 {
-    x as usize
-}
-
-// The lowest index of a count outside its limit, or their number.
-fn first_outside(counts: &[i64]) -> usize
-    ensures { result ≡ first_outside_lem counts.now }
-{
-    let mut i = 0;
-    while i < counts.len() {
+    for i in 0..counts.len() {
         if !between(-MAX_COUNT, MAX_COUNT, counts[i]) {
-            return i;
+            return Err(SecondsRefusal::CountOutside(i));
         }
-        i += 1;
     }
-    i
+    Ok(())
 }
 
-// The lowest recorder whose clock can't be used, or their number.
-fn first_unusable(forms: &[u32], rates: &[f64]) -> usize
+// 50, with the lowest recorder whose clock can't be used.
+fn clocks_usable(forms: &[u32], rates: &[f64]) -> Result<(), SecondsRefusal>
     requires { length forms.now ≡ length rates.now }
-    ensures { result ≡ first_unusable_lem forms.now rates.now }
+    ensures { result ≡ clocks_usable_lem forms.now rates.now }
 {
-    let mut i = 0;
-    while i < forms.len() {
+    for i in 0..forms.len() {
         if !usable_form(forms[i], rates[i]) {
-            return i;
+            return Err(SecondsRefusal::UnusableClock(i));
         }
-        i += 1;
     }
-    i
+    Ok(())
 }
 
-// The lowest event that names none of the table's recorders, or their number.
-fn first_unnamed(size: usize, recorders: &[u32]) -> usize
-    ensures { result ≡ first_unnamed_lem size recorders.now }
+// 53, with the lowest event that names none of the table's recorders.
+fn recorders_named(size: usize, recorders: &[u32]) -> Result<(), SecondsRefusal>
+    ensures { result ≡ recorders_named_lem size recorders.now }
 {
-    let mut i = 0;
-    while i < recorders.len() {
-        if wide(recorders[i]) >= size {
-            return i;
+    for i in 0..recorders.len() {
+        if recorders[i] as usize >= size {
+            return Err(SecondsRefusal::NoRecorder(i));
         }
-        i += 1;
     }
-    i
+    Ok(())
 }
 
 // 51, then 52.
-fn counts_answer(counts: &[i64], room: usize) -> SecondsAnswer
+fn counts_answer(counts: &[i64], room: usize) -> Result<(), SecondsRefusal>
     ensures { result ≡ counts_answer_lem counts.now room }
 {
-    let i = first_outside(counts);
-    if i < counts.len() {
-        return SecondsAnswer::Refused(SecondsRefusal::CountOutside(i));
-    }
+    counts_inside(counts)?;
     if room < counts.len() {
-        return SecondsAnswer::Refused(SecondsRefusal::NoRoom);
+        return Err(SecondsRefusal::NoRoom);
     }
-    SecondsAnswer::Written
+    Ok(())
 }
 
 // Writes the seconds of counts of one clock.
@@ -172,35 +150,38 @@ fn write_model(clock: Clock, counts: &[i64], seconds: &mut [f64])
     requires counts_in_bounds { length counts.now ≤ length seconds.old }
     ensures { seconds.new ≡ filled (model_value clock counts.now) seconds.old (length counts.now) }
 {
-    let mut i = 0;
-    while i < counts.len() {
-        let count = counts[i];
-        seconds[i] = seconds_of(clock, count);
-        i += 1;
+    for i in 0..counts.len() {
+        seconds[i] = seconds_of(clock, counts[i]);
     }
 }
 
 // The counts of one clock in seconds: 50, then 51, then 52.
-pub fn model_seconds(clock: Clock, counts: &[i64], seconds: &mut [f64]) -> SecondsAnswer
+pub fn model_seconds(
+    clock: Clock,
+    counts: &[i64],
+    seconds: &mut [f64],
+) -> Result<(), SecondsRefusal>
     ensures { ModelWritten clock counts.now result seconds.old seconds.new }
 {
     if !usable_clock(clock) {
-        return SecondsAnswer::Refused(SecondsRefusal::UnusableClock(0));
+        return Err(SecondsRefusal::UnusableClock(0));
     }
-    let found = counts_answer(counts, seconds.len());
-    if let SecondsAnswer::Refused(r) = found {
-        return SecondsAnswer::Refused(r);
-    }
+    counts_answer(counts, seconds.len())?;
     write_model(clock, counts, seconds);
-    SecondsAnswer::Written
+    Ok(())
 }
 
 // The same of a clock that is given as a form and its number.
-pub fn form_seconds(form: u32, rate: f64, counts: &[i64], seconds: &mut [f64]) -> SecondsAnswer
+pub fn form_seconds(
+    form: u32,
+    rate: f64,
+    counts: &[i64],
+    seconds: &mut [f64],
+) -> Result<(), SecondsRefusal>
     ensures { FormWritten form rate counts.now result seconds.old seconds.new }
 {
     if TICKS_FORM < form {
-        return SecondsAnswer::Refused(SecondsRefusal::UnusableClock(0));
+        return Err(SecondsRefusal::UnusableClock(0));
     }
     model_seconds(clock_of(form, rate), counts, seconds)
 }
@@ -219,20 +200,14 @@ fn events_answer(
     recorders: &[u32],
     counts: &[i64],
     room: usize,
-) -> SecondsAnswer
+) -> Result<(), SecondsRefusal>
     ensures { result ≡ events_answer_lem forms.now rates.now recorders.now counts.now room }
 {
     if !is_table(forms.len(), rates.len(), recorders.len(), counts.len()) {
-        return SecondsAnswer::Refused(SecondsRefusal::NoTable);
+        return Err(SecondsRefusal::NoTable);
     }
-    let r = first_unusable(forms, rates);
-    if r < forms.len() {
-        return SecondsAnswer::Refused(SecondsRefusal::UnusableClock(r));
-    }
-    let e = first_unnamed(forms.len(), recorders);
-    if e < recorders.len() {
-        return SecondsAnswer::Refused(SecondsRefusal::NoRecorder(e));
-    }
+    clocks_usable(forms, rates)?;
+    recorders_named(forms.len(), recorders)?;
     counts_answer(counts, room)
 }
 
@@ -247,13 +222,10 @@ fn write_events(
     requires { EventsOk forms.now rates.now recorders.now counts.now (length seconds.old) }
     ensures { seconds.new ≡ filled (event_value forms.now rates.now recorders.now counts.now) seconds.old (length counts.now) }
 {
-    let mut i = 0;
-    while i < counts.len() {
-        let r = wide(recorders[i]);
+    for i in 0..counts.len() {
+        let r = recorders[i] as usize;
         let clock = clock_of(forms[r], rates[r]);
-        let count = counts[i];
-        seconds[i] = seconds_of(clock, count);
-        i += 1;
+        seconds[i] = seconds_of(clock, counts[i]);
     }
 }
 
@@ -264,13 +236,10 @@ pub fn events_seconds(
     recorders: &[u32],
     counts: &[i64],
     seconds: &mut [f64],
-) -> SecondsAnswer
+) -> Result<(), SecondsRefusal>
     ensures { EventsWritten forms.now rates.now recorders.now counts.now result seconds.old seconds.new }
 {
-    let found = events_answer(forms, rates, recorders, counts, seconds.len());
-    if let SecondsAnswer::Refused(r) = found {
-        return SecondsAnswer::Refused(r);
-    }
+    events_answer(forms, rates, recorders, counts, seconds.len())?;
     write_events(forms, rates, recorders, counts, seconds);
-    SecondsAnswer::Written
+    Ok(())
 }

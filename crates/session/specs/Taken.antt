@@ -1,7 +1,6 @@
 -- What a start writes, and what is left of a state whose last line is taken away.
-use Rattle.std.specs.Prelude.{◌≡◌, Bool, true, false, List, [], ◌++◌, ℕ, ◌+◌, ◌-◌, ◌≤◌, ℤ, length, take, drop}
+use Rattle.std.specs.Prelude.{◌≡◌, Bool, true, false, List, [], ◌++◌, ℕ, ◌+◌, ◌-◌, ◌≤◌, ℤ, length, take, drop, Ok}
 use Rattle.std.proofs.Common.{sym, ap, ap₂, ◌∙◌, arith, take_at, drop_at, drop-drop}
-use Rattle.lines.specs.declared.Validity.TheVariants.{Valid}
 use Rattle.lines.specs.Limits.{max_variables}
 use Rattle.lines.specs.Line.{numbers_of}
 use Rattle.lines.specs.Valid.{workable, modellable}
@@ -16,7 +15,7 @@ use Rattle.session_promise.specs.Standing.{empty}
 use Rattle.session_promise.specs.Sequence.{no_lines}
 
 -- ---- a start: n and no lines, and then what is known of none
-pub start_is : (n : ℕ) → n ≤ max_variables → (s t : List ℤ) → t ≡ with_known n (started n s) (known_anew_lem n [] (known_in n (started n s))) → t ≡ start_state n s Valid
+pub start_is : (n : ℕ) → n ≤ max_variables → (s t : List ℤ) → t ≡ with_known n (started n s) (known_anew_lem n [] (known_in n (started n s))) → t ≡ start_state n s (Ok tt)
 unfolding numbers_of
 start_is n few s t e =
     let front = front_of n [] false in
@@ -37,13 +36,13 @@ start_is n few s t e =
     ∙ sym (state_front n [] false (drop (session_room_lem n) s))
 
 -- ---- the last line is taken away, by the last answer
-taken_by : (s : List ℤ) (r : Bool) → refused_in s ≡ r → (t : List ℤ) → t ≡ popped (with_known (variables_in s) s (known_before r s)) → t ≡ withdraw_state s Valid
+taken_by : (s : List ℤ) (r : Bool) → refused_in s ≡ r → (t : List ℤ) → t ≡ popped (with_known (variables_in s) s (known_before r s)) → t ≡ withdraw_state s (Ok tt)
 taken_by s r q t e = e ∙ ap (λ (c : Bool). popped (with_known (variables_in s) s (known_before c s))) (sym q)
 
 -- after a no what is known stays
-pub taken_no : (s t : List ℤ) → refused_in s ≡ true → t ≡ popped s → t ≡ withdraw_state s Valid
+pub taken_no : (s t : List ℤ) → refused_in s ≡ true → t ≡ popped s → t ≡ withdraw_state s (Ok tt)
 taken_no s t q e = taken_by s true q t (e ∙ ap popped (sym (with_own (variables_in s) s)))
 
 -- else it is made anew
-pub taken_anew : (s m t : List ℤ) → refused_in s ≡ false → m ≡ with_known (variables_in s) s (remade_known s) → t ≡ popped m → t ≡ withdraw_state s Valid
+pub taken_anew : (s m t : List ℤ) → refused_in s ≡ false → m ≡ with_known (variables_in s) s (remade_known s) → t ≡ popped m → t ≡ withdraw_state s (Ok tt)
 taken_anew s m t q d e = taken_by s false q t (e ∙ ap popped d)

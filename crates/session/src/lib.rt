@@ -3,15 +3,14 @@
 
 #![tactic(auto)]
 
-ghost use Rattle.std.specs.Prelude.{◌≡◌, true, ◌<◌, ◌≤◌, length};
+ghost use Rattle.std.specs.Prelude.{◌≡◌, true, ◌<◌, ◌≤◌, length, Ok};
 ghost use Rattle.lines.specs.Limits.{max_variables};
 ghost use Rattle.session_state.specs.State.{session_room_lem, count_in, is_state_lem};
-ghost use Rattle.lines.specs.declared.Validity.TheVariants.{Valid};
 ghost use Rattle.session_promise.specs.Promise.{start_state, withdraw_state, Starts, Adds, Withdraws};
 
 use decide::Answer;
 use lines::limits::MAX_VARIABLES;
-use lines::{Line, Refusal, Validity};
+use lines::{Line, Refusal};
 use session_add::add_to;
 use session_remake::{put_known, remake_known};
 use session_state::{STATE_PLACE, begin_state, is_state, pop_line, read_head, session_room};
@@ -19,7 +18,7 @@ use session_state::{STATE_PLACE, begin_state, is_state, pop_line, read_head, ses
 // Writes the state of n variables and no lines.
 fn write_start(n: usize, state: &mut [i64])
     requires { (n ≤ max_variables) × (session_room_lem n ≤ length state.old) }
-    ensures { state.new ≡ start_state n state.old Valid }
+    ensures { state.new ≡ start_state n state.old (Ok tt) }
 {
     begin_state(state, n);
     let none = [0i32; 0];
@@ -27,17 +26,17 @@ fn write_start(n: usize, state: &mut [i64])
 }
 
 // Starts a session of n variables.
-pub fn start(n: usize, state: &mut [i64]) -> Validity
+pub fn start(n: usize, state: &mut [i64]) -> Result<(), Refusal>
     ensures { Starts n state.old result state.new }
 {
     if MAX_VARIABLES < n {
-        return Validity::Refused(Refusal::TooManyVariables);
+        return Err(Refusal::TooManyVariables);
     }
     if state.len() < session_room(n) {
-        return Validity::Refused(Refusal::ShortOutput(STATE_PLACE));
+        return Err(Refusal::ShortOutput(STATE_PLACE));
     }
     write_start(n, state);
-    Validity::Valid
+    Ok(())
 }
 
 // Adds a line, and decides all lines so far.
@@ -50,18 +49,18 @@ pub fn add(
     refutation: &mut [u32],
     identifiers: &mut [u32],
     work: &mut [i64],
-) -> Answer
+) -> Result<Answer, Refusal>
     ensures { Adds state.old line result
         (record { model = model.old; bounds = bounds.old; groups = groups.old; refutation = refutation.old; identifiers = identifiers.old; work = work.old })
         state.new
         (record { model = model.new; bounds = bounds.new; groups = groups.new; refutation = refutation.new; identifiers = identifiers.new; work = work.new }) }
 {
     if !is_state(state) {
-        return Answer::Refused(Refusal::ShortOutput(STATE_PLACE));
+        return Err(Refusal::ShortOutput(STATE_PLACE));
     }
     let head = read_head(state);
     if head.refused {
-        return Answer::Refused(Refusal::AfterNo);
+        return Err(Refusal::AfterNo);
     }
     add_to(
         state,
@@ -78,7 +77,7 @@ pub fn add(
 // Takes the last line away. After a no what is known is known of the lines before it; else it is made anew.
 fn take_last(state: &mut [i64])
     requires { (is_state_lem state.old ≡ true) × (0 < count_in state.old) }
-    ensures { state.new ≡ withdraw_state state.old Valid }
+    ensures { state.new ≡ withdraw_state state.old (Ok tt) }
 {
     let head = read_head(state);
     if head.refused {
@@ -90,16 +89,16 @@ fn take_last(state: &mut [i64])
 }
 
 // Withdraws the last line.
-pub fn withdraw(state: &mut [i64]) -> Validity
+pub fn withdraw(state: &mut [i64]) -> Result<(), Refusal>
     ensures { Withdraws state.old result state.new }
 {
     if !is_state(state) {
-        return Validity::Refused(Refusal::ShortOutput(STATE_PLACE));
+        return Err(Refusal::ShortOutput(STATE_PLACE));
     }
     let head = read_head(state);
     if head.count == 0 {
-        return Validity::Refused(Refusal::NoLines);
+        return Err(Refusal::NoLines);
     }
     take_last(state);
-    Validity::Valid
+    Ok(())
 }

@@ -9,28 +9,32 @@ ghost use Rattle.session_promise.specs.Promise.{Adds};
 ghost use Rattle.session_add.specs.Added.{TakenIn};
 
 use decide::Answer;
-use decide_buffers::decide_validity;
+use decide_buffers::{Lengths, decide_validity};
 use lines::limits::LINE_SIZE;
-use lines::{Line, Validity};
+use lines::{Line, Refusal};
 use longer_list::MOST_NUMBERS;
 use session_answer::answer_learnt;
 use session_state::{copy_with, push_line, read_head};
 
 // The line is part of the state, after a no too.
-fn take_in(state: &mut [i64], line: Line, answer: Answer) -> Answer
+fn take_in(
+    state: &mut [i64],
+    line: Line,
+    answer: Result<Answer, Refusal>,
+) -> Result<Answer, Refusal>
     requires { (head_ok_lem state.old ≡ true) × (count_in state.old < max_lines) }
     ensures { TakenIn state.old line answer result state.new }
 {
     match answer {
-        Answer::Yes => {
+        Ok(Answer::Yes) => {
             push_line(state, line, false);
-            Answer::Yes
+            Ok(Answer::Yes)
         }
-        Answer::No => {
+        Ok(Answer::No) => {
             push_line(state, line, true);
-            Answer::No
+            Ok(Answer::No)
         }
-        Answer::Refused(r) => Answer::Refused(r),
+        Err(r) => Err(r),
     }
 }
 
@@ -44,7 +48,7 @@ pub fn add_to(
     refutation: &mut [u32],
     identifiers: &mut [u32],
     work: &mut [i64],
-) -> Answer
+) -> Result<Answer, Refusal>
     requires { (is_state_lem state.old ≡ true) × (refused_in state.old ≡ false) }
     ensures { Adds state.old line result
         (record { model = model.old; bounds = bounds.old; groups = groups.old; refutation = refutation.old; identifiers = identifiers.old; work = work.old })
@@ -57,19 +61,18 @@ pub fn add_to(
     let n = head.n;
     let count = head.count;
     let end = LINE_SIZE * count + LINE_SIZE;
-    let found = decide_validity(
+    decide_validity(
         n,
         &list[..end],
-        model.len(),
-        bounds.len(),
-        groups.len(),
-        refutation.len(),
-        identifiers.len(),
-        work.len(),
-    );
-    if let Validity::Refused(r) = found {
-        return Answer::Refused(r);
-    }
+        Lengths {
+            model: model.len(),
+            bounds: bounds.len(),
+            groups: groups.len(),
+            refutation: refutation.len(),
+            identifiers: identifiers.len(),
+            work: work.len(),
+        },
+    )?;
     let answer = answer_learnt(
         &list[..end],
         count,

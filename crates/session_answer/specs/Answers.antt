@@ -1,7 +1,7 @@
 -- What is answered and left where a session learns the last line of a list, whatever its state holds: by what is known where the line is learnt, else by deciding.
-use Rattle.std.specs.Prelude.{◌≡◌, refl, Bool, true, false, List, ℕ, ◌+◌, ◌-◌, ◌<◌, ◌≤◌, ℤ, length, take, drop}
+use Rattle.lines.specs.declared.Refusal.{Refusal}
+use Rattle.std.specs.Prelude.{◌≡◌, refl, Bool, true, false, List, ℕ, ◌+◌, ◌-◌, ◌<◌, ◌≤◌, ℤ, length, take, drop, Ok, Result}
 use Rattle.std.proofs.Common.{sym, ap, subst, ◌∙◌, arith, length-take-le}
-use Rattle.lines.specs.declared.Validity.TheVariants.{Valid}
 use Rattle.lines.specs.Limits.{max_variables}
 use Rattle.lines.specs.Line.{line_count}
 use Rattle.lines.specs.Valid.{LinesOk, Workable, workable}
@@ -39,11 +39,11 @@ pub record YesWritten (n : ℕ) (s model bounds : List ℤ) (groups : List ℕ) 
 
 -- ---- the answer
 pub record AnswerReady (n : ℕ) (L : List ℤ) (k : ℕ) (s : List ℤ) (b : Lent) : Type 0 where
-  pub valid : validity_for n L b ≡ Valid
+  pub valid : validity_for n L b ≡ Ok tt
   pub last : line_count L ≡ k + 1
   pub room : session_room_lem n ≤ length s
 
-pub record Answers (n : ℕ) (L : List ℤ) (k : ℕ) (s : List ℤ) (x : Answer) (b : Lent) (t : List ℤ) (a : Lent) : Type 0 where
+pub record Answers (n : ℕ) (L : List ℤ) (k : ℕ) (s : List ℤ) (x : Result Answer Refusal) (b : Lent) (t : List ℤ) (a : Lent) : Type 0 where
   pub is : x ≡ learnt_answer (learns n L k (table_in n s)) n L b
   pub state : t ≡ with_known n s (known_after n L k (known_in n s))
   pub left : LearntLeft (learns n L k (table_in n s)) n L (known_after n L k (known_in n s)) x b a
@@ -85,7 +85,7 @@ module _ (n : ℕ) (L : List ℤ) (k : ℕ) (s : List ℤ) (b : Lent) (ready : A
 
   pub answers_yes : learns n L k (table_in n s) ≡ true → (s' : List ℤ) → s' ≡ with_known n s (known_after n L k (known_in n s)) → (m bs : List ℤ) (g : List ℕ) (w : List ℤ)
       → YesWritten n s' b.model b.bounds b.groups b.work m bs g w
-      → Answers n L k s Yes b s' (record { model = m; bounds = bs; groups = g; refutation = b.refutation; identifiers = b.identifiers; work = w })
+      → Answers n L k s (Ok Yes) b s' (record { model = m; bounds = bs; groups = g; refutation = b.refutation; identifiers = b.identifiers; work = w })
   answers_yes e s' is m bs g w o =
       let a : Lent = record { model = m; bounds = bs; groups = g; refutation = b.refutation; identifiers = b.identifiers; work = w } in
       let from : FromKnown n (known_after n L k q) b a =
@@ -98,11 +98,11 @@ module _ (n : ℕ) (L : List ℤ) (k : ℕ) (s : List ℤ) (b : Lent) (ready : A
       record {
         is = sym (ap (λ (c : Bool). learnt_answer c n L b) e);
         state = is;
-        left = subst (λ (c : Bool). LearntLeft c n L (known_after n L k q) Yes b a) (sym e) from;
+        left = subst (λ (c : Bool). LearntLeft c n L (known_after n L k q) (Ok Yes) b a) (sym e) from;
       }
 
   -- ---- else all is decided
-  pub answers_decided : learns n L k (table_in n s) ≡ false → (s' : List ℤ) → s' ≡ with_known n s (known_after n L k (known_in n s)) → (x : Answer) (a : Lent) → Decided n L x b a → Answers n L k s x b s' a
+  pub answers_decided : learns n L k (table_in n s) ≡ false → (s' : List ℤ) → s' ≡ with_known n s (known_after n L k (known_in n s)) → (x : Result Answer Refusal) (a : Lent) → Decided n L x b a → Answers n L k s x b s' a
   answers_decided e s' is x a d =
       record {
         is = d.is ∙ sym (ap (λ (c : Bool). learnt_answer c n L b) e);

@@ -10,6 +10,7 @@ ghost use Rattle.session_answer.specs.Answers.{LearnInReady, YesReady, YesWritte
 
 use decide::{Answer, decide};
 use decide_buffers::{clear, work_room};
+use lines::Refusal;
 use session_known::{give_known, learn_known};
 use session_state::{FRONT_ROOM, session_room};
 
@@ -51,7 +52,7 @@ pub fn answer_learnt(
     refutation: &mut [u32],
     identifiers: &mut [u32],
     work: &mut [i64],
-) -> Answer
+) -> Result<Answer, Refusal>
     requires { AnswerReady n list.now k state.old
         (record { model = model.old; bounds = bounds.old; groups = groups.old; refutation = refutation.old; identifiers = identifiers.old; work = work.old }) }
     ensures { Answers n list.now k state.old result
@@ -61,7 +62,7 @@ pub fn answer_learnt(
 {
     if learn_in(list, k, state, n) {
         write_yes(state, n, model, bounds, groups, work);
-        return Answer::Yes;
+        return Ok(Answer::Yes);
     }
     decide(
         n,

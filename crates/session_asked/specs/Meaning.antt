@@ -1,5 +1,6 @@
 -- At a state that stands, a session's questions answer what the questions about a list answer on the lines so far.
-use Rattle.std.specs.Prelude.{◌≡◌, Bool, not, cond, List, ℕ, ◌*◌, ◌≤◌, ℤ, length}
+use Rattle.lines.specs.declared.Refusal.{Refusal}
+use Rattle.std.specs.Prelude.{◌≡◌, Bool, not, cond, List, ℕ, ◌*◌, ◌≤◌, ℤ, length, Err, Ok, Option, Result}
 use Rattle.std.proofs.Math.Path.{refl, sym, ap}
 use Rattle.std.proofs.Common.{ap₂, subst, ◌∙◌, arith}
 use Rattle.std.proofs.Math.Bool.{true, false}
@@ -7,8 +8,6 @@ use borrow.Author.Tests.{ltb-true, le-ltb}
 use Rattle.std.proofs.Math.Dec.{ltb}
 use Rattle.lines.specs.declared.Line.{Line}
 use Rattle.lines.specs.declared.Refusal.TheVariants.{BadVariable}
-use Rattle.lines.specs.declared.Validity.{Validity}
-use Rattle.lines.specs.declared.Validity.TheVariants as validity
 use Rattle.lines.specs.Line.{line_count, lines_of, numbers_of}
 use Rattle.lines.specs.LineNumbers.{length_numbers_of, lines_of_numbers}
 use Rattle.lines.specs.Refusal.{◌or_else◌, refuse_if, line_validity_lem}
@@ -21,7 +20,6 @@ use Rattle.implied_line.specs.Answer as line
 use Rattle.implied_line.specs.Answer.{question_validity_lem, implied_answer, unless_refused}
 use Rattle.opposite_line.specs.Opposite.{opposed}
 use Rattle.implied_pair.specs.declared.Pair.{Pair}
-use Rattle.implied_pair.specs.declared.PairAnswer.{PairAnswer}
 use Rattle.implied_pair.specs.Pair as pairs
 use Rattle.implied_pair.specs.Pair.{pair_in_lem, pair_validity_lem, pair_call}
 use Rattle.session_step.specs.Read.{small_table}
@@ -56,7 +54,7 @@ module _ {n : ℕ} {ls : List Line} {r : Bool} {s : List ℤ} (k : Stands n ls r
     unfolding line_validity_in
     validity_is = rw (state_head_ok s (is_state k)) (ap₂ (λ (m j : ℕ). line_validity_lem m j l) (variables k) counted)
 
-    from_table : line_validity_lem n (line_count L) l ≡ validity.Valid → line_from_table_lem s l ≡ line.judged n L l
+    from_table : line_validity_lem n (line_count L) l ≡ Ok tt → line_from_table_lem s l ≡ line.judged n L l
     from_table v = go r refl
       where
         go : (q : Bool) → r ≡ q → line_from_table_lem s l ≡ line.judged n L l
@@ -70,25 +68,25 @@ module _ {n : ℕ} {ls : List Line} {r : Bool} {s : List ℤ} (k : Stands n ls r
 
     line_is : line_by s l ≡ unless_refused (line_validity_lem n (line_count L) l) (line.judged n L l)
     unfolding line_by
-    line_is = ap (λ (v : Validity). unless_refused v (line_from_table_lem s l)) validity_is ∙ go (line_validity_lem n (line_count L) l) refl
+    line_is = ap (λ (v : Result Unit Refusal). unless_refused v (line_from_table_lem s l)) validity_is ∙ go (line_validity_lem n (line_count L) l) refl
       where
-        go : (v : Validity) → line_validity_lem n (line_count L) l ≡ v → unless_refused v (line_from_table_lem s l) ≡ unless_refused v (line.judged n L l)
-        go validity.Valid e = from_table e
-        go (validity.Refused q) e = refl
+        go : (v : Result Unit Refusal) → line_validity_lem n (line_count L) l ≡ v → unless_refused v (line_from_table_lem s l) ≡ unless_refused v (line.judged n L l)
+        go (Ok _) e = ap Ok (from_table e)
+        go (Err q) e = refl
 
     -- the answer is that of the question about a list, with lent buffers that have their room
-    pub line_is_implied : (b : ModelLent) → first_short model_rooms n (model_lengths_of b) ≡ validity.Valid → line_by s l ≡ line.answer_for n (numbers_of ls) l b
+    pub line_is_implied : (b : ModelLent) → first_short model_rooms n (model_lengths_of b) ≡ Ok tt → line_by s l ≡ line.answer_for n (numbers_of ls) l b
     unfolding implied_answer question_validity_lem
     line_is_implied b room = line_is ∙ sym (rw (k.valid, room) (go (line_validity_lem n (line_count L) l)))
       where
-        go : (v : Validity) → unless_refused (v or_else validity.Valid) (line.judged n L l) ≡ unless_refused v (line.judged n L l)
-        go validity.Valid = refl
-        go (validity.Refused q) = refl
+        go : (v : Result Unit Refusal) → unless_refused (v or_else Ok tt) (line.judged n L l) ≡ unless_refused v (line.judged n L l)
+        go (Ok _) = refl
+        go (Err q) = refl
 
   -- ---- two variables
   module _ (x y : ℕ) where
     -- by the verdict and the distances
-    abbrev due : PairAnswer
+    abbrev due : Option Pair
     due = pairs.judged (verdict_of n (lines_of L)) (pair_in_lem (distances n (lines_of L)) x y)
 
     two_is : pair_validity_in s x y ≡ (refuse_if (not (ltb x n)) (BadVariable 0) or_else refuse_if (not (ltb y n)) (BadVariable 1))
@@ -115,18 +113,18 @@ module _ {n : ℕ} {ls : List Line} {r : Bool} {s : List ℤ} (k : Stands n ls r
     pub pair_is_implied : (w : List ℤ) → work_room_lem n ≤ length w → pair_by s x y ≡ (pair_call n (numbers_of ls) x y w).answer
     unfolding pair_by pair_call pair_validity_lem
     pair_is_implied w room =
-        ap (λ (v : Validity). pair_unless v (pair_from_table_lem s x y)) two_is
+        ap (λ (v : Result Unit Refusal). pair_unless v (pair_from_table_lem s x y)) two_is
         ∙ go (ltb x n) (ltb y n) refl refl
         ∙ sym (rw (k.valid, le-ltb (length w) (work_room_lem n) room) (again (ltb x n) (ltb y n)))
       where
         go : (p q : Bool) → ltb x n ≡ p → ltb y n ≡ q
             → pair_unless (refuse_if (not p) (BadVariable 0) or_else refuse_if (not q) (BadVariable 1)) (pair_from_table_lem s x y) ≡ pair_unless (refuse_if (not p) (BadVariable 0) or_else refuse_if (not q) (BadVariable 1)) due
-        go true true e f = from_distances e f
+        go true true e f = ap Ok (from_distances e f)
         go true false e f = refl
         go false q e f = refl
 
         again : (p q : Bool)
-            → (pairs.unless_refused (refuse_if (not p) (BadVariable 0) or_else refuse_if (not q) (BadVariable 1) or_else validity.Valid) (pairs.called due (cleared n w)) w).answer
+            → (pairs.unless_refused (refuse_if (not p) (BadVariable 0) or_else refuse_if (not q) (BadVariable 1) or_else Ok tt) (pairs.called (Ok due) (cleared n w)) w).answer
             ≡ pair_unless (refuse_if (not p) (BadVariable 0) or_else refuse_if (not q) (BadVariable 1)) due
         again true true = refl
         again true false = refl

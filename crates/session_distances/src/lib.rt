@@ -16,15 +16,14 @@ fn is_distance(entry: i64) -> bool
 }
 
 // The place of the first number that is no distance, or how many numbers there are.
+#[tactic(auto, using(integers::proofs::Searching::searching))]
 pub fn first_beyond(table: &[i64]) -> usize
     ensures { result ≡ first_failing_lem (length table.now) (distance_at table.now) }
 {
-    let mut i = 0;
-    while i < table.len() {
+    for i in 0..table.len() {
         if !is_distance(table[i]) {
             return i;
         }
-        i += 1;
     }
-    i
+    table.len()
 }

@@ -1,5 +1,6 @@
 -- The model and the groups as a session keeps them, n values and 2n numbers: what they are after a line is learnt, when they stay, and what is handed
 -- out of them. All is defined whatever numbers the table and the kept outputs hold.
+use Rattle.steps.specs.declared.Step.{Step}
 use Rattle.std.specs.Prelude.{◌≡◌, Bool, true, not, cond, ◌&&◌, ◌||◌, List, ◌++◌, map, ℕ, ◌+◌, ◌*◌, ◌≤◌, ℤ, pos, nat_abs, length, take, drop}
 use Rattle.std.specs.Int.Signed.{lt_z}
 use Rattle.integers.specs.Integer.{is_between}
@@ -7,8 +8,6 @@ use Rattle.integers.specs.Sequence.{tabulate}
 use Rattle.lines.specs.declared.Line.{Line}
 use Rattle.lines.specs.Limits.{max_variables}
 use Rattle.lines.specs.Line.{number, meets, assignment_of}
-use Rattle.steps.specs.declared.NamedStep.{NamedStep}
-use Rattle.steps.specs.declared.NamedStep.TheVariants.{Found, Nothing}
 use Rattle.steps.specs.Step.{step_numbered_lem}
 use Rattle.theory_walks.specs.Distance.{Distance, none, some}
 use Rattle.theory_bounds.specs.Tight.{Table}

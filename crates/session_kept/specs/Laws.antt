@@ -1,5 +1,5 @@
 -- The ways through the code: what each leaves of the kept outputs, a wide step as it is stored, and one value, bound or number of the groups.
-use Rattle.std.specs.Prelude.{◌≡◌, refl, Bool, true, false, not, cond, ◌||◌, List, ◌∷◌, ◌++◌, ℕ, zero, suc, ◌+◌, ◌*◌, ◌-◌, ◌/◌, ◌%◌, ◌^◌, ◌<◌, ◌≤◌, ℤ, pos, nat_abs, ◌-ℤ◌, length, get_or, take, drop}
+use Rattle.std.specs.Prelude.{◌≡◌, refl, Bool, true, false, not, cond, ◌||◌, List, ◌∷◌, ◌++◌, ℕ, zero, suc, ◌+◌, ◌*◌, ◌-◌, ◌/◌, ◌%◌, ◌^◌, ◌<◌, ◌≤◌, ℤ, pos, nat_abs, ◌-ℤ◌, length, get_or, take, drop, None, Option, Some}
 use Rattle.std.proofs.Common.{sym, ap, ap₂, ◌∙◌, append-nil, arith, eq-eqb, ne_eqb, le-leb, take-append-drop, length-append, length-drop, drop_of_length-le, take_at, drop_at, take_all, length-take-le, SFits}
 use Rattle.std.proofs.Math.Decide.{dec_lt}
 use Rattle.std.proofs.Math.ListN.{get_or-eq_default}
@@ -9,13 +9,11 @@ use Rattle.integers.specs.Integer.{◌⩽◌, is_between, Within}
 use Rattle.integers.proofs.Linear.{ints}
 use Rattle.integers.specs.Laws.{and_true, both_true}
 use Rattle.integers.proofs.Halving.{is_within}
-use Rattle.integers.specs.Sequence.{tabulate, tabulate_get_d, length_tabulate, get_d_tabulate}
+use Rattle.integers.specs.Sequence.{tabulate, tabulate_get_d, tabulate_cong, length_tabulate, get_d_tabulate}
 use Rattle.integers.specs.Lowest.{first_failing_lem}
 use Rattle.lines.specs.Limits.{max_variables, max_value, absent_least}
 use Rattle.lines.specs.Line.{number, assignment_of}
 use Rattle.steps.specs.declared.Step.{Step}
-use Rattle.steps.specs.declared.NamedStep.{NamedStep}
-use Rattle.steps.specs.declared.NamedStep.TheVariants.{Found, Nothing}
 use Rattle.steps.specs.Point.{point}
 use Rattle.theory_walks.specs.Distance.{Distance, none, some}
 use Rattle.theory_walks.specs.Size.{within_more}
@@ -34,6 +32,11 @@ use Rattle.session_distances.specs.Distances.{distance_at, all_distances, beyond
 use Rattle.session_state.specs.State.{kept_room_lem, widened}
 use Rattle.theory_kept.specs.Slack.{equal_slack, is_wide, wide_step}
 use Rattle.session_kept.specs.Kept.{kept_after, value_at, small_group_lem}
+
+-- ---- numbers that are copied to the front
+pub copied_front : (n : ℕ) (f : ℕ → ℤ) (before now : List ℤ) → n ≤ length now → ((k : ℕ) → k < n → number now k ≡ f k) → drop n now ≡ drop n before → now ≡ tabulate n f ++ drop n before
+copied_front n f before now h copied rest =
+    sym (take-append-drop n now) ∙ ap₂ (λ (x y : List ℤ). x ++ y) (sym (tabulate_get_d n now (pos 0) h) ∙ tabulate_cong n (number now) f copied) rest
 
 -- ---- numbers of the groups as they are kept
 widened_tabulate : (n : ℕ) (f : ℕ → ℕ) → widened (tabulate n f) ≡ tabulate n (λ i. pos (f i))
@@ -146,11 +149,11 @@ wide_stored : (d : Distance) → lt_z (equal_slack) (stored d) ≡ is_wide d
 wide_stored none = refl
 wide_stored (some z) = refl
 
-module _ (D : Table) (x : NamedStep) where
-  pub wide_found : (s : Step) → x ≡ Found s → (r : ℤ) → r ≡ stored (closing D s) → lt_z (equal_slack) r ≡ wide_step D x
+module _ (D : Table) (x : Option Step) where
+  pub wide_found : (s : Step) → x ≡ Some s → (r : ℤ) → r ≡ stored (closing D s) → lt_z (equal_slack) r ≡ wide_step D x
   wide_found s e r is = ap (lt_z (equal_slack)) is ∙ wide_stored (closing D s) ∙ sym (ap (wide_step D) e)
 
-  pub wide_nothing : x ≡ Nothing → true ≡ wide_step D x
+  pub wide_nothing : x ≡ None → true ≡ wide_step D x
   wide_nothing e = rw e refl
 
 -- ---- one bound, by the half of a point

@@ -3,10 +3,10 @@
 
 #![tactic(auto)]
 
-ghost use Rattle.std.specs.Prelude.{◌≡◌, cond, ◌++◌, ◌+◌, ◌*◌, ◌<◌, ◌≤◌, length, take, drop};
+ghost use Rattle.std.specs.Prelude.{◌≡◌, cond, ◌++◌, ℕ, ◌+◌, ◌*◌, ◌<◌, ◌≤◌, length, get_or, take, drop};
 ghost use Rattle.integers.specs.Sequence.{tabulate};
 ghost use Rattle.lines.specs.Limits.{max_variables};
-ghost use Rattle.lines.specs.Line.{line_count};
+ghost use Rattle.lines.specs.Line.{line_count, number};
 ghost use Rattle.lines.specs.Valid.{LineWorks, LinesOk};
 ghost use Rattle.steps.specs.Step.{step_numbered_lem};
 ghost use Rattle.theory_bounds.specs.Answers.{bound_at, group_at_lem};
@@ -29,29 +29,16 @@ use session_distances::first_beyond;
 use session_learn::EQUAL_SLACK;
 use session_questions::half_of;
 use session_step::{MOST_POINTS, sum_along};
-use steps::{NamedStep, step_numbered};
+use steps::step_numbered;
 
-// Copies the first n values to the front of the kept numbers.
-fn keep_values(values: &[i32], n: usize, kept: &mut [i64])
-    requires { (n ≤ length values.now) × (n ≤ length kept.old) }
-    ensures { kept.new ≡ take n values.now ++ drop n kept.old }
+// Copies the first numbers of a list to the front of the kept numbers.
+fn keep<T: Copy + Into<i64>>(numbers: &[T], count: usize, kept: &mut [i64])
+    requires { (count ≤ length numbers.now) × (count ≤ length kept.old) }
+    ensures copied { (k : ℕ) (x : T) → k < count → T.converts (get_or numbers.now k x) (number kept.new k) }
+    ensures rest { drop count kept.new ≡ drop count kept.old }
 {
-    let mut i = 0;
-    while i < n {
-        kept[i] = values[i] as i64;
-        i += 1;
-    }
-}
-
-// Copies the first numbers of the groups to the front of the kept numbers.
-fn keep_groups(groups: &[u32], count: usize, kept: &mut [i64])
-    requires { (count ≤ length groups.now) × (count ≤ length kept.old) }
-    ensures { kept.new ≡ widened (take count groups.now) ++ drop count kept.old }
-{
-    let mut i = 0;
-    while i < count {
-        kept[i] = groups[i] as i64;
-        i += 1;
+    for i in 0..count {
+        kept[i] = numbers[i].into();
     }
 }
 
@@ -65,7 +52,7 @@ fn renew_model(table: &[i64], n: usize, stays: bool, kept: &mut [i64])
     }
     let mut values = [0i32; MAX_VARIABLES];
     write_values(table, n, &mut values);
-    keep_values(&values, n, kept);
+    keep(&values, n, kept);
 }
 
 // The groups as they stay, or read off the table: the kept numbers behind the model.
@@ -80,7 +67,7 @@ fn renew_groups(table: &[i64], n: usize, stays: bool, kept: &mut [i64])
     let mut groups = [0u32; MOST_POINTS];
     write_bounds(table, n, &mut bounds);
     write_groups(table, n, &bounds, &mut groups);
-    keep_groups(&groups, 2 * n, kept);
+    keep(&groups, 2 * n, kept);
 }
 
 // What does not stay is read off the table anew, where each of its numbers is a distance; else nothing is written.
@@ -104,10 +91,8 @@ fn read_values(kept: &[i64], n: usize, values: &mut [i64])
     requires { (n ≤ length kept.now) × (n ≤ length values.old) }
     ensures { values.new ≡ tabulate n (value_at kept.now) ++ drop n values.old }
 {
-    let mut i = 0;
-    while i < n {
+    for i in 0..n {
         values[i] = small_value(kept[i]);
-        i += 1;
     }
 }
 
@@ -127,7 +112,7 @@ fn step_wide(list: &[i32], number: usize, table: &[i64], n: usize) -> bool
     ensures { result ≡ wide_step (small_table (2 * n) table.now) (step_numbered_lem list.now number) }
 {
     let named = step_numbered(list, number);
-    if let NamedStep::Found(step) = named {
+    if let Some(step) = named {
         return EQUAL_SLACK < sum_along(table, n, step.to, step);
     }
     true
@@ -160,10 +145,8 @@ fn give_model(kept: &[i64], n: usize, model: &mut [i32])
     requires { (n ≤ length kept.now) × (n ≤ length model.old) }
     ensures { model.new ≡ tabulate n (value_at kept.now) ++ drop n model.old }
 {
-    let mut i = 0;
-    while i < n {
+    for i in 0..n {
         model[i] = small_value(kept[i]) as i32;
-        i += 1;
     }
 }
 
@@ -189,10 +172,8 @@ fn give_bounds(table: &[i64], n: usize, bounds: &mut [i64])
     ensures { bounds.new ≡ tabulate (2 * n) (bound_at (small_table (2 * n) table.now)) ++ drop (2 * n) bounds.old }
 {
     let count = 2 * n;
-    let mut i = 0;
-    while i < count {
+    for i in 0..count {
         bounds[i] = bound_of(table, n, i);
-        i += 1;
     }
 }
 
@@ -202,10 +183,8 @@ fn give_groups(kept: &[i64], n: usize, groups: &mut [u32])
     ensures { groups.new ≡ tabulate (2 * n) (group_number n kept.now) ++ drop (2 * n) groups.old }
 {
     let count = 2 * n;
-    let mut i = 0;
-    while i < count {
+    for i in 0..count {
         groups[i] = small_group(kept[n + i]);
-        i += 1;
     }
 }
 

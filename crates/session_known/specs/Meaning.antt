@@ -3,7 +3,8 @@
 --
 -- With one line more the model is the old one where that meets the line, since it is the nearest to zero among more solutions; and the groups are the old
 -- ones where no closed walk through the line's steps is near 0, since only such a walk makes two variables equal that were not (theory_kept).
-use Rattle.std.specs.Prelude.{◌≡◌, refl, Bool, true, not, ◌&&◌, ℕ, ◌+◌, ◌*◌, ◌%◌, ℤ, length, drop}
+use Rattle.steps.specs.declared.Step.{Step}
+use Rattle.std.specs.Prelude.{◌≡◌, refl, Bool, true, not, ◌&&◌, ℕ, ◌+◌, ◌*◌, ◌%◌, ℤ, length, drop, None, Option, Some}
 use Rattle.std.proofs.Common.{sym, subst, ◌∙◌, arith}
 use Rattle.std.proofs.Math.Path.{ap, ap₂}
 use Rattle.std.proofs.Math.Bool.{false}
@@ -15,8 +16,6 @@ use Rattle.lines.specs.Line.{line_count, line_at, lines_of, line_numbers_lem, as
 use Rattle.lines.specs.LineNumbers.{line_last}
 use Rattle.lines.specs.Solutions.{meets_true}
 use Rattle.lines.specs.Valid.{Workable, Modellable}
-use Rattle.steps.specs.declared.NamedStep.{NamedStep}
-use Rattle.steps.specs.declared.NamedStep.TheVariants.{Found, Nothing}
 use Rattle.steps.specs.Step.{steps_of, step_numbered_lem}
 use Rattle.theory_walks.specs.Distance.{Distance}
 use Rattle.theory_walks.specs.Graph.{ends_points, weights_small}
@@ -120,12 +119,12 @@ module _ (n : ℕ) (L : List ℤ) (l : Line) (whole : length L % line_size ≡ 0
       (sym (keeps_model n L valid modelled yes_verdict (widened (groups_of n (lines_of L))) q refl l) ∙ ap (keeps_model_lem n q) (sym (line_last L l whole)) ∙ e))
 
   -- a step that is wide in the table that is read is wide among the distances
-  wide_read : (x : NamedStep) → EndsBelow (2 * n) x → wide_step (small_table (2 * n) t') x ≡ wide_step (distances n (lines_of (L ++ line_numbers_lem l))) x
-  wide_read (Found s) e =
+  wide_read : (x : Option Step) → EndsBelow (2 * n) x → wide_step (small_table (2 * n) t') x ≡ wide_step (distances n (lines_of (L ++ line_numbers_lem l))) x
+  wide_read (Some s) e =
       let small = small_agree n t' (short_table n (steps_of (lines_of M)) t' table_more) in
       let best = agree n (steps_of (lines_of M)) t' table_more in
       ap is_wide (closing_same (2 * n) _ _ small s e.0 e.1 ∙ closing_same (2 * n) _ _ best s e.0 e.1)
-  wide_read Nothing e = refl
+  wide_read None e = refl
 
   groups_wide : keeps_groups_lem n (L ++ line_numbers_lem l) (line_count L) t' ≡ true → groups_of n (lines_of (L ++ line_numbers_lem l)) ≡ groups_of n (lines_of L)
   groups_wide e =

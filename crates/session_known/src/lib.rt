@@ -22,10 +22,8 @@ fn put_numbers(numbers: &[i64], list: &mut [i64])
     requires { length numbers.now ≤ length list.old }
     ensures { list.new ≡ numbers.now ++ drop (length numbers.now) list.old }
 {
-    let mut i = 0;
-    while i < numbers.len() {
+    for i in 0..numbers.len() {
         list[i] = numbers[i];
-        i += 1;
     }
 }
 

@@ -1,6 +1,7 @@
 -- What learning a line answers and leaves, whatever the table holds; and what it means where the table is that of a list with a solution: the verdict on the
 -- longer list, and its table.
-use Rattle.std.specs.Prelude.{◌≡◌, Bool, cond, ◌&&◌, ◌||◌, List, ◌++◌, ℕ, ◌+◌, ◌*◌, ◌%◌, ◌<◌, ℤ}
+use Rattle.steps.specs.declared.Step.{Step}
+use Rattle.std.specs.Prelude.{◌≡◌, Bool, cond, ◌&&◌, ◌||◌, List, ◌++◌, ℕ, ◌+◌, ◌*◌, ◌%◌, ◌<◌, ℤ, None, Option, Some}
 use Rattle.std.proofs.Math.Path.{refl, sym, ap}
 use Rattle.std.proofs.Common.{◌∙◌, arith}
 use Rattle.std.proofs.Math.Bool.{true, false, not}
@@ -12,8 +13,6 @@ use Rattle.lines.specs.Limits.{line_size}
 use Rattle.lines.specs.Line.{line_count, line_at, lines_of, line_numbers_lem, is_false_lem}
 use Rattle.lines.specs.LineNumbers.{length_numbers, line_last}
 use Rattle.lines.specs.Valid.{LinesOk}
-use Rattle.steps.specs.declared.NamedStep.{NamedStep}
-use Rattle.steps.specs.declared.NamedStep.TheVariants.{Found, Nothing}
 use Rattle.steps.specs.Step.{steps_of, step_numbered_lem}
 use Rattle.theory_walks.specs.Least.{NoneNegative}
 use Rattle.theory_walks.specs.Negative.{no_negative, no_negative_yes}
@@ -33,7 +32,7 @@ use Rattle.session_line.specs.Verdict.{longer_verdict}
 
 -- ---- definitions
 -- two steps are wide
-abbrev pub both_wide_lem : Table → NamedStep → NamedStep → Bool
+abbrev pub both_wide_lem : Table → Option Step → Option Step → Bool
 both_wide_lem D x y = wide_step D x && wide_step D y
 
 -- whether halves stand with the steps of line k: where both are wide they do, since they did before; else each is asked for
@@ -107,10 +106,10 @@ module _ (n : ℕ) (L : List ℤ) (l : Line) (whole : length L % line_size ≡ 0
       D : Table
       D = line_inserted (2 * n) M k t
 
-      x : NamedStep
+      x : Option Step
       x = step_numbered_lem M (2 * k)
 
-      y : NamedStep
+      y : Option Step
       y = step_numbered_lem M (2 * k + 1)
 
       agree : Agree (2 * n) (line_inserted (2 * n) M k t) (distances n (lines_of M))
@@ -124,9 +123,9 @@ module _ (n : ℕ) (L : List ℤ) (l : Line) (whole : length L % line_size ≡ 0
           let rest = (and_true (not (has_false (lines_of L))) (no_negative (steps_of (lines_of L)) (2 * n) && consistent_halves n (lines_of L)) yes_verdict).1 in
           (and_true (no_negative (steps_of (lines_of L)) (2 * n)) (consistent_halves n (lines_of L)) rest).1
 
-      wide_same : (z : NamedStep) → EndsBelow (2 * n) z → wide_step (line_inserted (2 * n) M k t) z ≡ true → wide_step (distances n (lines_of M)) z ≡ true
-      wide_same (Found s) e w = sym (ap is_wide (closing_same (2 * n) _ _ agree s e.0 e.1)) ∙ w
-      wide_same Nothing e w = refl
+      wide_same : (z : Option Step) → EndsBelow (2 * n) z → wide_step (line_inserted (2 * n) M k t) z ≡ true → wide_step (distances n (lines_of M)) z ≡ true
+      wide_same (Some s) e w = sym (ap is_wide (closing_same (2 * n) _ _ agree s e.0 e.1)) ∙ w
+      wide_same None e w = refl
 
       go : (b : Bool) → both_wide_lem (line_inserted (2 * n) M k t) (step_numbered_lem M (2 * k)) (step_numbered_lem M (2 * k + 1)) ≡ b
           → (b || all_below (2 * n) (halves_ok_lem (line_inserted (2 * n) M k t))) ≡ all_below (2 * n) (halves_ok_lem (line_inserted (2 * n) M k t))

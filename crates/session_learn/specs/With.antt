@@ -1,5 +1,5 @@
 -- An entry of a table that may hold any numbers, with a step put in, or with two: each is small enough to be added to another.
-use Rattle.std.specs.Prelude.{◌≡◌, refl, Bool, true, false, List, ℕ, ◌+◌, ◌*◌, ◌<◌, ℤ, pos, neg_ℤ, ◌+ℤ◌, ◌-ℤ◌}
+use Rattle.std.specs.Prelude.{◌≡◌, refl, Bool, true, false, List, ℕ, ◌+◌, ◌*◌, ◌<◌, ℤ, pos, neg_ℤ, ◌+ℤ◌, ◌-ℤ◌, None, Option, Some}
 use Rattle.std.proofs.Common.{sym, ap, ap₂, ◌∙◌, add-one, arith, SFits}
 use Rattle.std.specs.Int.Signed.{le_z, lt_z}
 use Rattle.std.specs.Int.{w64}
@@ -10,8 +10,6 @@ use Rattle.integers.specs.Table.{all_below, below_at}
 use Rattle.lines.specs.Line.{number}
 use Rattle.lines.specs.Valid.{LinesOk}
 use Rattle.steps.specs.declared.Step.{Step}
-use Rattle.steps.specs.declared.NamedStep.{NamedStep}
-use Rattle.steps.specs.declared.NamedStep.TheVariants.{Found, Nothing}
 use Rattle.steps.specs.Step.{max_weight, step_numbered_lem}
 use Rattle.theory_walks.specs.Distance.{Distance, none, some, min_d, half_d, ◌⊕◌, ◌⊞◌}
 use Rattle.theory_walks.specs.Size.{within_more, within_sum}
@@ -35,25 +33,25 @@ abbrev pub max_twice : ℕ
 max_twice = max_way + max_weight + max_way
 
 -- a step that may be there
-abbrev pub NamedStepOk : ℕ → NamedStep → Type 0
-NamedStepOk n (Found s) = StepOk n s
-NamedStepOk n Nothing = Unit {0}
+abbrev pub NamedStepOk : ℕ → Option Step → Type 0
+NamedStepOk n (Some s) = StepOk n s
+NamedStepOk n None = Unit {0}
 
-pub record EntryReady (n : ℕ) (t : List ℤ) (x : NamedStep) (u v : ℕ) : Type 0 where
+pub record EntryReady (n : ℕ) (t : List ℤ) (x : Option Step) (u v : ℕ) : Type 0 where
   pub table : SizedTable n t
   pub step : NamedStepOk n x
   pub u_lt : u < 2 * n
   pub v_lt : v < 2 * n
 
-pub record StepsReady (n : ℕ) (t : List ℤ) (x y : NamedStep) : Type 0 where
+pub record StepsReady (n : ℕ) (t : List ℤ) (x y : Option Step) : Type 0 where
   pub table : SizedTable n t
   pub first : NamedStepOk n x
   pub second : NamedStepOk n y
 
 -- a step of a list's line
-pub numbered_named : (n : ℕ) (L : List ℤ) → LinesOk n L → (k : ℕ) (x : NamedStep) → x ≡ step_numbered_lem L k → NamedStepOk n x
-numbered_named n L ok k (Found s) e = numbered_ok n L ok k s (sym e)
-numbered_named n L ok k Nothing e = tt
+pub numbered_named : (n : ℕ) (L : List ℤ) → LinesOk n L → (k : ℕ) (x : Option Step) → x ≡ step_numbered_lem L k → NamedStepOk n x
+numbered_named n L ok k (Some s) e = numbered_ok n L ok k s (sym e)
+numbered_named n L ok k None e = tt
 
 -- ---- how large
 way_short : (m : ℕ) (a b : Distance) (w : ℤ) → Short m a → Short m b → Within max_weight w → Short (m + max_weight + m) (a ⊕ w ⊞ b)
@@ -61,15 +59,15 @@ way_short m none b w ha hb hw z e = never (cc)
 way_short m (some x) none w ha hb hw z e = never (cc)
 way_short m (some x) (some y) w ha hb hw z e = let q : x +ℤ w +ℤ y ≡ z = (cc) in rw q at (within_sum (within_sum (ha x refl) hw) (hb y refl))
 
-named_short : (n m : ℕ) (D : Table) → ((u v : ℕ) → Short m (D u v)) → (x : NamedStep) → NamedStepOk n x → (u v : ℕ) → Short (m + max_weight + m) (insert_named D x u v)
-named_short n m D h (Found s) ok u v = min_short (D u v) _ _ (short_more (omega arith) (h u v)) (way_short m (D u s.from) (D s.to v) s.weight (h u s.from) (h s.to v) ok.small)
-named_short n m D h Nothing ok u v = short_more (omega arith) (h u v)
+named_short : (n m : ℕ) (D : Table) → ((u v : ℕ) → Short m (D u v)) → (x : Option Step) → NamedStepOk n x → (u v : ℕ) → Short (m + max_weight + m) (insert_named D x u v)
+named_short n m D h (Some s) ok u v = min_short (D u v) _ _ (short_more (omega arith) (h u v)) (way_short m (D u s.from) (D s.to v) s.weight (h u s.from) (h s.to v) ok.small)
+named_short n m D h None ok u v = short_more (omega arith) (h u v)
 
-module _ (n : ℕ) (t : List ℤ) (x : NamedStep) (ok : NamedStepOk n x) where
+module _ (n : ℕ) (t : List ℤ) (x : Option Step) (ok : NamedStepOk n x) where
   pub once_short : (u v : ℕ) → Short max_way (insert_named (small_table (2 * n) t) x u v)
   once_short = named_short n max_distance (small_table (2 * n) t) (λ u v. small_short (number t (v * (2 * n) + u))) x ok
 
-  pub twice_short : (y : NamedStep) → NamedStepOk n y → (u v : ℕ) → Short max_twice (insert_named (insert_named (small_table (2 * n) t) x) y u v)
+  pub twice_short : (y : Option Step) → NamedStepOk n y → (u v : ℕ) → Short max_twice (insert_named (insert_named (small_table (2 * n) t) x) y u v)
   twice_short y oy = named_short n max_way (insert_named (small_table (2 * n) t) x) once_short y oy
 
 -- ---- read back

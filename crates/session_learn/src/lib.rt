@@ -24,7 +24,7 @@ use integers::halved;
 use lines::{is_false, line_at};
 use session_line::{both_stay, put_line};
 use session_step::read_at;
-use steps::{NamedStep, opposite_of, step_numbered};
+use steps::{Step, opposite_of, step_numbered};
 
 // The greatest sum of a closed walk that makes two points equal, or halves contradict.
 pub const EQUAL_SLACK: i64 = 2;
@@ -44,12 +44,12 @@ fn way_with(own: i64, before: i64, weight: i64, after: i64) -> i64
 }
 
 // The distance from u to v with a step that may be there.
-fn entry_with(table: &[i64], n: usize, x: NamedStep, u: usize, v: usize) -> i64
+fn entry_with(table: &[i64], n: usize, x: Option<Step>, u: usize, v: usize) -> i64
     requires { EntryReady n table.now x u v }
     ensures { result ≡ stored (insert_named (small_table (2 * n) table.now) x u v) }
 {
     let own = read_at(table, n, u, v);
-    if let NamedStep::Found(s) = x {
+    if let Some(s) = x {
         let before = read_at(table, n, u, s.from);
         let after = read_at(table, n, s.to, v);
         return way_with(own, before, s.weight, after);
@@ -58,12 +58,19 @@ fn entry_with(table: &[i64], n: usize, x: NamedStep, u: usize, v: usize) -> i64
 }
 
 // The same with another step, too.
-fn entry_with_both(table: &[i64], n: usize, x: NamedStep, y: NamedStep, u: usize, v: usize) -> i64
+fn entry_with_both(
+    table: &[i64],
+    n: usize,
+    x: Option<Step>,
+    y: Option<Step>,
+    u: usize,
+    v: usize,
+) -> i64
     requires { EntryReady n table.now x u v × EntryReady n table.now y u v }
     ensures { result ≡ stored (insert_named (insert_named (small_table (2 * n) table.now) x) y u v) }
 {
     let own = entry_with(table, n, x, u, v);
-    if let NamedStep::Found(s) = y {
+    if let Some(s) = y {
         let before = entry_with(table, n, x, u, s.from);
         let after = entry_with(table, n, x, s.to, v);
         return way_with(own, before, s.weight, after);
@@ -85,7 +92,7 @@ fn halves_meet(there: i64, back: i64) -> bool
 }
 
 // Whether the greatest value of a point is not below its least, with two steps.
-fn point_stands(table: &[i64], n: usize, x: NamedStep, y: NamedStep, p: usize) -> bool
+fn point_stands(table: &[i64], n: usize, x: Option<Step>, y: Option<Step>, p: usize) -> bool
     requires { StepsReady n table.now x y × (p < 2 * n) }
     ensures { result ≡ halves_ok_lem (insert_named (insert_named (small_table (2 * n) table.now) x) y) p }
 {
@@ -96,27 +103,25 @@ fn point_stands(table: &[i64], n: usize, x: NamedStep, y: NamedStep, p: usize) -
 }
 
 // The same of all points.
-fn points_stand(table: &[i64], n: usize, x: NamedStep, y: NamedStep) -> bool
+fn points_stand(table: &[i64], n: usize, x: Option<Step>, y: Option<Step>) -> bool
     requires { StepsReady n table.now x y }
     ensures { result ≡ all_below (2 * n) (halves_ok_lem (insert_named (insert_named (small_table (2 * n) table.now) x) y)) }
 {
     let count = 2 * n;
-    let mut p = 0;
-    while p < count {
+    for p in 0..count {
         if !point_stands(table, n, x, y, p) {
             return false;
         }
-        p += 1;
     }
     true
 }
 
 // Whether each closed walk through a step that may be there has a sum above the slack, with two steps.
-fn is_wide(table: &[i64], n: usize, x: NamedStep, y: NamedStep, step: NamedStep) -> bool
+fn is_wide(table: &[i64], n: usize, x: Option<Step>, y: Option<Step>, step: Option<Step>) -> bool
     requires { StepsReady n table.now x y × NamedStepOk n step }
     ensures { result ≡ wide_step (insert_named (insert_named (small_table (2 * n) table.now) x) y) step }
 {
-    if let NamedStep::Found(s) = step {
+    if let Some(s) = step {
         let back = entry_with_both(table, n, x, y, s.to, s.from);
         return EQUAL_SLACK - s.weight < back;
     }
@@ -124,7 +129,7 @@ fn is_wide(table: &[i64], n: usize, x: NamedStep, y: NamedStep, step: NamedStep)
 }
 
 // The same of both steps. Then no halves contradict that did not before, and no point need be asked.
-fn both_wide(table: &[i64], n: usize, x: NamedStep, y: NamedStep) -> bool
+fn both_wide(table: &[i64], n: usize, x: Option<Step>, y: Option<Step>) -> bool
     requires { StepsReady n table.now x y }
     ensures { result ≡ both_wide_lem (insert_named (insert_named (small_table (2 * n) table.now) x) y) x y }
 {

@@ -1,5 +1,5 @@
 -- Both steps of a line tested before either is put in; and what a table is read as with both.
-use Rattle.std.specs.Prelude.{◌≡◌, refl, Bool, true, false, ◌&&◌, List, ◌++◌, ℕ, ◌+◌, ◌*◌, ℤ, pos, neg_ℤ, ◌+ℤ◌, ◌-ℤ◌}
+use Rattle.std.specs.Prelude.{◌≡◌, refl, Bool, true, false, ◌&&◌, List, ◌++◌, ℕ, ◌+◌, ◌*◌, ℤ, pos, neg_ℤ, ◌+ℤ◌, ◌-ℤ◌, None, Option, Some}
 use Rattle.std.proofs.Common.{sym, ap, ap₂, ◌∙◌, arith, SFits}
 use Rattle.std.specs.Int.Signed.{le_z}
 use Rattle.std.specs.Int.{w64}
@@ -7,8 +7,6 @@ use Rattle.integers.specs.Integer.{◌⩽◌, Within}
 use Rattle.integers.proofs.Linear.{ints, zs}
 use Rattle.lines.specs.Valid.{LinesOk}
 use Rattle.steps.specs.declared.Step.{Step}
-use Rattle.steps.specs.declared.NamedStep.{NamedStep}
-use Rattle.steps.specs.declared.NamedStep.TheVariants.{Found, Nothing}
 use Rattle.steps.specs.Step.{max_weight, step_numbered_lem, named}
 use Rattle.theory_walks.specs.Distance.{Distance, none, some, min_d, ◌⊕◌, ◌⊞◌}
 use Rattle.theory_walks.specs.Row.{best}
@@ -26,7 +24,7 @@ use Rattle.session_step.specs.Meaning.{TableFor, agree, short_table}
 use Rattle.session_line.specs.Numbered.{ends}
 
 -- whether neither step closes a walk of negative sum, the second with the first in place
-abbrev pub both_stay : Table → NamedStep → NamedStep → Bool
+abbrev pub both_stay : Table → Option Step → Option Step → Bool
 both_stay D x y = stays D x && stays (insert_named D x) y
 
 abbrev pub line_stays_in : ℕ → List ℤ → ℕ → List ℤ → Bool
@@ -65,22 +63,22 @@ smaller_is c x y a p q b r ea ep eq hx hy eb er =
     er ∙ ap₂ (λ (d e : Distance). stored (min_d d e)) ea sum
 
 -- ---- the five ways through the code
-module _ (D : Table) (x y : NamedStep) where
-  module _ (a : Step) (ex : x ≡ Found a) where
+module _ (D : Table) (x y : Option Step) where
+  module _ (a : Step) (ex : x ≡ Some a) where
     pub both_no : not_below0 (closing D a) ≡ false → false ≡ both_stay D x y
     both_no e = rw (ex, e) refl
 
-    pub both_one : not_below0 (closing D a) ≡ true → y ≡ Nothing → true ≡ both_stay D x y
+    pub both_one : not_below0 (closing D a) ≡ true → y ≡ None → true ≡ both_stay D x y
     both_one e ey = rw (ex, ey, e) refl
 
-    pub both_two : not_below0 (closing D a) ≡ true → (b : Step) → y ≡ Found b → (r : Bool) → r ≡ not_below0 (closing (inserted D a) b) → r ≡ both_stay D x y
+    pub both_two : not_below0 (closing D a) ≡ true → (b : Step) → y ≡ Some b → (r : Bool) → r ≡ not_below0 (closing (inserted D a) b) → r ≡ both_stay D x y
     both_two e b ey r er = rw (ex, ey, e) er
 
-  module _ (ex : x ≡ Nothing) where
-    pub both_other : (b : Step) → y ≡ Found b → (r : Bool) → r ≡ not_below0 (closing D b) → r ≡ both_stay D x y
+  module _ (ex : x ≡ None) where
+    pub both_other : (b : Step) → y ≡ Some b → (r : Bool) → r ≡ not_below0 (closing D b) → r ≡ both_stay D x y
     both_other b ey r er = rw (ex, ey) er
 
-    pub both_none : y ≡ Nothing → true ≡ both_stay D x y
+    pub both_none : y ≡ None → true ≡ both_stay D x y
     both_none ey = rw (ex, ey) refl
 
 -- ---- what it means
@@ -91,10 +89,10 @@ module _ (n : ℕ) (L : List ℤ) (ok : LinesOk n L) (k : ℕ) (t : List ℤ) (a
   abbrev E : List Step
   E = steps_before L (2 * k)
 
-  abbrev x : NamedStep
+  abbrev x : Option Step
   x = step_numbered_lem L (2 * k)
 
-  abbrev y : NamedStep
+  abbrev y : Option Step
   y = step_numbered_lem L (2 * k + 1)
 
   read_agree : Agree N (small_table N t) (best E N)

@@ -1,6 +1,6 @@
 -- A list that grows by a line: from the table of the list, `put_line` makes that of the longer list, where `both_stay` says that this has no closed walk of
 -- negative sum.
-use Rattle.std.specs.Prelude.{◌≡◌, true, List, ◌++◌, ℕ, zero, suc, ◌+◌, ◌*◌, ◌/◌, ◌%◌, ◌<◌, ◌≤◌, ℤ, length}
+use Rattle.std.specs.Prelude.{◌≡◌, true, List, ◌++◌, ℕ, zero, suc, ◌+◌, ◌*◌, ◌/◌, ◌%◌, ◌<◌, ◌≤◌, ℤ, length, Option}
 use Rattle.std.proofs.Common.{sym, ap, ap₂, subst, ◌∙◌, add-one, arith}
 use borrow.Author.Tests.{lt-ltb}
 use Rattle.lines.specs.Limits.{line_size}
@@ -8,7 +8,6 @@ use Rattle.lines.specs.Line.{line_count, lines_of}
 use Rattle.lines.specs.Valid.{LinesOk}
 use Rattle.lines.specs.LineNumbers.{count_append, line_left}
 use Rattle.steps.specs.declared.Step.{Step}
-use Rattle.steps.specs.declared.NamedStep.{NamedStep}
 use Rattle.steps.specs.Step.{step_numbered_lem, steps_of, named}
 use Rattle.theory_walks.specs.Row.{best}
 use Rattle.theory_walks.specs.Negative.{no_negative}
@@ -31,7 +30,7 @@ module _ (L M : List ℤ) (whole : length L % line_size ≡ 0) where
   before_left (suc k) h =
       ap (steps_before (L ++ M)) (sym (add-one k))
       ∙ before_more (L ++ M) k
-      ∙ ap₂ (λ (x : List Step) (y : NamedStep). x ++ named y) (before_left k (omega arith)) (number_left k (omega arith))
+      ∙ ap₂ (λ (x : List Step) (y : Option Step). x ++ named y) (before_left k (omega arith)) (number_left k (omega arith))
       ∙ sym (before_more L k)
       ∙ ap (steps_before L) (add-one k)
 

@@ -16,7 +16,7 @@ ghost use Rattle.session_line.specs.Both.{line_stays_in};
 
 use decide_stored_table::{smaller, sum};
 use session_step::{put_step, read_at, stays, sum_along};
-use steps::{NamedStep, Step, step_numbered};
+use steps::{Step, step_numbered};
 
 // Whether no closed walk through the second step has a negative sum, once the first is put in.
 fn stays_after(table: &[i64], n: usize, first: Step, second: Step) -> bool
@@ -36,16 +36,16 @@ pub fn both_stay(list: &[i32], k: usize, table: &[i64], n: usize) -> bool
 {
     let first = step_numbered(list, 2 * k);
     let second = step_numbered(list, 2 * k + 1);
-    if let NamedStep::Found(a) = first {
+    if let Some(a) = first {
         if !stays(table, n, a) {
             return false;
         }
-        if let NamedStep::Found(b) = second {
+        if let Some(b) = second {
             return stays_after(table, n, a, b);
         }
         return true;
     }
-    if let NamedStep::Found(b) = second {
+    if let Some(b) = second {
         return stays(table, n, b);
     }
     true
@@ -57,7 +57,7 @@ fn put_numbered(list: &[i32], number: usize, table: &mut [i64], n: usize)
     ensures { table.new ≡ named_after (2 * n) (step_numbered_lem list.now number) table.old }
 {
     let named = step_numbered(list, number);
-    if let NamedStep::Found(step) = named {
+    if let Some(step) = named {
         put_step(table, n, step);
     }
 }

@@ -3,7 +3,7 @@
 --
 -- The promise of a call is for any numbers. At a state that was reached it says more: by induction over the calls these numbers are `state_of` the session's
 -- n, its lines and its last answer, and its lines are a valid list.
-use Rattle.std.specs.Prelude.{◌≡◌, Bool, true, not, cond, ℕ, ◌+◌, ◌-◌, ◌*◌, ◌%◌, ◌<◌, ◌≤◌, ltb, ℤ, pos, take, drop}
+use Rattle.std.specs.Prelude.{◌≡◌, Bool, true, not, cond, ℕ, ◌+◌, ◌-◌, ◌*◌, ◌%◌, ◌<◌, ◌≤◌, ltb, ℤ, pos, take, drop, Err, Ok, Result}
 use Rattle.std.proofs.Math.Path.{refl, ap, subst}
 use Rattle.std.proofs.Common.{sym, ◌∙◌, arith, take_at, drop_at}
 use Rattle.std.proofs.Math.Bool.{false}
@@ -14,8 +14,6 @@ use Rattle.std.proofs.Math.ListN.{length}
 use Rattle.lines.specs.declared.Line.{Line}
 use Rattle.lines.specs.declared.Refusal.{Refusal}
 use Rattle.lines.specs.declared.Refusal.TheVariants.{TooManyVariables, BrokenLength, TooManyLines, AfterNo, NoLines}
-use Rattle.lines.specs.declared.Validity.{Validity}
-use Rattle.lines.specs.declared.Validity.TheVariants as validity
 use Rattle.lines.specs.Limits.{line_size, max_variables, max_lines}
 use Rattle.lines.specs.Line.{line_count, lines_of, line_numbers_lem, numbers_of, Solvable}
 use Rattle.lines.specs.LineNumbers.{length_numbers_of, lines_of_numbers}
@@ -36,44 +34,44 @@ use Rattle.session_promise.specs.Standing.{variables_few, lines_few, stands, emp
 
 -- ---- the states that are reached, with n, the lines so far and whether the last answer was a no; a refused call leaves the state as it was
 pub data Reached : ℕ → List Line → Bool → List ℤ → Type 0 where
-  by_start : {n : ℕ} {s t : List ℤ} → Starts n s validity.Valid t → Reached n [] false t
-  by_yes : {n : ℕ} {ls : List Line} {r : Bool} {s t : List ℤ} {l : Line} {b a : Lent} → Reached n ls r s → Adds s l decide.Yes b t a → Reached n (ls ++ l ∷ []) false t
-  by_no : {n : ℕ} {ls : List Line} {r : Bool} {s t : List ℤ} {l : Line} {b a : Lent} → Reached n ls r s → Adds s l decide.No b t a → Reached n (ls ++ l ∷ []) true t
-  by_withdrawal : {n : ℕ} (ls : List Line) (l : Line) {r : Bool} {s t : List ℤ} → Reached n (ls ++ l ∷ []) r s → Withdraws s validity.Valid t → Reached n ls false t
+  by_start : {n : ℕ} {s t : List ℤ} → Starts n s (Ok tt) t → Reached n [] false t
+  by_yes : {n : ℕ} {ls : List Line} {r : Bool} {s t : List ℤ} {l : Line} {b a : Lent} → Reached n ls r s → Adds s l (Ok decide.Yes) b t a → Reached n (ls ++ l ∷ []) false t
+  by_no : {n : ℕ} {ls : List Line} {r : Bool} {s t : List ℤ} {l : Line} {b a : Lent} → Reached n ls r s → Adds s l (Ok decide.No) b t a → Reached n (ls ++ l ∷ []) true t
+  by_withdrawal : {n : ℕ} (ls : List Line) (l : Line) {r : Bool} {s t : List ℤ} → Reached n (ls ++ l ∷ []) r s → Withdraws s (Ok tt) t → Reached n ls false t
 
 -- ---- what a call does at a state that was reached
 -- a line l is added; the answer is x, and t and a are what is left of the state s and the buffers b
-pub record AddsTo (n : ℕ) (ls : List Line) (refused : Bool) (s : List ℤ) (l : Line) (x : Answer) (b : Lent) (t : List ℤ) (a : Lent) : Type 0 where
-  pub after_no : refused ≡ true → x ≡ decide.Refused AfterNo
+pub record AddsTo (n : ℕ) (ls : List Line) (refused : Bool) (s : List ℤ) (l : Line) (x : Result Answer Refusal) (b : Lent) (t : List ℤ) (a : Lent) : Type 0 where
+  pub after_no : refused ≡ true → x ≡ Err AfterNo
   -- the answer and the buffers are those of deciding all lines so far afresh
   pub afresh : refused ≡ false → Decided n (numbers_of (ls ++ l ∷ [])) x b a
   -- the line is part of the state, after a no too; what lies beyond is untouched
-  pub yes : x ≡ decide.Yes → t ≡ state_of n (ls ++ l ∷ []) false ++ drop (session_room_lem n) s
-  pub no : x ≡ decide.No → t ≡ state_of n (ls ++ l ∷ []) true ++ drop (session_room_lem n) s
-  pub unchanged : (q : Refusal) → x ≡ decide.Refused q → (t ≡ s) × (a ≡ b)
+  pub yes : x ≡ Ok decide.Yes → t ≡ state_of n (ls ++ l ∷ []) false ++ drop (session_room_lem n) s
+  pub no : x ≡ Ok decide.No → t ≡ state_of n (ls ++ l ∷ []) true ++ drop (session_room_lem n) s
+  pub unchanged : (q : Refusal) → x ≡ Err q → (t ≡ s) × (a ≡ b)
 
 -- the last line is withdrawn
-pub record WithdrawsFrom (n : ℕ) (ls : List Line) (s : List ℤ) (x : Validity) (t : List ℤ) : Type 0 where
-  pub none : ls ≡ [] → (x ≡ validity.Refused NoLines) × (t ≡ s)
-  pub last : (ms : List Line) (l : Line) → ls ≡ ms ++ l ∷ [] → (x ≡ validity.Valid) × (t ≡ state_of n ms false ++ drop (session_room_lem n) s)
+pub record WithdrawsFrom (n : ℕ) (ls : List Line) (s : List ℤ) (x : Result Unit Refusal) (t : List ℤ) : Type 0 where
+  pub none : ls ≡ [] → (x ≡ Err NoLines) × (t ≡ s)
+  pub last : (ms : List Line) (l : Line) → ls ≡ ms ++ l ∷ [] → (x ≡ Ok tt) × (t ≡ state_of n ms false ++ drop (session_room_lem n) s)
 
 -- ---- one line more: it is refused by the limit of lines, then by its own rules, with its own number
-or_nothing : (v : Validity) → (v or_else validity.Valid) ≡ v
-or_nothing validity.Valid = refl
-or_nothing (validity.Refused r) = refl
+or_nothing : (v : Result Unit Refusal) → (v or_else Ok tt) ≡ v
+or_nothing (Ok _) = refl
+or_nothing (Err r) = refl
 
-lines_one_more : (n k : ℕ) (ls : List Line) (l : Line) → lines_validity_lem n k ls ≡ validity.Valid → lines_validity_lem n k (ls ++ l ∷ []) ≡ line_validity_lem n (k + length ls) l
+lines_one_more : (n k : ℕ) (ls : List Line) (l : Line) → lines_validity_lem n k ls ≡ Ok tt → lines_validity_lem n k (ls ++ l ∷ []) ≡ line_validity_lem n (k + length ls) l
 unfolding lines_validity_lem
 lines_one_more n k [] l v = or_nothing (line_validity_lem n k l) ∙ ap (λ (j : ℕ). line_validity_lem n j l) (omega arith)
 lines_one_more n k (m ∷ ls) l v =
     let p = or_valid (line_validity_lem n k m) _ v in
     let e : k + 1 + length ls ≡ k + length (m ∷ ls) = omega arith in
-    ap (λ (u : Validity). u or_else lines_validity_lem n (k + 1) (ls ++ l ∷ [])) p.0
+    ap (λ (u : Result Unit Refusal). u or_else lines_validity_lem n (k + 1) (ls ++ l ∷ [])) p.0
     ∙ lines_one_more n (k + 1) ls l p.1
     ∙ ap (λ (j : ℕ). line_validity_lem n j l) e
 
-module _ (n : ℕ) (ls : List Line) (l : Line) (v : validity_of n (numbers_of ls) ≡ validity.Valid) where
-  lines_valid : lines_validity_lem n 0 ls ≡ validity.Valid
+module _ (n : ℕ) (ls : List Line) (l : Line) (v : validity_of n (numbers_of ls) ≡ Ok tt) where
+  lines_valid : lines_validity_lem n 0 ls ≡ Ok tt
   unfolding validity_of
   lines_valid =
       let p = or_valid (refuse_if (ltb max_variables n) TooManyVariables) _ v in
@@ -89,14 +87,14 @@ module _ (n : ℕ) (ls : List Line) (l : Line) (v : validity_of n (numbers_of ls
       let count : line_count (numbers_of more) ≡ length ls + 1 = omega (arith, length_numbers_of more, length_more ls l) in
       rw (le-ltb max_variables n (variables_few n ls v), eq-eqb (length (numbers_of more) % line_size) 0 whole)
       (ap (λ (c : ℕ). refuse_if (ltb max_lines c) TooManyLines or_else lines_validity_lem n 0 (lines_of (numbers_of more))) count
-      ∙ ap (λ (u : Validity). refuse_if (ltb max_lines (length ls + 1)) TooManyLines or_else u)
+      ∙ ap (λ (u : Result Unit Refusal). refuse_if (ltb max_lines (length ls + 1)) TooManyLines or_else u)
       (ap (lines_validity_lem n 0) (lines_of_numbers more) ∙ lines_one_more n 0 ls l lines_valid ∙ ap (λ (j : ℕ). line_validity_lem n j l) (omega arith)))
 
   -- so all refusals of an add that is not after a no, in their order: 3, the line's rules, 7, 8
   pub add_validity_law : (b : Lent) → validity_for n (numbers_of (ls ++ l ∷ [])) b
       ≡ ((refuse_if (ltb max_lines (length ls + 1)) TooManyLines or_else line_validity_lem n (length ls) l) or_else rooms_validity n (lengths_of b))
   unfolding decide_validity_lem
-  add_validity_law b = ap (λ (u : Validity). u or_else rooms_validity n (lengths_of b)) one_more_validity
+  add_validity_law b = ap (λ (u : Result Unit Refusal). u or_else rooms_validity n (lengths_of b)) one_more_validity
 
 -- ---- what a withdrawal leaves known is known of the lines before
 before_is : {n : ℕ} (ls : List Line) (l : Line) {r : Bool} {s : List ℤ} → Stands n (ls ++ l ∷ []) r s → numbers_before s ≡ numbers_of ls
@@ -110,14 +108,14 @@ known_left {n} ls l {r} {s} k = ap (λ (q : Bool). known_before q s) (refused_in
     go : (q : Bool) → Stands n (ls ++ l ∷ []) q s → known_before q s ≡ known_for n ls
     go true stood = ap (λ (m : ℕ). known_in m s) (variables stood) ∙ known_read stood ∙ ap (known_for n) (kept_no ls l)
     go false stood =
-        remade_is s ls (before_is ls l stood) (subst (λ (j : ℕ). validity_of j (numbers_of ls) ≡ validity.Valid) (sym (variables stood)) (shorter n ls l stood.valid))
+        remade_is s ls (before_is ls l stood) (subst (λ (j : ℕ). validity_of j (numbers_of ls) ≡ Ok tt) (sym (variables stood)) (shorter n ls l stood.valid))
         (subst (λ (j : ℕ). verdict_of j ls ≡ true) (sym (variables stood)) (shorter_yes n ls l stood.valid stood.solvable))
         ∙ ap (λ (j : ℕ). known_for j ls) (variables stood)
 
 -- ---- what each call does at what stands in the state
 module _ {n : ℕ} {ls : List Line} {r : Bool} {s : List ℤ} (k : Stands n ls r s) where
-  module _ (l : Line) {x : Answer} {b : Lent} {t : List ℤ} {a : Lent} (d : Adds s l x b t a) where
-    after_no : r ≡ true → x ≡ decide.Refused AfterNo
+  module _ (l : Line) {x : Result Answer Refusal} {b : Lent} {t : List ℤ} {a : Lent} (d : Adds s l x b t a) where
+    after_no : r ≡ true → x ≡ Err AfterNo
     after_no e = d.is ∙ (add_answer_law k l b ∙ ap (λ (q : Bool). unless_refused (refuse_if q AfterNo) (answer_for n (numbers_of (ls ++ l ∷ [])) b)) e)
 
     learns : r ≡ false → Learns n ls l x b a (learnt_known s l)
@@ -131,7 +129,7 @@ module _ {n : ℕ} {ls : List Line} {r : Bool} {s : List ℤ} (k : Stands n ls r
         go true e = absurd (h AfterNo (after_no e))
         go false e = refl
 
-    pub valid_more : NotRefused x → validity_of n (numbers_of (ls ++ l ∷ [])) ≡ validity.Valid
+    pub valid_more : NotRefused x → validity_of n (numbers_of (ls ++ l ∷ [])) ≡ Ok tt
     valid_more h =
         let f = (learns (went_on h)).decided in
         (decide_ok n (numbers_of (ls ++ l ∷ [])) b (answered_valid n (numbers_of (ls ++ l ∷ [])) b (λ q e. h q (f.is ∙ e)))).list
@@ -139,12 +137,12 @@ module _ {n : ℕ} {ls : List Line} {r : Bool} {s : List ℤ} (k : Stands n ls r
     room_left : NotRefused x → length ls < max_lines
     room_left h = omega (arith, lines_few n (ls ++ l ∷ []) (valid_more h), length_more ls l)
 
-    state_yes : x ≡ decide.Yes → t ≡ state_of n (ls ++ l ∷ []) false ++ drop (session_room_lem n) s
+    state_yes : x ≡ Ok decide.Yes → t ≡ state_of n (ls ++ l ∷ []) false ++ drop (session_room_lem n) s
     state_yes e =
         let h : NotRefused x = subst NotRefused (sym e) yes_answers in
         d.state ∙ ap (add_state s l (learnt_known s l)) e ∙ pushed_to k l false (learnt_known s l) (room_left h) ((learns (went_on h)).yes e)
 
-    state_no : x ≡ decide.No → t ≡ state_of n (ls ++ l ∷ []) true ++ drop (session_room_lem n) s
+    state_no : x ≡ Ok decide.No → t ≡ state_of n (ls ++ l ∷ []) true ++ drop (session_room_lem n) s
     state_no e =
         let h : NotRefused x = subst NotRefused (sym e) no_answers in
         d.state ∙ ap (add_state s l (learnt_known s l)) e ∙ pushed_to k l true (learnt_known s l) (room_left h) ((learns (went_on h)).no e ∙ ap (known_for n) (sym (kept_no ls l)))
@@ -156,11 +154,11 @@ module _ {n : ℕ} {ls : List Line} {r : Bool} {s : List ℤ} (k : Stands n ls r
           afresh = λ e. (learns e).decided;
           yes = state_yes;
           no = state_no;
-          unchanged = λ q e. (d.state ∙ ap (add_state s l (learnt_known s l)) e, subst (λ (y : Answer). AddLeft y s l b a) e d.left);
+          unchanged = λ q e. (d.state ∙ ap (add_state s l (learnt_known s l)) e, subst (λ (y : Result Answer Refusal). AddLeft y s l b a) e d.left);
         }
 
     -- the state after it stands: its last answer was right
-    verdict_in : (v : Bool) (y : Answer) → x ≡ y → NotRefused y → y ≡ cond v decide.Yes decide.No → verdict_of n (ls ++ l ∷ []) ≡ v
+    verdict_in : (v : Bool) (y : Result Answer Refusal) → x ≡ y → NotRefused y → y ≡ cond v (Ok decide.Yes) (Ok decide.No) → verdict_of n (ls ++ l ∷ []) ≡ v
     verdict_in v y e h = go v y e h (answer_is)
       where
         f : Decided n (numbers_of (ls ++ l ∷ [])) x b a
@@ -172,34 +170,34 @@ module _ {n : ℕ} {ls : List Line} {r : Bool} {s : List ℤ} (k : Stands n ls r
         lines : lines_of (numbers_of (ls ++ l ∷ [])) ≡ ls ++ l ∷ []
         lines = lines_of_numbers (ls ++ l ∷ [])
 
-        go : (v : Bool) (y : Answer) → x ≡ y → NotRefused y → answer_for n (numbers_of (ls ++ l ∷ [])) b ≡ y → y ≡ cond v decide.Yes decide.No → verdict_of n (ls ++ l ∷ []) ≡ v
+        go : (v : Bool) (y : Result Answer Refusal) → x ≡ y → NotRefused y → answer_for n (numbers_of (ls ++ l ∷ [])) b ≡ y → y ≡ cond v (Ok decide.Yes) (Ok decide.No) → verdict_of n (ls ++ l ∷ []) ≡ v
         go true y e h i j = ap (verdict_of n) (sym lines) ∙ yes_verdict n (numbers_of (ls ++ l ∷ [])) b (i ∙ j)
         go false y e h i j = ap (verdict_of n) (sym lines) ∙ no_verdict n (numbers_of (ls ++ l ∷ [])) b (i ∙ j)
 
-    pub stands_yes : x ≡ decide.Yes → Stands n (ls ++ l ∷ []) false t
+    pub stands_yes : x ≡ Ok decide.Yes → Stands n (ls ++ l ∷ []) false t
     stands_yes e =
         let h : NotRefused x = subst NotRefused (sym e) yes_answers in
-        let v = verdict_in true decide.Yes e yes_answers refl in
+        let v = verdict_in true (Ok decide.Yes) e yes_answers refl in
         stands n (ls ++ l ∷ []) (valid_more h) false t (drop (session_room_lem n) s) (state_yes e) v v
 
-    pub stands_no : x ≡ decide.No → Stands n (ls ++ l ∷ []) true t
+    pub stands_no : x ≡ Ok decide.No → Stands n (ls ++ l ∷ []) true t
     stands_no e =
         let h : NotRefused x = subst NotRefused (sym e) no_answers in
         let before : verdict_of n ls ≡ true = k.verdict ∙ ap not (went_on h) in
-        stands n (ls ++ l ∷ []) (valid_more h) true t (drop (session_room_lem n) s) (state_no e) (verdict_in false decide.No e no_answers refl) (ap (verdict_of n) (kept_no ls l) ∙ before)
+        stands n (ls ++ l ∷ []) (valid_more h) true t (drop (session_room_lem n) s) (state_no e) (verdict_in false (Ok decide.No) e no_answers refl) (ap (verdict_of n) (kept_no ls l) ∙ before)
 
-  pub withdraws_from : {x : Validity} {t : List ℤ} → Withdraws s x t → WithdrawsFrom n ls s x t
+  pub withdraws_from : {x : Result Unit Refusal} {t : List ℤ} → Withdraws s x t → WithdrawsFrom n ls s x t
   unfolding withdraw_answer
   withdraws_from {x} {t} d =
       record {
         none = λ e.
             let zero : count_in s ≡ 0 = count k ∙ ap length e in
-            let q : x ≡ validity.Refused NoLines = d.is ∙ rw (is_state k, eq-eqb (count_in s) 0 zero) refl in
+            let q : x ≡ Err NoLines = d.is ∙ rw (is_state k, eq-eqb (count_in s) 0 zero) refl in
             (q, d.state ∙ ap (withdraw_state s) q);
         last = λ ms l e.
             let some : count_in s ≡ length ms + 1 = count k ∙ ap length e ∙ length_more ms l in
             let more : eqb (count_in s) 0 ≡ false = ne_eqb (count_in s) 0 (λ z. absurd (omega arith)) in
-            let q : x ≡ validity.Valid = d.is ∙ rw (is_state k, more) refl in
+            let q : x ≡ Ok tt = d.is ∙ rw (is_state k, more) refl in
             let with : Stands n (ms ++ l ∷ []) r s = subst (λ (ks : List Line). Stands n ks r s) e k in
             (q, d.state ∙ ap (withdraw_state s) q ∙ popped_to ms l with (known_before (refused_in s) s) (known_left ms l with));
       }
@@ -212,7 +210,7 @@ before_yes {n} ls l {r} k = go r k.solvable
     go true e = ap (verdict_of n) (sym (kept_no ls l)) ∙ e
     go false e = shorter_yes n ls l k.valid e
 
-pub stands_before : {n : ℕ} (ls : List Line) (l : Line) {r : Bool} {s t : List ℤ} → Stands n (ls ++ l ∷ []) r s → Withdraws s validity.Valid t → Stands n ls false t
+pub stands_before : {n : ℕ} (ls : List Line) (l : Line) {r : Bool} {s t : List ℤ} → Stands n (ls ++ l ∷ []) r s → Withdraws s (Ok tt) t → Stands n ls false t
 stands_before {n} ls l {s = s} {t = t} k d =
     let y = before_yes ls l k in
     stands n ls (shorter n ls l k.valid) false t (drop (session_room_lem n) s) ((withdraws_from k d).last ls l refl).1 y y
@@ -234,14 +232,14 @@ reached_stands (by_no {l = l} p d) = stands_no (reached_stands p) l d refl
 reached_stands (by_withdrawal ls l p d) = stands_before ls l (reached_stands p) d
 
 -- an add that was answered, and then a withdrawal, leave the state as it was, whole
-pub add_withdraw : {n : ℕ} {ls : List Line} {r : Bool} {s t u : List ℤ} {l : Line} {x : Answer} {y : Validity} {b a : Lent}
-    → Reached n ls r s → Adds s l x b t a → NotRefused x → Withdraws t y u → (y ≡ validity.Valid) × (u ≡ s)
+pub add_withdraw : {n : ℕ} {ls : List Line} {r : Bool} {s t u : List ℤ} {l : Line} {x : Result Answer Refusal} {y : Result Unit Refusal} {b a : Lent}
+    → Reached n ls r s → Adds s l x b t a → NotRefused x → Withdraws t y u → (y ≡ Ok tt) × (u ≡ s)
 add_withdraw {n} {ls} {r} {s} {t} {u} {l} {x} {y} p d h w = go x refl
   where
     k : Stands n ls r s
     k = reached_stands p
 
-    back : (q : Bool) → t ≡ state_of n (ls ++ l ∷ []) q ++ drop (session_room_lem n) s → Stands n (ls ++ l ∷ []) q t → (y ≡ validity.Valid) × (u ≡ s)
+    back : (q : Bool) → t ≡ state_of n (ls ++ l ∷ []) q ++ drop (session_room_lem n) s → Stands n (ls ++ l ∷ []) q t → (y ≡ Ok tt) × (u ≡ s)
     back q e after =
         let f = (withdraws_from after w).last ls l refl in
         let beyond : drop (session_room_lem n) t ≡ drop (session_room_lem n) s = ap (drop (session_room_lem n)) e ∙ drop_at (state_of n (ls ++ l ∷ []) q) (drop (session_room_lem n) s) (session_room_lem n) (length_state n (ls ++ l ∷ []) q (lines_few n (ls ++ l ∷ []) (valid_more k l d h))) in (
@@ -252,20 +250,20 @@ add_withdraw {n} {ls} {r} {s} {t} {u} {l} {x} {y} p d h w = go x refl
               ∙ sym k.is,
         )
 
-    go : (z : Answer) → x ≡ z → (y ≡ validity.Valid) × (u ≡ s)
-    go decide.Yes e = back false ((adds_to k l d).yes e) (stands_yes k l d e)
-    go decide.No e = back true ((adds_to k l d).no e) (stands_no k l d e)
-    go (decide.Refused q) e = absurd (h q e)
+    go : (z : Result Answer Refusal) → x ≡ z → (y ≡ Ok tt) × (u ≡ s)
+    go (Ok decide.Yes) e = back false ((adds_to k l d).yes e) (stands_yes k l d e)
+    go (Ok decide.No) e = back true ((adds_to k l d).no e) (stands_no k l d e)
+    go (Err q) e = absurd (h q e)
 
 -- ---- adds that were answered, with no withdrawal between them: from the state t, by the lines ms, to the state u
 pub data Grown (t : List ℤ) : List Line → List ℤ → Type 0 where
   no_more : Grown t [] t
-  one_more : {ms : List Line} {u v : List ℤ} {l : Line} {x : Answer} {b a : Lent} → Grown t ms u → Adds u l x b v a → NotRefused x → Grown t (ms ++ l ∷ []) v
+  one_more : {ms : List Line} {u v : List ℤ} {l : Line} {x : Result Answer Refusal} {b a : Lent} → Grown t ms u → Adds u l x b v a → NotRefused x → Grown t (ms ++ l ∷ []) v
 
-pub reached_more : {n : ℕ} {ls : List Line} {r : Bool} {s t : List ℤ} {l : Line} {b a : Lent} (x : Answer) → Reached n ls r s → Adds s l x b t a → NotRefused x → (q : Bool) × Reached n (ls ++ l ∷ []) q t
-reached_more decide.Yes p d h = (false, by_yes p d)
-reached_more decide.No p d h = (true, by_no p d)
-reached_more (decide.Refused q) p d h = absurd (h q refl)
+pub reached_more : {n : ℕ} {ls : List Line} {r : Bool} {s t : List ℤ} {l : Line} {b a : Lent} (x : Result Answer Refusal) → Reached n ls r s → Adds s l x b t a → NotRefused x → (q : Bool) × Reached n (ls ++ l ∷ []) q t
+reached_more (Ok decide.Yes) p d h = (false, by_yes p d)
+reached_more (Ok decide.No) p d h = (true, by_no p d)
+reached_more (Err q) p d h = absurd (h q refl)
 
 pub grown_reached : {n : ℕ} {ls : List Line} {r : Bool} {t : List ℤ} {ms : List Line} {u : List ℤ} → Reached n ls r t → Grown t ms u → (q : Bool) × Reached n (ls ++ ms) q u
 grown_reached {n} {ls} {r} {t} p no_more = (r, subst (λ (ks : List Line). Reached n ks r t) (sym (append-nil ls)) p)

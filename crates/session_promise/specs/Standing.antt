@@ -1,11 +1,9 @@
 -- What is read from the numbers of a state that stands, and what the calls make of it.
-use Rattle.std.specs.Prelude.{◌≡◌, refl, Bool, true, false, not, List, [], ◌∷◌, ◌++◌, ℕ, ◌+◌, ◌*◌, ◌%◌, ◌<◌, ◌≤◌, ℤ, length, drop}
+use Rattle.std.specs.Prelude.{◌≡◌, refl, Bool, true, false, not, List, [], ◌∷◌, ◌++◌, ℕ, ◌+◌, ◌*◌, ◌%◌, ◌<◌, ◌≤◌, ℤ, length, drop, Err, Ok, Result}
 use Rattle.std.proofs.Common.{sym, ap, ap₂, subst, ◌∙◌, arith, le-ltb, length-append}
 use Rattle.lines.specs.declared.Line.{Line}
 use Rattle.lines.specs.declared.Refusal.{Refusal}
 use Rattle.lines.specs.declared.Refusal.TheVariants.{AfterNo}
-use Rattle.lines.specs.declared.Validity.{Validity}
-use Rattle.lines.specs.declared.Validity.TheVariants as validity
 use Rattle.lines.specs.Fits.{numbers_fit}
 use Rattle.lines.specs.Limits.{line_size, max_variables, max_lines}
 use Rattle.lines.specs.Line.{line_count, lines_of, line_numbers_lem, numbers_of, Solves}
@@ -33,7 +31,7 @@ use Rattle.session_state.specs.Session.{numbers_more, length_more, length_front,
 use Rattle.session_promise.specs.Promise.{Stands, add_validity, learns_in, learnt_known, learnt_answer, add_answer, FromKnown, LearntLeft, AddLeft, Adds, no_state}
 
 -- ---- a valid list of lines, and its state
-module _ (n : ℕ) (ls : List Line) (v : validity_of n (numbers_of ls) ≡ validity.Valid) where
+module _ (n : ℕ) (ls : List Line) (v : validity_of n (numbers_of ls) ≡ Ok tt) where
   count_of : line_count (numbers_of ls) ≡ length ls
   count_of = omega (arith, length_numbers_of ls)
 
@@ -51,18 +49,18 @@ module _ (n : ℕ) (ls : List Line) (v : validity_of n (numbers_of ls) ≡ valid
       record { is = e ∙ ap (λ (x : List ℤ). state_of n ls r ++ x) (sym beyond); valid = v; verdict = y; solvable = w }
 
 -- n within its limit, and no lines
-pub empty : (n : ℕ) → n ≤ max_variables → validity_of n (numbers_of []) ≡ validity.Valid
+pub empty : (n : ℕ) → n ≤ max_variables → validity_of n (numbers_of []) ≡ Ok tt
 unfolding validity_of numbers_of lines_validity_lem
 empty n h = rw (le-ltb max_variables n h) refl
 
 -- ---- one line less
-pub shorter : (n : ℕ) (ls : List Line) (l : Line) → validity_of n (numbers_of (ls ++ l ∷ [])) ≡ validity.Valid → validity_of n (numbers_of ls) ≡ validity.Valid
+pub shorter : (n : ℕ) (ls : List Line) (l : Line) → validity_of n (numbers_of (ls ++ l ∷ [])) ≡ Ok tt → validity_of n (numbers_of ls) ≡ Ok tt
 shorter n ls l v =
     let whole : length (numbers_of ls) % line_size ≡ 0 = omega (arith, length_numbers_of ls) in
     shorter_valid n (numbers_of ls) (line_numbers_lem l) whole (ap (validity_of n) (sym (numbers_more ls l)) ∙ v)
 
 -- has a solution, too
-pub shorter_yes : (n : ℕ) (ls : List Line) (l : Line) → validity_of n (numbers_of (ls ++ l ∷ [])) ≡ validity.Valid → verdict_of n (ls ++ l ∷ []) ≡ true → verdict_of n ls ≡ true
+pub shorter_yes : (n : ℕ) (ls : List Line) (l : Line) → validity_of n (numbers_of (ls ++ l ∷ [])) ≡ Ok tt → verdict_of n (ls ++ l ∷ []) ≡ true → verdict_of n ls ≡ true
 shorter_yes n ls l v y =
     let longer = ls ++ l ∷ [] in
     ap (verdict_of n) (sym (lines_of_numbers ls))
@@ -71,7 +69,7 @@ shorter_yes n ls l v y =
     (ap (verdict_of n) (lines_of_numbers longer) ∙ y)
 
 -- ---- the table of lines that have a solution
-pub table_holds : (n : ℕ) (ls : List Line) → validity_of n (numbers_of ls) ≡ validity.Valid → verdict_of n ls ≡ true → TableFor n (steps_of ls) (table_for n ls)
+pub table_holds : (n : ℕ) (ls : List Line) → validity_of n (numbers_of ls) ≡ Ok tt → verdict_of n ls ≡ true → TableFor n (steps_of ls) (table_for n ls)
 table_holds n ls v y =
     subst (λ (ms : List Line). TableFor n (steps_of ms) (table_for n ms)) (lines_of_numbers ls)
     (meaning.table_holds n (numbers_of ls) (workable n (numbers_of ls) v) (ap (verdict_of n) (lines_of_numbers ls) ∙ y))
@@ -81,7 +79,7 @@ pub length_with : (s : List ℤ) (l : Line) → is_state_lem s ≡ true → leng
 length_with s l e = length-append (numbers_in s) (line_numbers_lem l) ∙ omega (arith, length_numbers_in s (state_head s e), length_numbers l)
 
 -- where all lines are valid there is room for the line
-pub line_room : (s : List ℤ) (l : Line) → is_state_lem s ≡ true → validity_of (variables_in s) (numbers_with s l) ≡ validity.Valid → count_in s < max_lines
+pub line_room : (s : List ℤ) (l : Line) → is_state_lem s ≡ true → validity_of (variables_in s) (numbers_with s l) ≡ Ok tt → count_in s < max_lines
 line_room s l e v = let o = valid_list (variables_in s) (numbers_with s l) v in omega (arith, o.count, length_with s l e)
 
 -- ---- what is read
@@ -189,7 +187,7 @@ module _ {n : ℕ} {ls : List Line} {s : List ℤ} (k : Stands n ls false s) (l 
       ∙ ap₂ (λ (L q : List ℤ). known_after n L (count_in s) q) (ap (λ (x : List ℤ). x ++ line_numbers_lem l) (numbers k)) (known_read k)
       ∙ ap (λ (j : ℕ). known_after n (numbers_of ls ++ line_numbers_lem l) j (known_for n ls)) (count k ∙ sym (count_of n ls k.valid))
 
-  module _ (v : validity_of n (numbers_of (ls ++ l ∷ [])) ≡ validity.Valid) where
+  module _ (v : validity_of n (numbers_of (ls ++ l ∷ [])) ≡ Ok tt) where
     lines_ready : LinesOk n (numbers_of ls ++ line_numbers_lem l)
     lines_ready = subst (LinesOk n) (numbers_more ls l) (workable n more v).lines
 
@@ -217,7 +215,7 @@ module _ {n : ℕ} {ls : List Line} {s : List ℤ} (k : Stands n ls false s) (l 
         models_more = subst (Modellable n) (numbers_more ls l) (modellable n more v)
 
     -- what is given of it is what deciding writes
-    from_known : learns_in s l ≡ true → {b a : Lent} → FromKnown n (learnt_known s l) b a → Leaves n (numbers_of (ls ++ l ∷ [])) decide.Yes b a
+    from_known : learns_in s l ≡ true → {b a : Lent} → FromKnown n (learnt_known s l) b a → Leaves n (numbers_of (ls ++ l ∷ [])) (Ok decide.Yes) b a
     from_known e {b} {a} o =
         let works = workable n more v in
         let modelled = modellable n more v in
@@ -241,27 +239,27 @@ module _ {n : ℕ} {ls : List Line} {s : List ℤ} (k : Stands n ls false s) (l 
       (ap (learns n (numbers_of ls ++ line_numbers_lem l) (line_count (numbers_of ls))) (table_known n ls) ∙ sym (asked learns) ∙ e)
 
 -- ---- so an add is answered as deciding all lines so far is, after a no it is refused
-answer_yes : (n : ℕ) (L : List ℤ) (b : Lent) → validity_for n L b ≡ validity.Valid → verdict_of n (lines_of L) ≡ true → decide.Yes ≡ answer_for n L b
+answer_yes : (n : ℕ) (L : List ℤ) (b : Lent) → validity_for n L b ≡ Ok tt → verdict_of n (lines_of L) ≡ true → Ok decide.Yes ≡ answer_for n L b
 unfolding decide_answer
 answer_yes n L b e v = judged_yes n L (validity_for n L b) e v
 
 pub add_answer_law : {n : ℕ} {ls : List Line} {r : Bool} {s : List ℤ} → Stands n ls r s → (l : Line) (b : Lent) → add_answer s l b ≡ unless_refused (refuse_if r AfterNo) (answer_for n (numbers_of (ls ++ l ∷ [])) b)
 unfolding add_answer
 add_answer_law {n} {ls} {r} {s} k l b =
-    ap₂ (λ (u : Validity) (x : Answer). unless_refused u x) (state_validity k)
+    ap₂ (λ (u : Result Unit Refusal) (x : Result Answer Refusal). unless_refused u x) (state_validity k)
     (ap₂ (λ (m : ℕ) (L : List ℤ). unless_refused (validity_for m L b) (learnt_answer (learns_in s l) m L b)) (variables k) (all_numbers k l))
     ∙ by_state r k
   where
     L : List ℤ
     L = numbers_of (ls ++ l ∷ [])
 
-    by_list : Stands n ls false s → (u : Validity) → validity_for n (numbers_of (ls ++ l ∷ [])) b ≡ u → unless_refused u (learnt_answer (learns_in s l) n (numbers_of (ls ++ l ∷ [])) b) ≡ answer_for n (numbers_of (ls ++ l ∷ [])) b
-    by_list stood validity.Valid e = go (learns_in s l) refl
+    by_list : Stands n ls false s → (u : Result Unit Refusal) → validity_for n (numbers_of (ls ++ l ∷ [])) b ≡ u → unless_refused u (learnt_answer (learns_in s l) n (numbers_of (ls ++ l ∷ [])) b) ≡ answer_for n (numbers_of (ls ++ l ∷ [])) b
+    by_list stood (Ok _) e = go (learns_in s l) refl
       where
         go : (c : Bool) → learns_in s l ≡ c → learnt_answer c n (numbers_of (ls ++ l ∷ [])) b ≡ answer_for n (numbers_of (ls ++ l ∷ [])) b
         go true q = answer_yes n (numbers_of (ls ++ l ∷ [])) b e (sym (learns_verdict stood l (decide_ok n (numbers_of (ls ++ l ∷ [])) b e).list) ∙ q)
         go false q = refl
-    by_list stood (validity.Refused q) e = (refused n (numbers_of (ls ++ l ∷ [])) b q e).is
+    by_list stood (Err q) e = (refused n (numbers_of (ls ++ l ∷ [])) b q e).is
 
     by_state : (r : Bool) → Stands n ls r s
         → unless_refused (refuse_if r AfterNo) (unless_refused (validity_for n (numbers_of (ls ++ l ∷ [])) b) (learnt_answer (learns_in s l) n (numbers_of (ls ++ l ∷ [])) b)) ≡ unless_refused (refuse_if r AfterNo) (answer_for n (numbers_of (ls ++ l ∷ [])) b)
@@ -269,53 +267,53 @@ add_answer_law {n} {ls} {r} {s} k l b =
     by_state false stood = by_list stood (validity_for n (numbers_of (ls ++ l ∷ [])) b) refl
 
 -- all lines so far are decided, and u is known: of all of them on a yes, of the lines before on a no
-pub record Learns (n : ℕ) (ls : List Line) (l : Line) (answer : Answer) (b a : Lent) (u : List ℤ) : Type 0 where
+pub record Learns (n : ℕ) (ls : List Line) (l : Line) (answer : Result Answer Refusal) (b a : Lent) (u : List ℤ) : Type 0 where
   pub decided : Decided n (numbers_of (ls ++ l ∷ [])) answer b a
-  pub yes : answer ≡ decide.Yes → u ≡ known_for n (ls ++ l ∷ [])
-  pub no : answer ≡ decide.No → u ≡ known_for n ls
+  pub yes : answer ≡ Ok decide.Yes → u ≡ known_for n (ls ++ l ∷ [])
+  pub no : answer ≡ Ok decide.No → u ≡ known_for n ls
 
-module _ {n : ℕ} {ls : List Line} {s : List ℤ} (k : Stands n ls false s) (l : Line) {x : Answer} {b : Lent} {t : List ℤ} {a : Lent} (d : Adds s l x b t a) where
+module _ {n : ℕ} {ls : List Line} {s : List ℤ} (k : Stands n ls false s) (l : Line) {x : Result Answer Refusal} {b : Lent} {t : List ℤ} {a : Lent} (d : Adds s l x b t a) where
   answered : x ≡ answer_for n (numbers_of (ls ++ l ∷ [])) b
   answered = d.is ∙ add_answer_law k l b
 
   -- where it is not refused, the list is valid
-  valid_then : (y : Answer) → x ≡ y → NotRefused y → validity_of n (numbers_of (ls ++ l ∷ [])) ≡ validity.Valid
+  valid_then : (y : Result Answer Refusal) → x ≡ y → NotRefused y → validity_of n (numbers_of (ls ++ l ∷ [])) ≡ Ok tt
   valid_then y e h = (decide_ok n (numbers_of (ls ++ l ∷ [])) b (answered_valid n (numbers_of (ls ++ l ∷ [])) b (λ q z. h q (sym e ∙ answered ∙ z)))).list
 
-  learns_yes : x ≡ decide.Yes → learns_in s l ≡ true
-  learns_yes e = learns_verdict k l (valid_then decide.Yes e yes_answers) ∙ yes_verdict n (numbers_of (ls ++ l ∷ [])) b (sym answered ∙ e)
+  learns_yes : x ≡ Ok decide.Yes → learns_in s l ≡ true
+  learns_yes e = learns_verdict k l (valid_then (Ok decide.Yes) e yes_answers) ∙ yes_verdict n (numbers_of (ls ++ l ∷ [])) b (sym answered ∙ e)
 
-  learns_no : x ≡ decide.No → learns_in s l ≡ false
-  learns_no e = learns_verdict k l (valid_then decide.No e no_answers) ∙ no_verdict n (numbers_of (ls ++ l ∷ [])) b (sym answered ∙ e)
+  learns_no : x ≡ Ok decide.No → learns_in s l ≡ false
+  learns_no e = learns_verdict k l (valid_then (Ok decide.No) e no_answers) ∙ no_verdict n (numbers_of (ls ++ l ∷ [])) b (sym answered ∙ e)
 
-  left_is : (y : Answer) → x ≡ y → AddLeft y s l b a → Leaves n (numbers_of (ls ++ l ∷ [])) y b a
-  left_is decide.Yes e o =
-      from_known k l (valid_then decide.Yes e yes_answers) (learns_yes e)
-      (subst (λ (m : ℕ). FromKnown m (learnt_known s l) b a) (variables k) (subst (λ (c : Bool). LearntLeft c (variables_in s) (numbers_with s l) (learnt_known s l) decide.Yes b a) (learns_yes e) o))
-  left_is decide.No e o =
-      subst (λ (L : List ℤ). Leaves n L decide.No b a) (all_numbers k l)
-      (subst (λ (m : ℕ). Leaves m (numbers_with s l) decide.No b a) (variables k) (subst (λ (c : Bool). LearntLeft c (variables_in s) (numbers_with s l) (learnt_known s l) decide.No b a) (learns_no e) o))
-  left_is (decide.Refused q) e o = o
+  left_is : (y : Result Answer Refusal) → x ≡ y → AddLeft y s l b a → Leaves n (numbers_of (ls ++ l ∷ [])) y b a
+  left_is (Ok decide.Yes) e o =
+      from_known k l (valid_then (Ok decide.Yes) e yes_answers) (learns_yes e)
+      (subst (λ (m : ℕ). FromKnown m (learnt_known s l) b a) (variables k) (subst (λ (c : Bool). LearntLeft c (variables_in s) (numbers_with s l) (learnt_known s l) (Ok decide.Yes) b a) (learns_yes e) o))
+  left_is (Ok decide.No) e o =
+      subst (λ (L : List ℤ). Leaves n L (Ok decide.No) b a) (all_numbers k l)
+      (subst (λ (m : ℕ). Leaves m (numbers_with s l) (Ok decide.No) b a) (variables k) (subst (λ (c : Bool). LearntLeft c (variables_in s) (numbers_with s l) (learnt_known s l) (Ok decide.No) b a) (learns_no e) o))
+  left_is (Err q) e o = o
 
   pub stand_learns : Learns n ls l x b a (learnt_known s l)
   stand_learns =
       record {
         decided = record { is = answered; leaves = left_is x refl d.left };
-        yes = λ e. known_more k l (valid_then decide.Yes e yes_answers) (learns_yes e);
+        yes = λ e. known_more k l (valid_then (Ok decide.Yes) e yes_answers) (learns_yes e);
         no = λ e. known_kept k l (learns_no e);
       }
 
 -- ---- how a refused add keeps the promise
 module _ (s : List ℤ) (l : Line) (b : Lent) where
-  refused_by : (r : Refusal) → add_answer s l b ≡ decide.Refused r → Adds s l (decide.Refused r) b s b
+  refused_by : (r : Refusal) → add_answer s l b ≡ Err r → Adds s l (Err r) b s b
   refused_by r e = record { is = sym e; state = refl; left = refl }
 
-  pub no_state_law : is_state_lem s ≡ false → Adds s l (decide.Refused no_state) b s b
+  pub no_state_law : is_state_lem s ≡ false → Adds s l (Err no_state) b s b
   unfolding add_answer
   no_state_law e = refused_by no_state (rw e)
 
   module _ (e : is_state_lem s ≡ true) where
-    pub after_no : refused_in s ≡ true → Adds s l (decide.Refused AfterNo) b s b
+    pub after_no : refused_in s ≡ true → Adds s l (Err AfterNo) b s b
     unfolding add_answer
     after_no q = refused_by AfterNo (rw (e, q))
 
@@ -325,5 +323,5 @@ module _ (s : List ℤ) (l : Line) (b : Lent) where
       went_on = rw (e, q)
 
       -- by deciding
-      pub decide_refuses : (r : Refusal) → validity_for (variables_in s) (numbers_with s l) b ≡ validity.Refused r → Adds s l (decide.Refused r) b s b
-      decide_refuses r f = refused_by r (went_on ∙ ap (λ (u : Validity). unless_refused u (learnt_answer (learns_in s l) (variables_in s) (numbers_with s l) b)) f)
+      pub decide_refuses : (r : Refusal) → validity_for (variables_in s) (numbers_with s l) b ≡ Err r → Adds s l (Err r) b s b
+      decide_refuses r f = refused_by r (went_on ∙ ap (λ (u : Result Unit Refusal). unless_refused u (learnt_answer (learns_in s l) (variables_in s) (numbers_with s l) b)) f)

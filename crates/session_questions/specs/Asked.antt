@@ -1,5 +1,6 @@
 -- A line asked of a table, as a computed definition, and what the code reads off a table that may hold any numbers: halves and tightened distances.
-use Rattle.std.specs.Prelude.{◌≡◌, refl, Bool, true, false, not, ◌&&◌, List, [], ℕ, ◌+◌, ◌*◌, ◌/◌, ◌%◌, ◌<◌, ℤ}
+use Rattle.steps.specs.declared.Step.{Step}
+use Rattle.std.specs.Prelude.{◌≡◌, refl, Bool, true, false, not, ◌&&◌, List, [], ℕ, ◌+◌, ◌*◌, ◌/◌, ◌%◌, ◌<◌, ℤ, None, Option, Some}
 use Rattle.std.proofs.Math.Path.{ap}
 use Rattle.std.proofs.Common.{ap₂, subst, ◌∙◌}
 use native.Mathlib.Omega.{arith}
@@ -9,8 +10,6 @@ use Rattle.lines.specs.declared.Line.{Line}
 use Rattle.lines.specs.Line.{line_count, line_at, line_numbers_lem, number, is_false_lem}
 use Rattle.lines.specs.LineNumbers.{length_numbers, line_last}
 use Rattle.lines.specs.Valid.{LineWorks, LinesOk}
-use Rattle.steps.specs.declared.NamedStep.{NamedStep}
-use Rattle.steps.specs.declared.NamedStep.TheVariants.{Found, Nothing}
 use Rattle.steps.specs.Point.{opposite}
 use Rattle.steps.specs.Step.{step_of, step_numbered_lem}
 use Rattle.theory_walks.specs.Distance.{Distance, min_d, ◌⊞◌, half_d}
@@ -23,9 +22,9 @@ use Rattle.session_step.specs.Done.{at_most}
 
 -- ---- definitions
 -- whether a step that may be there is no shorter than the tightened distance of its ends
-abbrev pub named_implied : Table → NamedStep → Bool
-named_implied D (Found s) = at_most (tight D s.from s.to) s.weight
-named_implied D Nothing = true
+abbrev pub named_implied : Table → Option Step → Bool
+named_implied D (Some s) = at_most (tight D s.from s.to) s.weight
+named_implied D None = true
 
 -- no false line, and both steps are implied
 abbrev pub line_implied : Table → Line → Bool
@@ -87,8 +86,8 @@ module _ (l : Line) where
       rw (a, b, lt-ltb 0 (line_count (line_numbers_lem l)) c, only)
 
 -- ---- the code's ways
-module _ (T : Table) (x : NamedStep) where
-  pub named_nothing : x ≡ Nothing → true ≡ named_implied T x
+module _ (T : Table) (x : Option Step) where
+  pub named_nothing : x ≡ None → true ≡ named_implied T x
   named_nothing e = rw e refl
 
 module _ (T : Table) (l : Line) where

@@ -1,5 +1,6 @@
 -- What the questions answer where the table is that of a list: the pair and the line of request Eight, with no search.
-use Rattle.std.specs.Prelude.{◌≡◌, ◌↔◌, Bool, true, not, cond, ◌&&◌, List, ℕ, ◌*◌, ◌<◌, ℤ, ◌+ℤ◌, ◌-ℤ◌}
+use Rattle.steps.specs.declared.Step.{Step}
+use Rattle.std.specs.Prelude.{◌≡◌, ◌↔◌, Bool, true, not, cond, ◌&&◌, List, ℕ, ◌*◌, ◌<◌, ℤ, ◌+ℤ◌, ◌-ℤ◌, None, Ok, Option, Some}
 use Rattle.std.proofs.Math.Path.{refl}
 use Rattle.std.proofs.Common.{sym, ap, ap₂, ◌∙◌, arith}
 use Rattle.std.proofs.Math.Bool.{false}
@@ -9,13 +10,10 @@ use Rattle.integers.specs.Integer.{◌⩽◌}
 use Rattle.integers.proofs.Linear.{ints}
 use Rattle.integers.specs.Laws.{never, and_true, both_true}
 use Rattle.lines.specs.declared.Line.{Line}
-use Rattle.lines.specs.declared.Validity.TheVariants.{Valid}
 use Rattle.lines.specs.Limits.{max_constant}
 use Rattle.lines.specs.Line.{line_count, lines_of, Assignment, Solves, Solvable, Implies, is_zero, is_false_lem}
 use Rattle.lines.specs.Refusal.{line_validity_lem, validity_of}
 use Rattle.lines.specs.Valid.{LineWorks, AllOk, line_ok, line_works, workable}
-use Rattle.steps.specs.declared.NamedStep.{NamedStep}
-use Rattle.steps.specs.declared.NamedStep.TheVariants.{Found, Nothing}
 use Rattle.steps.specs.Point.{value}
 use Rattle.steps.specs.Step.{step_of, steps_of, Holds}
 use Rattle.steps.proofs.Mirror.{line_step_known}
@@ -28,7 +26,6 @@ use Rattle.theory_bounds.specs.Verdict.{distances, verdict_of}
 use Rattle.theory_answers.specs.Solved.{to_table}
 use Rattle.theory_answers.specs.Meaning.{closed, table_solves}
 use Rattle.theory_answers.specs.Decided.{lines_ok, yes_solvable}
-use Rattle.implied_pair.specs.declared.PairOutcome.TheVariants as pair
 use Rattle.implied_pair.specs.Pair as pairs
 use Rattle.implied_pair.specs.Pair.{pair_in_lem}
 use Rattle.implied_pair.specs.Reading.{pair_same}
@@ -46,9 +43,9 @@ use Rattle.session_questions.specs.Asked.{named_implied, line_implied}
 ends_of : (n : ℕ) (l : Line) → LineWorks n l → (side : ℕ) → side < 2 → EndsBelow (2 * n) (step_of l side)
 ends_of n l ok side h = go (step_of l side) refl
   where
-    go : (x : NamedStep) → step_of l side ≡ x → EndsBelow (2 * n) x
-    go (Found t) e = let k = line_step_known n l side t ok h e in (k.from_lt, k.to_lt)
-    go Nothing e = tt
+    go : (x : Option Step) → step_of l side ≡ x → EndsBelow (2 * n) x
+    go (Some t) e = let k = line_step_known n l side t ok h e in (k.from_lt, k.to_lt)
+    go None e = tt
 
 -- ---- over the distances of a list that has a solution
 module _ (n : ℕ) (ls : List Line) (all : AllOk n ls) (yes_verdict : verdict_of n ls ≡ true) where
@@ -65,18 +62,18 @@ module _ (n : ℕ) (ls : List Line) (all : AllOk n ls) (yes_verdict : verdict_of
   passes v w = simp ints (omega arith)
 
   -- a step is implied exactly if it holds in every solution
-  named_holds : (x : NamedStep) → EndsBelow (2 * n) x → named_implied D x ≡ true → (s : Assignment) → Solves ls s → Holds s x
-  named_holds Nothing b e s h = tt
-  named_holds (Found t) b e s h = go (tight D t.from t.to) refl e
+  named_holds : (x : Option Step) → EndsBelow (2 * n) x → named_implied D x ≡ true → (s : Assignment) → Solves ls s → Holds s x
+  named_holds None b e s h = tt
+  named_holds (Some t) b e s h = go (tight D t.from t.to) refl e
     where
       go : (d : Distance) → tight D t.from t.to ≡ d → at_most d t.weight ≡ true → value s t.from -ℤ value s t.to ⩽ t.weight
       go none q f = never (cc)
       go (some d) q f =
           leads _ d t.weight ((greatest_difference n D (closed n ls all yes_verdict) t.from t.to b.0 b.1 d q).0 s (to_table n ls all s h)) f
 
-  holds_named : (x : NamedStep) → EndsBelow (2 * n) x → ((s : Assignment) → Solves ls s → Holds s x) → named_implied D x ≡ true
-  holds_named Nothing b f = refl
-  holds_named (Found t) b f = go (tight D t.from t.to) refl
+  holds_named : (x : Option Step) → EndsBelow (2 * n) x → ((s : Assignment) → Solves ls s → Holds s x) → named_implied D x ≡ true
+  holds_named None b f = refl
+  holds_named (Some t) b f = go (tight D t.from t.to) refl
     where
       go : (d : Distance) → tight D t.from t.to ≡ d → at_most d t.weight ≡ true
       go none q =
@@ -131,9 +128,9 @@ module _ (n : ℕ) (L t : List ℤ) (a : TableFor n (steps_of (lines_of L)) t) w
   read_agree u v hu hv =
       small_agree n t (short_table n (steps_of (lines_of L)) t a) u v hu hv ∙ agree n (steps_of (lines_of L)) t a u v hu hv
 
-  named_same : (x : NamedStep) → EndsBelow (2 * n) x → named_implied (small_table (2 * n) t) x ≡ named_implied (distances n (lines_of L)) x
-  named_same Nothing e = refl
-  named_same (Found s) e = ap (λ (d : Distance). at_most d s.weight) (tight_same n (small_table (2 * n) t) (distances n (lines_of L)) read_agree s.from s.to e.0 e.1)
+  named_same : (x : Option Step) → EndsBelow (2 * n) x → named_implied (small_table (2 * n) t) x ≡ named_implied (distances n (lines_of L)) x
+  named_same None e = refl
+  named_same (Some s) e = ap (λ (d : Distance). at_most d s.weight) (tight_same n (small_table (2 * n) t) (distances n (lines_of L)) read_agree s.from s.to e.0 e.1)
 
   line_same : (l : Line) → LineWorks n l → line_implied (small_table (2 * n) t) l ≡ line_implied (distances n (lines_of L)) l
   line_same l works =
@@ -144,19 +141,19 @@ module _ (n : ℕ) (L t : List ℤ) (a : TableFor n (steps_of (lines_of L)) t) w
   pair_is x y hx hy = pair_same n (small_table (2 * n) t) (distances n (lines_of L)) read_agree x y hx hy
 
   -- of a valid list that has a solution, and a valid line
-  module _ (valid : validity_of n L ≡ Valid) (yes_verdict : verdict_of n (lines_of L) ≡ true) where
+  module _ (valid : validity_of n L ≡ Ok tt) (yes_verdict : verdict_of n (lines_of L) ≡ true) where
     all : AllOk n (lines_of L)
     all = lines_ok n L (workable n L valid)
 
     -- the pair asked is that of the search, and so the greatest values of its sums over all solutions
     pub pair_is_judged : (x y : ℕ) → x < n → y < n
-        → record { outcome = pair.Implied; pair = pair_in_lem (small_table (2 * n) t) x y } ≡ pairs.judged (verdict_of n (lines_of L)) (pair_in_lem (distances n (lines_of L)) x y)
+        → Some (pair_in_lem (small_table (2 * n) t) x y) ≡ pairs.judged (verdict_of n (lines_of L)) (pair_in_lem (distances n (lines_of L)) x y)
     pair_is_judged x y hx hy = ap₂ pairs.judged (sym yes_verdict) (pair_is x y hx hy)
 
     pub asked_pair : (x y : ℕ) → x < n → y < n → IsPair (lines_of L) x y (pair_in_lem (small_table (2 * n) t) x y)
     asked_pair x y hx hy = rw (pair_is x y hx hy) (computed_pair n L valid yes_verdict x y hx hy)
 
-    module _ (l : Line) (line_valid : line_validity_lem n (line_count L) l ≡ Valid) where
+    module _ (l : Line) (line_valid : line_validity_lem n (line_count L) l ≡ Ok tt) where
       works : LineWorks n l
       works = line_works max_constant n l (omega arith) (line_ok n (line_count L) l line_valid)
 

@@ -18,7 +18,7 @@ use implied_pair::Pair;
 use integers::halved;
 use lines::{Line, is_false, line_numbers};
 use session_step::read_at;
-use steps::{NamedStep, opposite_of, step_numbered};
+use steps::{opposite_of, step_numbered};
 
 // The greatest value that the distance to its opposite leaves the point p.
 pub fn half_of(table: &[i64], n: usize, p: usize) -> i64
@@ -70,7 +70,7 @@ fn step_implied(table: &[i64], n: usize, list: &[i32], number: usize) -> bool
     ensures { result ≡ named_implied (small_table (2 * n) table.now) (step_numbered_lem list.now number) }
 {
     let named = step_numbered(list, number);
-    if let NamedStep::Found(step) = named {
+    if let Some(step) = named {
         return tight_at(table, n, step.from, step.to) <= step.weight;
     }
     true

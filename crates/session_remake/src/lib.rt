@@ -10,7 +10,7 @@ ghost use Rattle.session_state.specs.State.{session_room_lem, variables_in, coun
 ghost use Rattle.session_remake.specs.Remade.{remade_known};
 
 use lines::limits::LINE_SIZE;
-use lines::{Validity, list_validity};
+use lines::list_validity;
 use longer_list::MOST_NUMBERS;
 use session_known::known_anew;
 use session_state::{FRONT_ROOM, copy_lines, read_head, session_room};
@@ -35,7 +35,7 @@ pub fn remake_known(state: &mut [i64])
     let end = LINE_SIZE * (head.count - 1);
     let found = list_validity(head.n, &list[..end]);
     match found {
-        Validity::Valid => put_known(&list[..end], head.n, state),
-        Validity::Refused(_) => {}
+        Ok(()) => put_known(&list[..end], head.n, state),
+        Err(_) => {}
     }
 }

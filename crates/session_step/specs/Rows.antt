@@ -30,17 +30,16 @@ pub record RowsReady (n : ℕ) (s : Step) (t : List ℤ) (columns : List ℕ) (s
   pub sums_are : sums ≡ sums_of (small_table (2 * n) t) s (2 * n)
 
 -- the loop, after the rows 0 to v - 1
-pub record Rows (N : ℕ) (s : Step) (t₀ t : List ℤ) (v at : ℕ) : Type 0 where
+pub record Rows (N : ℕ) (s : Step) (t₀ t : List ℤ) (v : ℕ) : Type 0 where
   pub count : v ≤ N
-  pub place_is : at ≡ v * N
-  pub is : t ≡ written (inserted_in N t₀ s) N v ++ drop at t₀
+  pub is : t ≡ written (inserted_in N t₀ s) N v ++ drop (v * N) t₀
 
-pub rows_none : (N : ℕ) (s : Step) (t₀ : List ℤ) → Rows N s t₀ t₀ 0 0
+pub rows_none : (N : ℕ) (s : Step) (t₀ : List ℤ) → Rows N s t₀ t₀ 0
 unfolding written
-rows_none N s t₀ = record { count = omega arith; place_is = omega arith; is = refl }
+rows_none N s t₀ = let e : 0 ≡ 0 * N = omega arith in record { count = omega arith; is = ap (λ (j : ℕ). drop j t₀) e }
 
-module _ {n : ℕ} {s : Step} {t₀ : List ℤ} {columns : List ℕ} {sums : List ℤ} (ready : RowsReady n s t₀ columns sums) {t : List ℤ} {v at : ℕ}
-    (r : Rows (2 * n) s t₀ t v at) where
+module _ {n : ℕ} {s : Step} {t₀ : List ℤ} {columns : List ℕ} {sums : List ℤ} (ready : RowsReady n s t₀ columns sums) {t : List ℤ} {v : ℕ}
+    (r : Rows (2 * n) s t₀ t v) where
   abbrev N : ℕ
   N = 2 * n
 
@@ -50,11 +49,15 @@ module _ {n : ℕ} {s : Step} {t₀ : List ℤ} {columns : List ℕ} {sums : Lis
   abbrev G : Table
   G = inserted_in N t₀ s
 
-  front_length : length (written G N v) ≡ at
-  front_length = written_length G N v ∙ sym r.place_is
+  -- where row v begins
+  abbrev at : ℕ
+  at = v * N
 
-  pub row_fits : v < N → at + N ≤ length t₀
-  row_fits h = omega (arith, r.place_is, ready.table.size, mul-le-mul_right N h)
+  front_length : length (written G N v) ≡ at
+  front_length = written_length G N v
+
+  row_fits : v < N → at + N ≤ length t₀
+  row_fits h = omega (arith, ready.table.size, mul-le-mul_right N h)
 
   before : take at t ≡ written G N v
   before = ap (take at) r.is ∙ take_at (written G N v) (drop at t₀) at front_length
@@ -75,7 +78,6 @@ module _ {n : ℕ} {s : Step} {t₀ : List ℤ} {columns : List ℕ} {sums : Lis
         get_or-take k (drop at t) u (pos 0) (omega arith)
         ∙ ap (λ (l : List ℤ). number l u) rest
         ∙ get_or-drop at t₀ u (pos 0)
-        ∙ ap (λ (j : ℕ). number t₀ (j + u)) r.place_is
 
     found_in_row : ColumnsIn (take k (drop at t)) (columns_of D s N) (sums_of D s N)
     found_in_row =
@@ -140,22 +142,23 @@ module _ {n : ℕ} {s : Step} {t₀ : List ℤ} {columns : List ℕ} {sums : Lis
             ∙ ap (λ (m : ℕ). tabulate m (λ u. stored (G u v))) row_length
 
     pub rows_more : (part : List ℤ) → part ≡ row_after (take k (drop at t)) columns sums s
-        → Rows N s t₀ (take at t ++ (part ++ drop k (drop at t))) (v + 1) (at + N)
+        → Rows N s t₀ (take at t ++ (part ++ drop k (drop at t))) (v + 1)
     rows_more part e =
         let behind : drop k (drop at t) ≡ drop (at + N) t₀ = ap (drop k) rest ∙ ap (λ (m : ℕ). drop m (drop at t₀)) ek ∙ drop-drop N at t₀ in
+        let next : at + N ≡ (v + 1) * N = omega arith in
         record {
           count = omega arith;
-          place_is = omega (arith, r.place_is);
           is =
               ap₂ (λ (x y : List ℤ). x ++ y) before (ap₂ (λ (x y : List ℤ). x ++ y) (e ∙ row_is) behind)
               ∙ sym (append_assoc (written G N v) (written_row G N v) (drop (at + N) t₀))
-              ∙ ap (λ (x : List ℤ). x ++ drop (at + N) t₀) (sym (written_more G N v));
+              ∙ ap (λ (x : List ℤ). x ++ drop (at + N) t₀) (sym (written_more G N v))
+              ∙ ap (λ (j : ℕ). written G N (v + 1) ++ drop j t₀) next;
         }
 
   pub rows_all : v ≡ N → t ≡ step_after (2 * n) s t₀
   unfolding step_after
   rows_all e =
-      let d : length t₀ ≤ at = omega (arith, r.place_is, ready.table.size, ap (λ (k : ℕ). k * N) e) in
+      let d : length t₀ ≤ at = omega (arith, ready.table.size, ap (λ (k : ℕ). k * N) e) in
       r.is
       ∙ ap₂ (λ (k : ℕ) (x : List ℤ). written G N k ++ x) e (drop_of_length-le t₀ d)
       ∙ append-nil (written G N N)

@@ -79,8 +79,7 @@ fn find_columns(
 {
     let count = 2 * n;
     let mut found = 0;
-    let mut u = 0;
-    while u < count {
+    for u in 0..count {
         let way = sum_along(table, n, u, step);
         let near = read_at(table, n, u, step.to) <= way;
         if !near {
@@ -88,7 +87,6 @@ fn find_columns(
             sums[found] = way;
             found += 1;
         }
-        u += 1;
     }
     found
 }
@@ -99,11 +97,9 @@ fn lower_row(row: &mut [i64], columns: &[usize], sums: &[i64], rest: i64)
     ensures { row.new ≡ lower_all rest columns.now sums.now row.old }
 {
     let count = columns.len();
-    let mut k = 0;
-    while k < count {
+    for k in 0..count {
         let u = columns[k];
         row[u] = smaller(row[u], sum(sums[k], rest));
-        k += 1;
     }
 }
 
@@ -128,12 +124,9 @@ fn put_in_rows(table: &mut [i64], n: usize, step: Step, columns: &[usize], sums:
     ensures { table.new ≡ step_after (2 * n) step table.old }
 {
     let size = 2 * n;
-    let mut v = 0;
-    let mut at = 0;
-    while v < size {
+    for v in 0..size {
+        let at = v * size;
         put_in_row(&mut table[at..at + size], columns, sums, step);
-        v += 1;
-        at += size;
     }
 }
 

@@ -18,12 +18,10 @@ pub fn table_anew(list: &[i32], n: usize, table: &mut [i64])
 {
     start_table(table, 0, 2 * n);
     let count = list.len() / LINE_SIZE;
-    let mut k = 0;
-    while k < count {
+    for k in 0..count {
         if !both_stay(list, k, table, n) {
             return;
         }
         put_line(list, k, table, n);
-        k += 1;
     }
 }

@@ -1,13 +1,10 @@
 -- The search for a showing: what it asks, what it leaves, and how the call's promise follows.
-use Rattle.std.specs.Prelude.{◌≡◌, Bool, true, false, not, List, ◌++◌, ℕ, ◌≤◌, ℤ, pos, length, drop, replicate}
+use Rattle.std.specs.Prelude.{◌≡◌, Bool, true, false, not, List, ◌++◌, ℕ, ◌≤◌, ℤ, pos, length, drop, replicate, Err, Ok, Result}
 use Rattle.std.proofs.Math.Path.{refl, sym, ap}
 use Rattle.std.proofs.Common.{◌∙◌, arith}
 use Rattle.std.proofs.lemmas.Bool.{false≢true}
 use Rattle.lines.specs.declared.Line.{Line}
 use Rattle.lines.specs.declared.Refusal.{Refusal}
-use Rattle.lines.specs.declared.Validity.{Validity}
-use Rattle.lines.specs.declared.Validity.TheVariants.{Valid}
-use Rattle.lines.specs.declared.Validity.TheVariants as validity
 use Rattle.lines.specs.Line.{line_count, lines_of}
 use Rattle.lines.specs.Refusal.{shown_validity_lem, validity_of}
 use Rattle.lines.specs.Valid.{or_valid}
@@ -21,7 +18,7 @@ use Rattle.decide.specs.Searched.{used_room, SearchReady, Searched}
 use Rattle.decide.specs.Decided.{used_room_law, cleared_is}
 use Rattle.shown_list.specs.Against.{against}
 use Rattle.check_shown.specs.Asked.{ShownAsked, works}
-use Rattle.show_line.specs.declared.ShowAnswer.TheVariants.{Shown, NotShown, Refused}
+use Rattle.show_line.specs.declared.ShowAnswer.TheVariants.{Shown, NotShown}
 use Rattle.show_line.specs.Answer.{show_rooms, show_validity_lem, judged_by, unless_refused, show_answer, ShowLent, lengths_of, ShowsLine}
 
 -- nothing is refused
@@ -31,7 +28,7 @@ pub record ShowAsked (n : ℕ) (L : List ℤ) (l : Line) (R I : List ℕ) (w : L
   pub identifiers_room : identifiers_room_lem n ≤ length I
   pub work_room : work_room_lem n ≤ length w
 
-pub show_asked : (n : ℕ) (L : List ℤ) (l : Line) (b : ShowLent) → show_validity_lem n L l (lengths_of b) ≡ Valid → ShowAsked n L l b.refutation b.identifiers b.work
+pub show_asked : (n : ℕ) (L : List ℤ) (l : Line) (b : ShowLent) → show_validity_lem n L l (lengths_of b) ≡ Ok tt → ShowAsked n L l b.refutation b.identifiers b.work
 unfolding show_validity_lem
 show_asked n L l b e =
     let p = or_valid (validity_of n L) _ e in
@@ -101,31 +98,31 @@ module _ (n : ℕ) (L : List ℤ) (l : Line) (R I : List ℕ) (w : List ℤ) (a 
 
 -- ---- the call
 module _ (n : ℕ) (L : List ℤ) (l : Line) (b : ShowLent) where
-  pub refused : (r : Refusal) → show_validity_lem n L l (lengths_of b) ≡ validity.Refused r → ShowsLine n L l (Refused r) b b
+  pub refused : (r : Refusal) → show_validity_lem n L l (lengths_of b) ≡ Err r → ShowsLine n L l (Err r) b b
   unfolding show_answer
-  refused r e = record { is = sym (ap (λ (v : Validity). unless_refused v (judged_by (verdict_of n (lines_of (against L l))))) e); leaves = refl }
+  refused r e = record { is = sym (ap (λ (v : Result Unit Refusal). unless_refused v (judged_by (verdict_of n (lines_of (against L l))))) e); leaves = refl }
 
-  module _ (e : show_validity_lem n L l (lengths_of b) ≡ Valid) (R₁ I₁ : List ℕ) (w₁ : List ℤ) (found : Bool) (k : ShowFound n L l b.refutation b.identifiers b.work R₁ I₁ w₁ found) where
+  module _ (e : show_validity_lem n L l (lengths_of b) ≡ Ok tt) (R₁ I₁ : List ℕ) (w₁ : List ℤ) (found : Bool) (k : ShowFound n L l b.refutation b.identifiers b.work R₁ I₁ w₁ found) where
     pub room_left : work_room_lem n ≤ length w₁
     room_left = omega (arith, k.same_length, (show_asked n L l b e).work_room)
 
-    is_judged : judged_by (not found) ≡ show_answer n L l (lengths_of b)
+    is_judged : Ok (judged_by (not found)) ≡ show_answer n L l (lengths_of b)
     unfolding show_answer
-    is_judged = sym (ap (λ (v : Validity). unless_refused v (judged_by (verdict_of n (lines_of (against L l))))) e ∙ ap judged_by k.verdict)
+    is_judged = sym (ap (λ (v : Result Unit Refusal). unless_refused v (judged_by (verdict_of n (lines_of (against L l))))) e ∙ ap (λ (s : Bool). Ok (judged_by s)) k.verdict)
 
     module _ (w₂ : List ℤ) (z : w₂ ≡ replicate (work_room_lem n) (pos 0) ++ drop (work_room_lem n) w₁) where
-      pub answers_shown : found ≡ true → ShowsLine n L l Shown b (record { refutation = R₁; identifiers = I₁; work = w₂ })
+      pub answers_shown : found ≡ true → ShowsLine n L l (Ok Shown) b (record { refutation = R₁; identifiers = I₁; work = w₂ })
       answers_shown y =
           let s = k.on_shown y in
           record {
-            is = ap (λ (f : Bool). judged_by (not f)) (sym y) ∙ is_judged;
+            is = ap (λ (f : Bool). Ok (judged_by (not f))) (sym y) ∙ is_judged;
             leaves =
                 record { numbers = s.numbers; due = s.due; refutation = s.refutation; identifiers = s.identifiers; work = cleared_is n b.work w₁ w₂ k.behind z };
           }
 
-      pub answers_open : found ≡ false → ShowsLine n L l NotShown b (record { refutation = R₁; identifiers = I₁; work = w₂ })
+      pub answers_open : found ≡ false → ShowsLine n L l (Ok NotShown) b (record { refutation = R₁; identifiers = I₁; work = w₂ })
       answers_open y =
           record {
-            is = ap (λ (f : Bool). judged_by (not f)) (sym y) ∙ is_judged;
+            is = ap (λ (f : Bool). Ok (judged_by (not f))) (sym y) ∙ is_judged;
             leaves = record { refutation = (k.on_open y).0; identifiers = (k.on_open y).1; work = cleared_is n b.work w₁ w₂ k.behind z };
           }

@@ -12,33 +12,37 @@ use decide::refuted;
 use decide_buffers::{clear, identifiers_room, refutation_room, work_room};
 use decide_identifiers::write_identifiers;
 use lines::limits::LINE_SIZE;
-use lines::{Line, Refusal, Validity, list_validity, shown_validity};
+use lines::{Line, Refusal, list_validity, shown_validity};
 use longer_list::MOST_NUMBERS;
 use shown_list::write_against;
 
-// A showing is written; some solution does not meet the line; or a refusal.
+// A showing is written, or some solution does not meet the line.
 #[derive(Clone, Copy)]
 pub enum ShowAnswer {
     Shown,
     NotShown,
-    Refused(Refusal),
 }
 
 // Refusals 7 and 8, by the lengths of the buffers.
-fn rooms_validity(n: usize, refutation: usize, identifiers: usize, work: usize) -> Validity
+fn rooms_validity(
+    n: usize,
+    refutation: usize,
+    identifiers: usize,
+    work: usize,
+) -> Result<(), Refusal>
     requires { n ≤ max_variables }
     ensures { result ≡ first_short show_rooms n (show_lengths refutation identifiers work) }
 {
     if refutation < refutation_room(n) {
-        return Validity::Refused(Refusal::ShortOutput(4));
+        return Err(Refusal::ShortOutput(4));
     }
     if identifiers < identifiers_room(n) {
-        return Validity::Refused(Refusal::ShortOutput(5));
+        return Err(Refusal::ShortOutput(5));
     }
     if work < work_room(n) {
-        return Validity::Refused(Refusal::ShortWorkArea);
+        return Err(Refusal::ShortWorkArea);
     }
-    Validity::Valid
+    Ok(())
 }
 
 // The first refusal that applies: the list's, the line's as if it stood behind the list, then 7 and 8. The buffers are
@@ -50,17 +54,11 @@ fn show_validity(
     refutation: usize,
     identifiers: usize,
     work: usize,
-) -> Validity
+) -> Result<(), Refusal>
     ensures { result ≡ show_validity_lem n list.now line (show_lengths refutation identifiers work) }
 {
-    let found = list_validity(n, list);
-    if let Validity::Refused(r) = found {
-        return Validity::Refused(r);
-    }
-    let found = shown_validity(n, list.len() / LINE_SIZE, line);
-    if let Validity::Refused(r) = found {
-        return Validity::Refused(r);
-    }
+    list_validity(n, list)?;
+    shown_validity(n, list.len() / LINE_SIZE, line)?;
     rooms_validity(n, refutation, identifiers, work)
 }
 
@@ -93,26 +91,23 @@ pub fn show_line(
     refutation: &mut [u32],
     identifiers: &mut [u32],
     work: &mut [i64],
-) -> ShowAnswer
+) -> Result<ShowAnswer, Refusal>
     ensures { ShowsLine n list.now line result
         (record { refutation = refutation.old; identifiers = identifiers.old; work = work.old })
         (record { refutation = refutation.new; identifiers = identifiers.new; work = work.new }) }
 {
-    let found = show_validity(
+    show_validity(
         n,
         list,
         line,
         refutation.len(),
         identifiers.len(),
         work.len(),
-    );
-    if let Validity::Refused(r) = found {
-        return ShowAnswer::Refused(r);
-    }
+    )?;
     let shown = found_shown(n, list, line, refutation, identifiers, work);
     clear(work, work_room(n));
     if shown {
-        return ShowAnswer::Shown;
+        return Ok(ShowAnswer::Shown);
     }
-    ShowAnswer::NotShown
+    Ok(ShowAnswer::NotShown)
 }

@@ -2,7 +2,7 @@
 --
 -- A step number of a showing is that of a line of the list or of the opposite line, since the lines between have no steps; in a longer list both have the
 -- numbers that they had.
-use Rattle.std.specs.Prelude.{◌≡◌, true, List, ◌++◌, ℕ, ◌/◌, ◌%◌, ◌<◌, ◌≤◌, ℤ, length, drop}
+use Rattle.std.specs.Prelude.{◌≡◌, true, List, ◌++◌, ℕ, ◌/◌, ◌%◌, ◌<◌, ◌≤◌, ℤ, length, drop, Some}
 use Rattle.std.proofs.Common.{sym, ◌∙◌, arith, lt-ltb}
 use Rattle.std.proofs.Math.Path.{ap}
 use Rattle.integers.specs.Laws.{never}
@@ -13,7 +13,6 @@ use Rattle.lines.specs.LineNumbers.{count_append, line_left}
 use Rattle.lines.specs.Solutions.{meets_stable}
 use Rattle.lines.specs.Valid.{Workable}
 use Rattle.steps.specs.declared.Step.{Step}
-use Rattle.steps.specs.declared.NamedStep.TheVariants.{Found}
 use Rattle.steps.specs.Step.{step_of, step_numbered_lem}
 use Rattle.steps.specs.Laws.{from_line}
 use Rattle.steps.specs.Zero.{zero_no_step, zero_not_false}
@@ -55,16 +54,16 @@ module _ (L M : List ℤ) (whole : length L % line_size ≡ 0) (few : line_count
   within : (k : ℕ) → k < line_count (against L l) → k < work_lines
   within k h = omega (arith, count_against L whole few_own l)
 
-  found : (k : ℕ) (t : Step) → Unit {0} → step_numbered_lem (against L l) k ≡ Found t → step_numbered_lem long k ≡ Found t
+  found : (k : ℕ) (t : Step) → Unit {0} → step_numbered_lem (against L l) k ≡ Some t → step_numbered_lem long k ≡ Some t
   unfolding step_numbered_lem
   found k t p e =
       let f = from_line (against L l) k t e in
       rw (lt-ltb (k / 2) (line_count long) (omega (arith, count_against (L ++ M) all few l, within (k / 2) f.0))) (go (where_is (line_count L) (k / 2) (within (k / 2) f.0)) f.1)
     where
-      same : line_at long (k / 2) ≡ line_at (against L l) (k / 2) → step_of (line_at (against L l) (k / 2)) (k % 2) ≡ Found t → step_of (line_at long (k / 2)) (k % 2) ≡ Found t
+      same : line_at long (k / 2) ≡ line_at (against L l) (k / 2) → step_of (line_at (against L l) (k / 2)) (k % 2) ≡ Some t → step_of (line_at long (k / 2)) (k % 2) ≡ Some t
       same q g = ap (λ (m : Line). step_of m (k % 2)) q ∙ g
 
-      go : Where (line_count L) (k / 2) → step_of (line_at (against L l) (k / 2)) (k % 2) ≡ Found t → step_of (line_at long (k / 2)) (k % 2) ≡ Found t
+      go : Where (line_count L) (k / 2) → step_of (line_at (against L l) (k / 2)) (k % 2) ≡ Some t → step_of (line_at long (k / 2)) (k % 2) ≡ Some t
       go (own h) g = same (own_same (k / 2) h) g
       go (gap low high) g =
           never (cc (sym (zero_no_step (k % 2) (omega arith)) ∙ ap (λ (m : Line). step_of m (k % 2)) (sym (zero_line_law L whole few_own l (k / 2) low high)) ∙ g))

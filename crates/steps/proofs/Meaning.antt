@@ -1,5 +1,5 @@
 -- A line is met exactly if its steps hold, for all nine coefficient pairs at once.
-use Rattle.std.specs.Prelude.{◌≡◌, ◌↔◌, Bool, cond, List, ℕ, zero, suc, ◌+◌, ◌/◌, ◌%◌, ◌<◌, ℤ, negsuc, neg_ℤ, nat_abs, ◌+ℤ◌, ◌-ℤ◌, ◌*ℤ◌}
+use Rattle.std.specs.Prelude.{◌≡◌, ◌↔◌, Bool, cond, List, ℕ, zero, suc, ◌+◌, ◌/◌, ◌%◌, ◌<◌, ℤ, negsuc, neg_ℤ, nat_abs, ◌+ℤ◌, ◌-ℤ◌, ◌*ℤ◌, None, Some}
 use Rattle.std.proofs.Math.Path.{refl, sym, ap, ap₂}
 use Rattle.std.proofs.Common.{◌∙◌, arith}
 use Rattle.std.proofs.Math.Bool.{true, false}
@@ -15,7 +15,6 @@ use Rattle.lines.specs.declared.Line.{Line}
 use Rattle.lines.specs.Line.{Assignment, left_side_lem, Meets, Solves, line_at, line_count, lines_of, is_zero, is_false_lem}
 use Rattle.lines.specs.Valid.{LineWorks, LinesOk}
 use Rattle.lines.specs.Solutions.{solves_at}
-use Rattle.steps.specs.declared.NamedStep.TheVariants.{Found, Nothing}
 use Rattle.steps.specs.Point.{value}
 use Rattle.steps.proofs.PointLaws.{value_plus, value_minus}
 use Rattle.steps.specs.Table.{entry, cell, digit, count_x, count_y, coefficient, is_end, CellRule, rule_at, digit_lt, coefficient_digit, missing}
@@ -104,7 +103,7 @@ module _ (s : Assignment) (l : Line) where
     unfolding step_of
     meets_holds m = go (eqb (entry (c + 2)) 0) refl
       where
-        go : (t : Bool) → eqb (entry (c + 2)) 0 ≡ t → Holds s (cond t Nothing (Found (step_with l c)))
+        go : (t : Bool) → eqb (entry (c + 2)) 0 ≡ t → Holds s (cond t None (Some (step_with l c)))
         go true e = tt
         go false e = (step_with_law (eqb-false _ 0 e)).1 m
 
@@ -129,7 +128,7 @@ module _ (s : Assignment) (n : ℕ) (l : Line) (ok : LineWorks n l) where
   unfolding step_of
   holds_meets h = go (eqb (entry (cell l.a l.b 0 + 2)) 0) refl h.side_0
     where
-      go : (t : Bool) → eqb (entry (cell l.a l.b 0 + 2)) 0 ≡ t → Holds s (cond t Nothing (Found (step_with l (cell l.a l.b 0)))) → Meets s l
+      go : (t : Bool) → eqb (entry (cell l.a l.b 0 + 2)) 0 ≡ t → Holds s (cond t None (Some (step_with l (cell l.a l.b 0)))) → Meets s l
       go true e k =
           let m = missing (digit l.a) (digit l.b) (digit_lt l.a) (digit_lt l.b) (eqb-true _ 0 e) in
           let ea : l.a ≡ pos 0 = sym (coefficient_digit l.a ok.coefficient_a) ∙ ap coefficient m.0 in
@@ -159,7 +158,7 @@ module _ (n : ℕ) (L : List ℤ) (ok : LinesOk n L) (s : Assignment) (solves : 
   unfolding step_numbered_lem
   numbered_holds k = go (ltb (k / 2) (line_count L)) refl
     where
-      go : (t : Bool) → ltb (k / 2) (line_count L) ≡ t → Holds s (cond t (step_of (line_at L (k / 2)) (k % 2)) Nothing)
+      go : (t : Bool) → ltb (k / 2) (line_count L) ≡ t → Holds s (cond t (step_of (line_at L (k / 2)) (k % 2)) None)
       go true e =
           let h = ltb-true _ _ e in
           meets_holds s (line_at L (k / 2)) n (ok (k / 2) h) (k % 2) (omega arith) (solves_at L s solves (k / 2) h)

@@ -1,5 +1,5 @@
 -- A line's steps are mirrored: with p to q of weight w also the opposite of q to the opposite of p, of the same weight; and their points.
-use Rattle.std.specs.Prelude.{◌≡◌, refl, ◌⊎◌, Bool, true, false, cond, ◌&&◌, ◌||◌, ℕ, zero, suc, ◌+◌, ◌*◌, ◌-◌, ◌/◌, ◌%◌, ◌<◌, ◌≤◌, eqb, ltb, pos, nat_abs, ◌*ℤ◌}
+use Rattle.std.specs.Prelude.{◌≡◌, refl, ◌⊎◌, Bool, true, false, cond, ◌&&◌, ◌||◌, ℕ, zero, suc, ◌+◌, ◌*◌, ◌-◌, ◌/◌, ◌%◌, ◌<◌, ◌≤◌, eqb, ltb, pos, nat_abs, ◌*ℤ◌, None, Some}
 use Rattle.std.proofs.Common.{sym, ap, subst, ◌∙◌, inl, inr, ⊎_elim, arith, ltb-true, ltb-false, eqb-true}
 use Rattle.std.proofs.lemmas.Bool.{eqb-false}
 use Rattle.integers.specs.Laws.{never, and_true}
@@ -7,7 +7,6 @@ use Rattle.integers.specs.Table.{all_below, below_at}
 use Rattle.lines.specs.declared.Line.{Line}
 use Rattle.lines.specs.Valid.{VariableOk, variable_lt, LineWorks}
 use Rattle.steps.specs.declared.Step.{Step}
-use Rattle.steps.specs.declared.NamedStep.TheVariants.{Found, Nothing}
 use Rattle.steps.specs.Point.{point, opposite}
 use Rattle.steps.specs.Table.{entry, cell, digit, digit_lt}
 use Rattle.steps.specs.Step.{variable_at, end_point_lem, step_with, step_of}
@@ -113,13 +112,13 @@ with_step n l side ok h f =
       weight_is = ap (λ (k : ℕ). pos k *ℤ l.d) m.mirror.factor;
     }
 
-pub line_step_known : (n : ℕ) (l : Line) (side : ℕ) (t : Step) → LineWorks n l → side < 2 → step_of l side ≡ Found t → LineStep n l t
+pub line_step_known : (n : ℕ) (l : Line) (side : ℕ) (t : Step) → LineWorks n l → side < 2 → step_of l side ≡ Some t → LineStep n l t
 unfolding step_of
 line_step_known n l side t ok h e = go (eqb (entry (cell l.a l.b side + 2)) 0) refl e
   where
-    same : {s t : Step} → Found s ≡ Found t → s ≡ t
+    same : {s t : Step} → Some s ≡ Some t → s ≡ t
     same e = cc
 
-    go : (b : Bool) → eqb (entry (cell l.a l.b side + 2)) 0 ≡ b → cond b Nothing (Found (step_with l (cell l.a l.b side))) ≡ Found t → LineStep n l t
+    go : (b : Bool) → eqb (entry (cell l.a l.b side + 2)) 0 ≡ b → cond b None (Some (step_with l (cell l.a l.b side))) ≡ Some t → LineStep n l t
     go true z q = never (cc)
     go false z q = subst (LineStep n l) (same q) (with_step n l side ok h (eqb-false _ 0 z))

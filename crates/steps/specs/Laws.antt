@@ -1,5 +1,5 @@
 -- What the code and its callers use of a line's step: when there is one, that its ends are right, and that its weight is small.
-use Rattle.std.specs.Prelude.{◌≡◌, refl, Bool, true, false, not, cond, List, [], ◌∷◌, ◌++◌, ℕ, zero, suc, ◌+◌, ◌*◌, ◌/◌, ◌%◌, ◌<◌, T, eqb, ltb, ℤ, pos, ◌*ℤ◌, length, get_or}
+use Rattle.std.specs.Prelude.{◌≡◌, refl, Bool, true, false, not, cond, List, [], ◌∷◌, ◌++◌, ℕ, zero, suc, ◌+◌, ◌*◌, ◌/◌, ◌%◌, ◌<◌, T, eqb, ltb, ℤ, pos, ◌*ℤ◌, length, get_or, None, Some}
 use Rattle.std.proofs.Common.{sym, subst, arith, lt-ltb, ltb-true, eq-eqb, ne_eqb}
 use Rattle.integers.specs.Integer.{Within}
 use Rattle.integers.proofs.Linear.{ints, zs, given₂}
@@ -11,7 +11,6 @@ use Rattle.lines.specs.Bare.{bare}
 use Rattle.lines.specs.Valid.{VariableOk, LineWorks}
 use Rattle.lines.specs.LineNumbers.{count_append, line_left}
 use Rattle.steps.specs.declared.Step.{Step}
-use Rattle.steps.specs.declared.NamedStep.TheVariants.{Found, Nothing}
 use Rattle.steps.specs.Table.{entry, cell, digit, is_end, CellRule, rule_at, digit_lt}
 use Rattle.steps.specs.Step.{heaviest, max_weight, variable_at, step_with, step_of, step_numbered_lem, NamedOk}
 use Rattle.steps.specs.Walk.{Names}
@@ -20,11 +19,11 @@ module _ (l : Line) (side : ℕ) where
   abbrev c : ℕ
   c = cell l.a l.b side
 
-  pub step_none : entry (c + 2) ≡ 0 → Nothing ≡ step_of l side
+  pub step_none : entry (c + 2) ≡ 0 → None ≡ step_of l side
   unfolding step_of
   step_none e = rw (eq-eqb (entry (c + 2)) 0 e)
 
-  pub step_found : (entry (c + 2) ≡ 0 → ⊥) → Found (step_with l c) ≡ step_of l side
+  pub step_found : (entry (c + 2) ≡ 0 → ⊥) → Some (step_with l c) ≡ step_of l side
   unfolding step_of
   step_found n = rw (ne_eqb (entry (c + 2)) 0 n)
 
@@ -51,7 +50,7 @@ weight_within most (suc zero) d h w = record { low = given₂ w.low w.high (simp
 weight_within most (suc (suc zero)) d h w = record { low = given₂ w.low w.high (simp ints (omega arith)); high = given₂ w.low w.high (simp ints (omega arith)) }
 weight_within most (suc (suc (suc k))) d h w = absurd (omega arith)
 
-found_is : {t u : Step} → Found t ≡ Found u → t ≡ u
+found_is : {t u : Step} → Some t ≡ Some u → t ≡ u
 found_is e = cc
 
 -- no step looks at the identifier of its line
@@ -59,36 +58,36 @@ pub step_blind : (side : ℕ) (l : Line) → step_of (bare l) side ≡ step_of l
 unfolding step_of bare line_numbers_lem
 step_blind side l = refl
 
-line_weight_within : (most : ℕ) (l : Line) (side : ℕ) (t : Step) → Within most l.d → side < 2 → step_of l side ≡ Found t → Within (heaviest most) t.weight
+line_weight_within : (most : ℕ) (l : Line) (side : ℕ) (t : Step) → Within most l.d → side < 2 → step_of l side ≡ Some t → Within (heaviest most) t.weight
 unfolding step_of
 line_weight_within most l side t w h e = go (eqb (entry (c l side + 2)) 0) e
   where
-    go : (b : Bool) → cond b Nothing (Found (step_with l (c l side))) ≡ Found t → Within (heaviest most) t.weight
+    go : (b : Bool) → cond b None (Some (step_with l (c l side))) ≡ Some t → Within (heaviest most) t.weight
     go true q = never (cc)
     go false q = subst (λ (u : Step). Within (heaviest most) u.weight) (found_is q) (weight_within most (entry (c l side + 2)) l.d (line_rule l side h).factor w)
 
-pub line_weight : (n : ℕ) (l : Line) (side : ℕ) (t : Step) → LineWorks n l → side < 2 → step_of l side ≡ Found t → Within max_weight t.weight
+pub line_weight : (n : ℕ) (l : Line) (side : ℕ) (t : Step) → LineWorks n l → side < 2 → step_of l side ≡ Some t → Within max_weight t.weight
 line_weight n l side t ok = line_weight_within work_constant l side t ok.constant
 
 -- where the d of the line that the number names is within some limit
-pub numbered_within : (most : ℕ) (L : List ℤ) (k : ℕ) (t : Step) → (k / 2 < line_count L → Within most (line_at L (k / 2)).d) → step_numbered_lem L k ≡ Found t → Within (heaviest most) t.weight
+pub numbered_within : (most : ℕ) (L : List ℤ) (k : ℕ) (t : Step) → (k / 2 < line_count L → Within most (line_at L (k / 2)).d) → step_numbered_lem L k ≡ Some t → Within (heaviest most) t.weight
 unfolding step_numbered_lem
 numbered_within most L k t w e = go (ltb (k / 2) (line_count L)) refl e
   where
-    go : (b : Bool) → ltb (k / 2) (line_count L) ≡ b → cond b (step_of (line_at L (k / 2)) (k % 2)) Nothing ≡ Found t → Within (heaviest most) t.weight
+    go : (b : Bool) → ltb (k / 2) (line_count L) ≡ b → cond b (step_of (line_at L (k / 2)) (k % 2)) None ≡ Some t → Within (heaviest most) t.weight
     go true i q = line_weight_within most (line_at L (k / 2)) (k % 2) t (w (ltb-true _ _ i)) (omega arith) q
     go false i q = never (cc)
 
-pub numbered_weight : (n : ℕ) (L : List ℤ) (k : ℕ) (t : Step) → NamedOk n L k → step_numbered_lem L k ≡ Found t → Within max_weight t.weight
+pub numbered_weight : (n : ℕ) (L : List ℤ) (k : ℕ) (t : Step) → NamedOk n L k → step_numbered_lem L k ≡ Some t → Within max_weight t.weight
 numbered_weight n L k t ok = numbered_within work_constant L k t (λ h. (ok h).constant)
 
 -- ---- a longer list names the same steps by the same numbers
-pub numbered_longer : (L M : List ℤ) (k : ℕ) (t : Step) → length L % line_size ≡ 0 → step_numbered_lem L k ≡ Found t → step_numbered_lem (L ++ M) k ≡ Found t
+pub numbered_longer : (L M : List ℤ) (k : ℕ) (t : Step) → length L % line_size ≡ 0 → step_numbered_lem L k ≡ Some t → step_numbered_lem (L ++ M) k ≡ Some t
 unfolding step_numbered_lem
 numbered_longer L M k t whole e = go (ltb (k / 2) (line_count L)) refl e
   where
-    go : (b : Bool) → ltb (k / 2) (line_count L) ≡ b → cond b (step_of (line_at L (k / 2)) (k % 2)) Nothing ≡ Found t
-        → cond (ltb (k / 2) (line_count (L ++ M))) (step_of (line_at (L ++ M) (k / 2)) (k % 2)) Nothing ≡ Found t
+    go : (b : Bool) → ltb (k / 2) (line_count L) ≡ b → cond b (step_of (line_at L (k / 2)) (k % 2)) None ≡ Some t
+        → cond (ltb (k / 2) (line_count (L ++ M))) (step_of (line_at (L ++ M) (k / 2)) (k % 2)) None ≡ Some t
     go true i q =
         let h : k / 2 < line_count L = ltb-true _ _ i in
         let h' : k / 2 < line_count (L ++ M) = omega (arith, count_append L M whole) in
@@ -97,15 +96,15 @@ numbered_longer L M k t whole e = go (ltb (k / 2) (line_count L)) refl e
 
 -- ---- the step with a number
 -- it is the step of a side of one of the list's lines
-pub from_line : (L : List ℤ) (k : ℕ) (t : Step) → step_numbered_lem L k ≡ Found t → (k / 2 < line_count L) × (step_of (line_at L (k / 2)) (k % 2) ≡ Found t)
+pub from_line : (L : List ℤ) (k : ℕ) (t : Step) → step_numbered_lem L k ≡ Some t → (k / 2 < line_count L) × (step_of (line_at L (k / 2)) (k % 2) ≡ Some t)
 unfolding step_numbered_lem
 from_line L k t e = go (ltb (k / 2) (line_count L)) refl e
   where
-    go : (b : Bool) → ltb (k / 2) (line_count L) ≡ b → cond b (step_of (line_at L (k / 2)) (k % 2)) Nothing ≡ Found t → (k / 2 < line_count L) × (step_of (line_at L (k / 2)) (k % 2) ≡ Found t)
+    go : (b : Bool) → ltb (k / 2) (line_count L) ≡ b → cond b (step_of (line_at L (k / 2)) (k % 2)) None ≡ Some t → (k / 2 < line_count L) × (step_of (line_at L (k / 2)) (k % 2) ≡ Some t)
     go true i q = (ltb-true _ _ i, q)
     go false i q = never (cc)
 
-pub number_below : (L : List ℤ) (k : ℕ) (t : Step) → step_numbered_lem L k ≡ Found t → k < 2 * line_count L
+pub number_below : (L : List ℤ) (k : ℕ) (t : Step) → step_numbered_lem L k ≡ Some t → k < 2 * line_count L
 number_below L k t e = omega (arith, (from_line L k t e).0)
 
 -- every number that names a step is below twice the number of lines

@@ -1,11 +1,10 @@
 -- Walks: steps that follow each other end to start (the field's term: paths), their sums, and what a walk says of its two ends.
-use Rattle.std.specs.Prelude.{◌≡◌, refl, List, [], ◌∷◌, ◌++◌, ℕ, suc, ℤ, pos, ◌+ℤ◌, ◌-ℤ◌, length}
+use Rattle.std.specs.Prelude.{◌≡◌, refl, List, [], ◌∷◌, ◌++◌, ℕ, suc, ℤ, pos, ◌+ℤ◌, ◌-ℤ◌, length, Some}
 use Rattle.std.proofs.Common.{ap, ◌∙◌, arith}
 use Rattle.integers.specs.Integer.{◌⩽◌}
 use Rattle.integers.proofs.Linear.{ints}
 use Rattle.lines.specs.Line.{Assignment}
 use Rattle.steps.specs.declared.Step.{Step}
-use Rattle.steps.specs.declared.NamedStep.TheVariants.{Found}
 use Rattle.steps.specs.Point.{value}
 use Rattle.steps.specs.Step.{step_numbered_lem, Says}
 
@@ -23,7 +22,7 @@ abbrev pub Names : List ℤ → List ℕ → List Step → Type 0
 Names L [] [] = Unit {0}
 Names L [] (t ∷ ts) = ⊥
 Names L (k ∷ ks) [] = ⊥
-Names L (k ∷ ks) (t ∷ ts) = (step_numbered_lem L k ≡ Found t) × Names L ks ts
+Names L (k ∷ ks) (t ∷ ts) = (step_numbered_lem L k ≡ Some t) × Names L ks ts
 
 pub names_append : (L : List ℤ) (ks ls : List ℕ) (ss ts : List Step) → Names L ks ss → Names L ls ts → Names L (ks ++ ls) (ss ++ ts)
 names_append L [] ls [] ts a b = b

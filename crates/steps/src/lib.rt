@@ -22,13 +22,6 @@ pub struct Step {
     pub weight: i64,
 }
 
-// What a step number names.
-#[derive(Clone, Copy)]
-pub enum NamedStep {
-    Found(Step),
-    Nothing,
-}
-
 // A side's three entries of the specification's table: start, end and weight factor. An end is a place of the line and a
 // sign: 0 is x+, 1 is x-, 2 is y+, 3 is y-. A factor of 0 says that there is no step.
 #[derive(Clone, Copy)]
@@ -136,30 +129,30 @@ fn weight_of(factor: usize, d: i32) -> i64
 }
 
 // The line's step of a side.
-fn line_step(line: Line, side: usize) -> NamedStep
+fn line_step(line: Line, side: usize) -> Option<Step>
     requires { LineWorks max_variables line × (side < 2) }
     ensures { result ≡ step_of line side }
 {
     let entries = side_of(digit_of(line.a), digit_of(line.b), side);
     let factor = entries.factor;
     if factor == 0 {
-        return NamedStep::Nothing;
+        return None;
     }
     let from = end_point(line, entries.start);
     let to = end_point(line, entries.end);
     let weight = weight_of(factor, line.d);
-    NamedStep::Found(Step { from, to, weight })
+    Some(Step { from, to, weight })
 }
 
 // The step with a number: twice the line's number plus the side.
-pub fn step_numbered(list: &[i32], number: usize) -> NamedStep
+pub fn step_numbered(list: &[i32], number: usize) -> Option<Step>
     requires { NamedOk max_variables list.now number }
     ensures { result ≡ step_numbered_lem list.now number }
 {
     if number / 2 < list.len() / LINE_SIZE {
         line_step(line_at(list, number / 2), number % 2)
     } else {
-        NamedStep::Nothing
+        None
     }
 }
 

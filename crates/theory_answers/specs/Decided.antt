@@ -1,10 +1,9 @@
 -- The verdict is yes exactly if the list has a solution, and no exactly if the checker accepts some refutation: then it accepts one of the due kind.
-use Rattle.std.specs.Prelude.{◌≡◌, ◌↔◌, Bool, cond, List, [], ◌∷◌, ℕ, ◌*◌, ◌<◌, ℤ}
+use Rattle.std.specs.Prelude.{◌≡◌, ◌↔◌, Bool, cond, List, [], ◌∷◌, ℕ, ◌*◌, ◌<◌, ℤ, Ok}
 use Rattle.std.proofs.Math.Path.{refl}
 use Rattle.std.proofs.Common.{ap, ◌∙◌, arith}
 use Rattle.std.proofs.Math.Bool.{true, false}
 use Rattle.integers.specs.Laws.{never}
-use Rattle.lines.specs.declared.Validity.TheVariants.{Valid}
 use Rattle.lines.specs.Line.{line_at, line_count, lines_of, assignment_of, Solvable, is_false_lem}
 use Rattle.lines.specs.Refusal.{validity_of}
 use Rattle.lines.specs.Valid.{AllOk, Workable, all_ok, workable}
@@ -117,10 +116,10 @@ module _ (n : ℕ) (L : List ℤ) (valid : Workable n L) where
       go false e true f = due_2 (λ s. other (has_falsehood.1 s) e) (λ s. other f (has_closed.1 s))
 
 -- ---- the checker's answer, on a valid list
-module _ (n : ℕ) (L : List ℤ) (valid : validity_of n L ≡ Valid) where
+module _ (n : ℕ) (L : List ℤ) (valid : validity_of n L ≡ Ok tt) where
   -- a due refutation is short enough for the checker
-  pub due_accepted : (R : List ℕ) → Due n L R → refutation_answer n L R ≡ Yes
+  pub due_accepted : (R : List ℕ) → Due n L R → refutation_answer n L R ≡ Ok Yes
   due_accepted R d = (accepted_when n L R).1 (valid, omega (arith, d.size, (workable n L valid).variables), d.refutes)
 
-  pub accepted_no : (R : List ℕ) → refutation_answer n L R ≡ Yes → verdict_of n (lines_of L) ≡ false
+  pub accepted_no : (R : List ℕ) → refutation_answer n L R ≡ Ok Yes → verdict_of n (lines_of L) ≡ false
   accepted_no R e = refuted_no n L (workable n L valid) R ((accepted_when n L R).0 e).2

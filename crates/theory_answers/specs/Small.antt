@@ -3,7 +3,7 @@
 --
 -- Of n values that are not all so small, none lies in some stretch of M (`free`). Those beyond it may then be moved by one, and the assignment still solves the
 -- list: toward zero, against the model being nearest; or away from it, against the greatest value being one.
-use Rattle.std.specs.Prelude.{◌≡◌, refl, ◌⊎◌, Bool, true, false, List, [], ◌∷◌, ℕ, zero, suc, ◌+◌, ◌*◌, ◌≤◌, ◌<◌, ℤ, pos, negsuc, neg_ℤ, nat_abs, ◌+ℤ◌}
+use Rattle.std.specs.Prelude.{◌≡◌, refl, ◌⊎◌, Bool, true, false, List, [], ◌∷◌, ℕ, zero, suc, ◌+◌, ◌*◌, ◌≤◌, ◌<◌, ℤ, pos, negsuc, neg_ℤ, nat_abs, ◌+ℤ◌, Ok}
 use Rattle.std.proofs.Common.{ap, inl, inr, arith}
 use Rattle.std.proofs.Math.Decide.{dec_lt}
 use Rattle.std.specs.Int.Signed.{lt_z}
@@ -12,7 +12,6 @@ use Rattle.integers.proofs.Linear.{ints, given, neg_part, ≤ℤ_trans}
 use Rattle.integers.proofs.Halving.{test_yes, test_no}
 use Rattle.integers.specs.Sequence.{tabulate}
 use Rattle.lines.specs.declared.Line.{Line}
-use Rattle.lines.specs.declared.Validity.TheVariants.{Valid}
 use Rattle.lines.specs.Limits.{max_constant}
 use Rattle.lines.specs.Line.{line_at, line_count, lines_of, Assignment, Solves}
 use Rattle.lines.specs.Refusal.{validity_of}
@@ -43,10 +42,10 @@ each_within M (suc c) f h = (h 0 (omega arith), each_within M c (λ k. f (suc k)
 pub works_above : (M n : ℕ) (L : List ℤ) → WorkableWithin M n L → AllAbove M (lines_of L)
 works_above M n L o = within_above M (lines_of L) (each_within M (line_count L) (line_at L) (λ k h. (o.lines k h).constant))
 
-pub valid_within : (n : ℕ) (L : List ℤ) → validity_of n L ≡ Valid → AllWithin max_constant (lines_of L)
+pub valid_within : (n : ℕ) (L : List ℤ) → validity_of n L ≡ Ok tt → AllWithin max_constant (lines_of L)
 valid_within n L v = each_within max_constant (line_count L) (line_at L) (λ k h. (line_ok n k (line_at L k) ((valid_list n L v).each k h)).constant)
 
-pub valid_above : (n : ℕ) (L : List ℤ) → validity_of n L ≡ Valid → AllAbove max_constant (lines_of L)
+pub valid_above : (n : ℕ) (L : List ℤ) → validity_of n L ≡ Ok tt → AllAbove max_constant (lines_of L)
 valid_above n L v = within_above max_constant (lines_of L) (valid_within n L v)
 
 -- ---- the model

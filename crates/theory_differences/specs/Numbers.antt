@@ -1,13 +1,12 @@
 -- Plain steps by their numbers: there is one for each line, in their order, and the step number of its plus copy is twice the line's, one more where x has
 -- the coefficient -1.
-use Rattle.std.specs.Prelude.{◌≡◌, refl, List, [], ◌∷◌, ◌++◌, ℕ, zero, suc, ◌+◌, ◌*◌, ◌/◌, ◌%◌, ◌<◌, ℤ, take, drop}
+use Rattle.std.specs.Prelude.{◌≡◌, refl, List, [], ◌∷◌, ◌++◌, ℕ, zero, suc, ◌+◌, ◌*◌, ◌/◌, ◌%◌, ◌<◌, ℤ, take, drop, Some}
 use Rattle.std.proofs.Common.{sym, ap, ◌∙◌, arith}
 use borrow.Author.Tests.{lt-ltb}
 use Rattle.integers.specs.Sequence.{tabulate, tabulate_add}
 use Rattle.lines.specs.declared.Line.{Line}
 use Rattle.lines.specs.Line.{line_at, line_count, lines_of}
 use Rattle.steps.specs.declared.Step.{Step}
-use Rattle.steps.specs.declared.NamedStep.TheVariants.{Found}
 use Rattle.steps.specs.Step.{step_numbered_lem}
 use Rattle.steps.specs.Walk.{Names}
 use Rattle.theory_walks.specs.Row.{In}
@@ -44,7 +43,7 @@ module _ (L : List ℤ) where
       (s.number, k.0, ap plain_step_lem k.1 ∙ sym s.is)
 
   -- the number names the plus copy
-  pub plain_numbered : Differences (lines_of L) → (k : ℕ) → k < line_count L → (plain_number_lem L k < 2 * line_count L) × (step_numbered_lem L (plain_number_lem L k) ≡ Found (plus (plain_step_lem (line_at L k))))
+  pub plain_numbered : Differences (lines_of L) → (k : ℕ) → k < line_count L → (plain_number_lem L k < 2 * line_count L) × (step_numbered_lem L (plain_number_lem L k) ≡ Some (plus (plain_step_lem (line_at L k))))
   unfolding step_numbered_lem
   plain_numbered ds k h =
       let s = plain_side_law (line_at L k) (ds k (line_at L k) (line_at_law L k h)) in

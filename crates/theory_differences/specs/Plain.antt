@@ -1,6 +1,6 @@
 -- Differences: lines with one coefficient 1 and one -1. Such a line is one step over the variables themselves, its plain step; the two steps of the
 -- line are that step's copy between plus points, and the copy's mirror image between minus points.
-use Rattle.std.specs.Prelude.{◌≡◌, refl, ◌⊎◌, Bool, true, false, cond, ◌&&◌, ◌||◌, List, [], ◌∷◌, ℕ, zero, suc, ◌<◌, ℤ, pos, negsuc, nat_abs, ◌*ℤ◌}
+use Rattle.std.specs.Prelude.{◌≡◌, refl, ◌⊎◌, Bool, true, false, cond, ◌&&◌, ◌||◌, List, [], ◌∷◌, ℕ, zero, suc, ◌<◌, ℤ, pos, negsuc, nat_abs, ◌*ℤ◌, Some}
 use Rattle.std.proofs.Common.{sym, ap, subst, ◌∙◌, inl, inr, arith}
 use Rattle.integers.specs.Integer.{eq_z}
 use Rattle.integers.proofs.Linear.{ints}
@@ -10,7 +10,6 @@ use Rattle.lines.specs.declared.Line.{Line}
 use Rattle.lines.specs.Line.{line_at, line_count, lines_of, is_false_lem}
 use Rattle.lines.specs.Valid.{AllOk}
 use Rattle.steps.specs.declared.Step.{Step}
-use Rattle.steps.specs.declared.NamedStep.TheVariants.{Found}
 use Rattle.steps.specs.Point.{point}
 use Rattle.steps.specs.Table.{entry, digit}
 use Rattle.steps.specs.Step.{max_weight, step_of, steps_of}
@@ -95,7 +94,7 @@ unfoldable pub plain_side : Line → ℕ
 plain_side l = cond (eq_z l.a (pos 1)) 0 1
 
 abbrev Copies : Line → ℕ → ℕ → Type 0
-Copies l a b = (step_of l a ≡ Found (plus (plain_step_lem l))) × (step_of l b ≡ Found (minus (plain_step_lem l)))
+Copies l a b = (step_of l a ≡ Some (plus (plain_step_lem l))) × (step_of l b ≡ Some (minus (plain_step_lem l)))
 
 once : (d : ℤ) → pos 1 *ℤ d ≡ d
 once d = simp ints (omega arith)
@@ -105,7 +104,7 @@ unfolding step_of entry digit plain_step_lem
 line_copies l (forward e f) = inl ((rw (e, f, once l.d)), (rw (e, f, once l.d)))
 line_copies l (backward e f) = inr ((rw (e, f, once l.d)), (rw (e, f, once l.d)))
 
-pub plain_side_law : (l : Line) → Difference l → (plain_side l < 2) × (step_of l (plain_side l) ≡ Found (plus (plain_step_lem l)))
+pub plain_side_law : (l : Line) → Difference l → (plain_side l < 2) × (step_of l (plain_side l) ≡ Some (plus (plain_step_lem l)))
 unfolding plain_side step_of entry digit plain_step_lem
 plain_side_law l (forward e f) = (rw e (omega arith), rw (e, f, once l.d))
 plain_side_law l (backward e f) = (rw e (omega arith), rw (e, f, once l.d))
@@ -142,7 +141,7 @@ plain_member (x ∷ ls) (suc k) l a = inr (plain_member ls k l a)
 abbrev pub Copy : Step → Step → Type 0
 Copy p t = (t ≡ plus p) ⊎ (t ≡ minus p)
 
-same : {s t : Step} → Found s ≡ Found t → s ≡ t
+same : {s t : Step} → Some s ≡ Some t → s ≡ t
 same e = cc
 
 module _ (ls : List Line) (ds : Differences ls) where
@@ -150,7 +149,7 @@ module _ (ls : List Line) (ds : Differences ls) where
   pub step_copy : (t : Step) → In t (steps_of ls) → (p : Step) × In p (plain_steps ls) × Copy p t
   step_copy t i = let s = source ls t i in (plain_step_lem s.line, plain_member ls s.number s.line s.at, copy s)
     where
-      by : (l : Line) (side : ℕ) → side < 2 → step_of l side ≡ Found t → Copies l 0 1 ⊎ Copies l 1 0 → Copy (plain_step_lem l) t
+      by : (l : Line) (side : ℕ) → side < 2 → step_of l side ≡ Some t → Copies l 0 1 ⊎ Copies l 1 0 → Copy (plain_step_lem l) t
       by l zero h e (inl c) = inl (same (sym e ∙ c.0))
       by l zero h e (inr c) = inr (same (sym e ∙ c.1))
       by l (suc zero) h e (inl c) = inr (same (sym e ∙ c.1))

@@ -1,11 +1,9 @@
 -- A line's two steps, each of which may be there or not, put into the table one after the other. Where the first closes no walk of negative sum and
 -- neither does the second, the table holds the distances of the steps with both; and else these have a closed walk of negative sum.
-use Rattle.std.specs.Prelude.{◌≡◌, refl, Bool, true, false, ◌&&◌, List, ◌++◌, ℕ, ◌<◌}
+use Rattle.std.specs.Prelude.{◌≡◌, refl, Bool, true, false, ◌&&◌, List, ◌++◌, ℕ, ◌<◌, None, Option, Some}
 use Rattle.std.proofs.Common.{ap, ap₂, ◌∙◌, inl, inr, ⊎_elim, append-nil}
 use Rattle.integers.specs.Laws.{and_true}
 use Rattle.steps.specs.declared.Step.{Step}
-use Rattle.steps.specs.declared.NamedStep.{NamedStep}
-use Rattle.steps.specs.declared.NamedStep.TheVariants.{Found, Nothing}
 use Rattle.steps.specs.Step.{named}
 use Rattle.theory_walks.specs.Distance.{Distance, min_d, ◌⊕◌, ◌⊞◌}
 use Rattle.theory_walks.specs.Row.{WithinPoints, best}
@@ -18,19 +16,19 @@ use Rattle.theory_inserting.specs.Members.{Among, in_either, walk_among}
 use Rattle.theory_inserting.specs.Insert.{inserted, closing, insert_best, insert_test}
 
 -- ---- definitions: a step that may be there
-abbrev pub insert_named : Table → NamedStep → Table
-insert_named D (Found s) = inserted D s
-insert_named D Nothing = D
+abbrev pub insert_named : Table → Option Step → Table
+insert_named D (Some s) = inserted D s
+insert_named D None = D
 
 -- whether no closed walk through the step is negative
-abbrev pub stays : Table → NamedStep → Bool
-stays D (Found s) = not_below0 (closing D s)
-stays D Nothing = true
+abbrev pub stays : Table → Option Step → Bool
+stays D (Some s) = not_below0 (closing D s)
+stays D None = true
 
 -- both ends of a step that may be there are below N
-abbrev pub EndsBelow : ℕ → NamedStep → Type 0
-EndsBelow N (Found s) = (s.from < N) × (s.to < N)
-EndsBelow N Nothing = Unit {0}
+abbrev pub EndsBelow : ℕ → Option Step → Type 0
+EndsBelow N (Some s) = (s.from < N) × (s.to < N)
+EndsBelow N None = Unit {0}
 
 -- ---- tables that agree below N
 module _ (N : ℕ) (D D' : Table) (same : Agree N D D') where
@@ -41,13 +39,13 @@ module _ (N : ℕ) (D D' : Table) (same : Agree N D D') where
   inserted_same s h k i j hi hj =
       ap₂ min_d (same i j hi hj) (ap₂ (λ (a b : Distance). a ⊕ s.weight ⊞ b) (same i s.from hi h) (same s.to j k hj))
 
-  pub stays_same : (x : NamedStep) → EndsBelow N x → stays D x ≡ stays D' x
-  stays_same (Found s) e = ap not_below0 (closing_same s e.0 e.1)
-  stays_same Nothing e = refl
+  pub stays_same : (x : Option Step) → EndsBelow N x → stays D x ≡ stays D' x
+  stays_same (Some s) e = ap not_below0 (closing_same s e.0 e.1)
+  stays_same None e = refl
 
-  pub named_same : (x : NamedStep) → EndsBelow N x → Agree N (insert_named D x) (insert_named D' x)
-  named_same (Found s) e = inserted_same s e.0 e.1
-  named_same Nothing e = same
+  pub named_same : (x : Option Step) → EndsBelow N x → Agree N (insert_named D x) (insert_named D' x)
+  named_same (Some s) e = inserted_same s e.0 e.1
+  named_same None e = same
 
 -- ---- a closed walk of negative sum stays
 pub negative_among : (E F : List Step) (N : ℕ) → WithinPoints N F → Among E F → no_negative E N ≡ false → no_negative F N ≡ false
@@ -56,34 +54,34 @@ negative_among E F N within a t =
     no_negative_found F N within w.point w.steps (walk_among a w.steps w.walk) w.negative
 
 -- ---- a step that may be there
-pub named_within : (E : List Step) (N : ℕ) → WithinPoints N E → (x : NamedStep) → EndsBelow N x → WithinPoints N (E ++ named x)
+pub named_within : (E : List Step) (N : ℕ) → WithinPoints N E → (x : Option Step) → EndsBelow N x → WithinPoints N (E ++ named x)
 named_within E N within x e t i = ⊎_elim (λ j. within t j) (λ j. own x e t j) (in_either E (named x) t i)
   where
-    own : (x : NamedStep) → EndsBelow N x → WithinPoints N (named x)
-    own (Found s) e t (inl q) = rw q e
-    own (Found s) e t (inr j) = absurd j
-    own Nothing e t j = absurd j
+    own : (x : Option Step) → EndsBelow N x → WithinPoints N (named x)
+    own (Some s) e t (inl q) = rw q e
+    own (Some s) e t (inr j) = absurd j
+    own None e t j = absurd j
 
-module _ (E : List Step) (N : ℕ) (within : WithinPoints N E) (nonneg : NoneNegative E N) (x : NamedStep) (ends : EndsBelow N x) where
+module _ (E : List Step) (N : ℕ) (within : WithinPoints N E) (nonneg : NoneNegative E N) (x : Option Step) (ends : EndsBelow N x) where
   pub named_test : no_negative (E ++ named x) N ≡ stays (best E N) x
   named_test = go x ends
     where
-      go : (x : NamedStep) → EndsBelow N x → no_negative (E ++ named x) N ≡ stays (best E N) x
-      go (Found s) e = insert_test E N within nonneg s e.0 e.1
-      go Nothing e = ap (λ (F : List Step). no_negative F N) (append-nil E) ∙ no_negative_true E N nonneg
+      go : (x : Option Step) → EndsBelow N x → no_negative (E ++ named x) N ≡ stays (best E N) x
+      go (Some s) e = insert_test E N within nonneg s e.0 e.1
+      go None e = ap (λ (F : List Step). no_negative F N) (append-nil E) ∙ no_negative_true E N nonneg
 
   pub named_best : stays (best E N) x ≡ true → (i j : ℕ) → best (E ++ named x) N i j ≡ insert_named (best E N) x i j
   named_best = go x ends
     where
-      go : (x : NamedStep) → EndsBelow N x → stays (best E N) x ≡ true → (i j : ℕ) → best (E ++ named x) N i j ≡ insert_named (best E N) x i j
-      go (Found s) e t i j = insert_best E N within nonneg s e.0 e.1 t i j
-      go Nothing e t i j = ap (λ (F : List Step). best F N i j) (append-nil E)
+      go : (x : Option Step) → EndsBelow N x → stays (best E N) x ≡ true → (i j : ℕ) → best (E ++ named x) N i j ≡ insert_named (best E N) x i j
+      go (Some s) e t i j = insert_best E N within nonneg s e.0 e.1 t i j
+      go None e t i j = ap (λ (F : List Step). best F N i j) (append-nil E)
 
   pub named_nonneg : stays (best E N) x ≡ true → NoneNegative (E ++ named x) N
   named_nonneg t = no_negative_yes (E ++ named x) N (named_test ∙ t)
 
 -- ---- two of them
-module _ (E : List Step) (N : ℕ) (within : WithinPoints N E) (nonneg : NoneNegative E N) (x y : NamedStep) (ex : EndsBelow N x) (ey : EndsBelow N y) where
+module _ (E : List Step) (N : ℕ) (within : WithinPoints N E) (nonneg : NoneNegative E N) (x y : Option Step) (ex : EndsBelow N x) (ey : EndsBelow N y) where
   -- E with the first
   abbrev F : List Step
   F = E ++ named x

@@ -1,6 +1,6 @@
 -- The table of a list with one line more: it is the list's with the line's two steps put in, where no closed walk is negative. So where both steps are wide
 -- it is the same near 0, and halves that did not contradict don't.
-use Rattle.std.specs.Prelude.{◌≡◌, refl, Bool, true, false, List, [], ◌∷◌, ◌++◌, ℕ, ◌+◌, ◌*◌, ◌/◌, ◌%◌, ◌<◌, ℤ, length}
+use Rattle.std.specs.Prelude.{◌≡◌, refl, Bool, true, false, List, [], ◌∷◌, ◌++◌, ℕ, ◌+◌, ◌*◌, ◌/◌, ◌%◌, ◌<◌, ℤ, length, None, Option, Some}
 use Rattle.std.proofs.Common.{sym, ap, ap₂, subst, ◌∙◌, inl, append_assoc, append-nil}
 use native.Mathlib.Omega.{arith}
 use borrow.Author.Tests.{lt-ltb}
@@ -12,8 +12,6 @@ use Rattle.lines.specs.Line.{line_count, lines_of, line_numbers_lem}
 use Rattle.lines.specs.LineNumbers.{length_numbers, count_append, line_last, lines_snoc}
 use Rattle.lines.specs.Valid.{LinesOk, all_ok}
 use Rattle.steps.specs.declared.Step.{Step}
-use Rattle.steps.specs.declared.NamedStep.{NamedStep}
-use Rattle.steps.specs.declared.NamedStep.TheVariants.{Found, Nothing}
 use Rattle.steps.specs.Step.{step_of, step_numbered_lem, steps_of, named}
 use Rattle.theory_walks.specs.Row.{WithinPoints, best}
 use Rattle.theory_walks.specs.Least.{NoneNegative, best_triangle}
@@ -25,16 +23,16 @@ use Rattle.theory_kept.specs.Slack.{wide_step, AtMost, Triangle, NearSame, both_
 use Rattle.theory_kept.specs.Halves.{halves_stay}
 
 -- ---- a step that may be there, behind others without a closed walk of negative sum
-module _ (N : ℕ) (E : List Step) (x : NamedStep) (within : WithinPoints N (E ++ named x)) (nonneg : NoneNegative (E ++ named x) N) where
+module _ (N : ℕ) (E : List Step) (x : Option Step) (within : WithinPoints N (E ++ named x)) (nonneg : NoneNegative (E ++ named x) N) where
   within_before : WithinPoints N E
   within_before t i = within t (in_left t E (named x) i)
 
   ends : EndsBelow N x
   ends = go x (λ t i. within t (in_right t E (named x) i))
     where
-      go : (x : NamedStep) → WithinPoints N (named x) → EndsBelow N x
-      go (Found s) w = w s (inl refl)
-      go Nothing w = tt
+      go : (x : Option Step) → WithinPoints N (named x) → EndsBelow N x
+      go (Some s) w = w s (inl refl)
+      go None w = tt
 
   -- a closed walk of negative sum would stay
   nonneg_before : NoneNegative E N
@@ -80,7 +78,7 @@ module _ (L : List ℤ) (l : Line) (whole : length L % line_size ≡ 0) where
       ap steps_of (lines_snoc L l whole)
       ∙ steps_snoc (lines_of L) l
       ∙ sym (append_assoc (steps_of (lines_of L)) (named (step_of l 0)) (named (step_of l 1)))
-      ∙ sym (ap₂ (λ (x y : NamedStep). steps_of (lines_of L) ++ named x ++ named y) first (last_step 1 (omega arith)))
+      ∙ sym (ap₂ (λ (x y : Option Step). steps_of (lines_of L) ++ named x ++ named y) first (last_step 1 (omega arith)))
 
 -- ---- the longer list, without a closed walk of negative sum
 module _ (n : ℕ) (L : List ℤ) (l : Line) (whole : length L % line_size ≡ 0) (ok : LinesOk n (L ++ line_numbers_lem l))
@@ -91,10 +89,10 @@ module _ (n : ℕ) (L : List ℤ) (l : Line) (whole : length L % line_size ≡ 0
   abbrev ls : List Line
   ls = lines_of (L ++ line_numbers_lem l)
 
-  abbrev x : NamedStep
+  abbrev x : Option Step
   x = step_numbered_lem (L ++ line_numbers_lem l) (2 * line_count L)
 
-  abbrev y : NamedStep
+  abbrev y : Option Step
   y = step_numbered_lem (L ++ line_numbers_lem l) (2 * line_count L + 1)
 
   -- the steps of the list, with the first of the line, with both

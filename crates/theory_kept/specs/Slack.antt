@@ -1,13 +1,12 @@
 -- Steps with slack: where each closed walk through the added steps has a sum above 2, the table with them and the one without have the same pairs of points
 -- with no tightened distance above 0 between them.
-use Rattle.std.specs.Prelude.{◌≡◌, refl, ◌⊎◌, Bool, true, false, ℕ, ◌*◌, ◌<◌, ℤ, pos, ◌+ℤ◌}
+use Rattle.steps.specs.declared.Step.{Step}
+use Rattle.std.specs.Prelude.{◌≡◌, refl, ◌⊎◌, Bool, true, false, ℕ, ◌*◌, ◌<◌, ℤ, pos, ◌+ℤ◌, None, Option, Some}
 use Rattle.std.proofs.Common.{sym, ap, inl, inr, ⊎_elim, arith}
 use Rattle.std.specs.Int.Signed.{le_z, lt_z}
 use Rattle.integers.specs.Integer.{◌⩽◌, ◌⋖◌}
 use Rattle.integers.proofs.Linear.{ints}
 use Rattle.integers.specs.Laws.{never, and_true, both_true}
-use Rattle.steps.specs.declared.NamedStep.{NamedStep}
-use Rattle.steps.specs.declared.NamedStep.TheVariants.{Found, Nothing}
 use Rattle.steps.specs.Point.{opposite, opposite_twice}
 use Rattle.theory_walks.specs.Distance.{Distance, none, some, ◌⊑◌, ◌⊞◌, Up, up, up_le, up_mono, up_eq, up_inv, up_of_le, up_plus, up_min_l, up_min_r, up_min_e, half_double, double_half, not_none}
 use Rattle.theory_bounds.specs.Tight.{Table, halves, tight, ByHalves, tighter, one_of}
@@ -28,9 +27,9 @@ is_wide none = true
 is_wide (some z) = lt_z equal_slack z
 
 -- whether each closed walk through the step, if it is there, has a sum above that
-abbrev pub wide_step : Table → NamedStep → Bool
-wide_step D (Found s) = is_wide (closing D s)
-wide_step D Nothing = true
+abbrev pub wide_step : Table → Option Step → Bool
+wide_step D (Some s) = is_wide (closing D s)
+wide_step D None = true
 
 -- no entry of the first table is above that of the second
 abbrev pub AtMost : Table → Table → Type 0
@@ -56,23 +55,23 @@ wide_above (some d) e z (up u) = over d z e u
 
 -- ---- a step put into a table
 -- the step is there, and the way through it is at most z
-abbrev Passes : Table → NamedStep → ℕ → ℕ → ℤ → Type 0
-Passes D (Found s) i j z = Up (through D s i j) z
-Passes D Nothing i j z = ⊥
+abbrev Passes : Table → Option Step → ℕ → ℕ → ℤ → Type 0
+Passes D (Some s) i j z = Up (through D s i j) z
+Passes D None i j z = ⊥
 
-passes_or_not : (D : Table) (x : NamedStep) (i j : ℕ) (z : ℤ) → Up (insert_named D x i j) z → Up (D i j) z ⊎ Passes D x i j z
-passes_or_not D (Found s) i j z u = up_min_e (D i j) (through D s i j) z u
-passes_or_not D Nothing i j z u = inl u
+passes_or_not : (D : Table) (x : Option Step) (i j : ℕ) (z : ℤ) → Up (insert_named D x i j) z → Up (D i j) z ⊎ Passes D x i j z
+passes_or_not D (Some s) i j z u = up_min_e (D i j) (through D s i j) z u
+passes_or_not D None i j z u = inl u
 
-named_at_most : (D : Table) (x : NamedStep) → AtMost (insert_named D x) D
-named_at_most D (Found s) i j z u = up_min_l (through D s i j) u
-named_at_most D Nothing i j z u = u
+named_at_most : (D : Table) (x : Option Step) → AtMost (insert_named D x) D
+named_at_most D (Some s) i j z u = up_min_l (through D s i j) u
+named_at_most D None i j z u = u
 
 -- the way through a wide step and a way back have a sum above 2: together they are a closed walk through the step
-wide_not_near : (D D' : Table) → AtMost D' D → Triangle D' → (x : NamedStep) → wide_step D' x ≡ true
+wide_not_near : (D D' : Table) → AtMost D' D → Triangle D' → (x : Option Step) → wide_step D' x ≡ true
     → (i j : ℕ) (a b : ℤ) → Passes D x i j a → Up (D' j i) b → a +ℤ b ⩽ equal_slack → ⊥
-wide_not_near D D' less triangle Nothing w i j a b p v h = absurd p
-wide_not_near D D' less triangle (Found s) w i j a b p v h =
+wide_not_near D D' less triangle None w i j a b p v h = absurd p
+wide_not_near D D' less triangle (Some s) w i j a b p v h =
     let e = up_through_e D s i j a p in
     let back = chain D' triangle s.to i s.from (chain D' triangle s.to j i (less s.to j e.1 e.3) v) (less i s.from e.0 e.2) in
     sum e.0 s.weight e.1 a b e.4 h (wide_above (closing D' s) w _ (up_add s.weight back))
@@ -81,7 +80,7 @@ wide_not_near D D' less triangle (Found s) w i j a b p v h =
     sum x w y a b = simp ints (omega arith)
 
 -- ---- two steps put in one after the other: D, then D₁, then D'. An entry of D' that is not D's passes a step; with a way back it is a closed walk.
-module _ (D D₁ D' : Table) (x y : NamedStep)
+module _ (D D₁ D' : Table) (x y : Option Step)
     (first : (i j : ℕ) → D₁ i j ≡ insert_named D x i j)
     (second : (i j : ℕ) → D' i j ≡ insert_named D₁ y i j) where
   second_at_most : AtMost D' D₁

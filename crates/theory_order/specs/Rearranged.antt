@@ -1,9 +1,8 @@
 -- Lines in another order: each line of the one list is one of the other, so that both have the same solutions, and are valid together.
-use Rattle.std.specs.Prelude.{◌≡◌, refl, List, ◌∷◌, ℕ, zero, suc, ◌%◌, ◌<◌, ℤ, length}
+use Rattle.std.specs.Prelude.{◌≡◌, refl, List, ◌∷◌, ℕ, zero, suc, ◌%◌, ◌<◌, ℤ, length, Ok}
 use Rattle.std.proofs.Common.{sym, ap, subst, ◌∙◌, arith}
 use Rattle.integers.specs.Sequence.{length_tabulate}
 use Rattle.lines.specs.declared.Line.{Line}
-use Rattle.lines.specs.declared.Validity.TheVariants.{Valid}
 use Rattle.lines.specs.Limits.{line_size}
 use Rattle.lines.specs.Line.{line_at, line_count, lines_of, Entails, SameSolutions}
 use Rattle.lines.specs.Refusal.{line_validity_lem, validity_of}
@@ -50,14 +49,14 @@ pub same_solutions : (ls ms : List Line) → Rearranged ls ms → SameSolutions 
 same_solutions ls ms p s = (entails ms ls (includes (turned_back p)) s, entails ls ms (includes p) s)
 
 -- ---- validity: the limits look at how many lines there are, and the rules at one line each
-pub rearranged_valid : (n : ℕ) (L M : List ℤ) → Rearranged (lines_of L) (lines_of M) → length M % line_size ≡ 0 → validity_of n L ≡ Valid → validity_of n M ≡ Valid
+pub rearranged_valid : (n : ℕ) (L M : List ℤ) → Rearranged (lines_of L) (lines_of M) → length M % line_size ≡ 0 → validity_of n L ≡ Ok tt → validity_of n M ≡ Ok tt
 rearranged_valid n L M p whole v =
     let o = valid_list n L v in
     let count : line_count M ≡ line_count L = sym (length_tabulate (line_count M) (line_at M)) ∙ sym (same_length p) ∙ length_tabulate (line_count L) (line_at L) in
     list_valid n M o.variables whole (omega (arith, count, o.count)) (lines_valid n (line_count M) (line_at M) 0 each)
   where
-    each : (k : ℕ) → k < line_count M → line_validity_lem n 0 (line_at M k) ≡ Valid
+    each : (k : ℕ) → k < line_count M → line_validity_lem n 0 (line_at M k) ≡ Ok tt
     each k h =
         let r = includes (turned_back p) k (line_at M k) (line_at_law M k h) in
         let at = at_line L r.0 (line_at M k) r.1 in
-        line_valid_more n n r.0 0 (line_at M k) (omega arith) (subst (λ (l : Line). line_validity_lem n r.0 l ≡ Valid) at.1 ((valid_list n L v).each r.0 at.0))
+        line_valid_more n n r.0 0 (line_at M k) (omega arith) (subst (λ (l : Line). line_validity_lem n r.0 l ≡ Ok tt) at.1 ((valid_list n L v).each r.0 at.0))

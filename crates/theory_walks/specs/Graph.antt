@@ -1,6 +1,6 @@
 -- The steps of a list's lines as one list: where each comes from, that it is mirrored and its ends are points, and that assignments solve the
 -- lines exactly if every step holds and no line is false.
-use Rattle.std.specs.Prelude.{◌≡◌, ◌⊎◌, Bool, List, [], ◌∷◌, ◌++◌, ℕ, zero, suc, ◌+◌, ◌*◌, ◌/◌, ◌%◌, ◌<◌, ℤ, pos, length}
+use Rattle.std.specs.Prelude.{◌≡◌, ◌⊎◌, Bool, List, [], ◌∷◌, ◌++◌, ℕ, zero, suc, ◌+◌, ◌*◌, ◌/◌, ◌%◌, ◌<◌, ℤ, pos, length, None, Option, Some}
 use Rattle.std.proofs.Math.Path.{refl}
 use Rattle.std.proofs.Common.{sym, ap, subst, ◌∙◌, inl, inr, ⊎_elim, not-suc-le-zero}
 use Rattle.std.proofs.Math.Bool.{true, false, cond}
@@ -16,8 +16,6 @@ use Rattle.lines.specs.declared.Line.{Line}
 use Rattle.lines.specs.Line.{Assignment, Meets, Solves, lines_of, line_at, line_count, is_zero, is_false_lem}
 use Rattle.lines.specs.Valid.{LineWorks, AllOk}
 use Rattle.steps.specs.declared.Step.{Step}
-use Rattle.steps.specs.declared.NamedStep.{NamedStep}
-use Rattle.steps.specs.declared.NamedStep.TheVariants.{Found, Nothing}
 use Rattle.steps.specs.Step.{max_weight, step_of, step_numbered_lem, steps_of, named, Says, Holds}
 use Rattle.steps.specs.Laws.{line_weight}
 use Rattle.steps.specs.Mirror.{LineStep}
@@ -68,7 +66,7 @@ pub record Source (ls : List Line) (t : Step) : Type 0 where
   pub at : At ls number line
   pub side : ℕ
   pub low : side < 2
-  pub found : step_of line side ≡ Found t
+  pub found : step_of line side ≡ Some t
 
 in_append : (t : Step) (xs ys : List Step) → In t (xs ++ ys) → In t xs ⊎ In t ys
 in_append t [] ys i = inr i
@@ -84,13 +82,13 @@ pub in_right : (t : Step) (xs ys : List Step) → In t ys → In t (xs ++ ys)
 in_right t [] ys i = i
 in_right t (x ∷ xs) ys i = inr (in_right t xs ys i)
 
-in_named : (s : NamedStep) (t : Step) → In t (named s) → s ≡ Found t
-in_named (Found u) t (inl e) = ap Found (sym e)
-in_named (Found u) t (inr i) = absurd i
-in_named Nothing t i = absurd i
+in_named : (s : Option Step) (t : Step) → In t (named s) → s ≡ Some t
+in_named (Some u) t (inl e) = ap Some (sym e)
+in_named (Some u) t (inr i) = absurd i
+in_named None t i = absurd i
 
-named_in : (s : NamedStep) (t : Step) → s ≡ Found t → In t (named s)
-named_in s t e = subst (λ (x : NamedStep). In t (named x)) (sym e) (inl refl)
+named_in : (s : Option Step) (t : Step) → s ≡ Some t → In t (named s)
+named_in s t e = subst (λ (x : Option Step). In t (named x)) (sym e) (inl refl)
 
 later : {ls : List Line} {t : Step} (l : Line) → Source ls t → Source (l ∷ ls) t
 later l s = record { number = suc s.number; line = s.line; at = s.at; side = s.side; low = s.low; found = s.found }
@@ -106,7 +104,7 @@ source (l ∷ ls) t i =
     (in_append t (named (step_of l 1)) (steps_of ls) j))
     (in_append t (named (step_of l 0)) (named (step_of l 1) ++ steps_of ls) i)
 
-pub member : (ls : List Line) (t : Step) (k : ℕ) (l : Line) → At ls k l → (side : ℕ) → side < 2 → step_of l side ≡ Found t → In t (steps_of ls)
+pub member : (ls : List Line) (t : Step) (k : ℕ) (l : Line) → At ls k l → (side : ℕ) → side < 2 → step_of l side ≡ Some t → In t (steps_of ls)
 unfolding steps_of
 member [] t k l a side h e = absurd a
 member (x ∷ ls) t zero l a zero h e = in_left t (named (step_of x 0)) _ (named_in (step_of x 0) t (ap (λ (y : Line). step_of y 0) a ∙ e))
@@ -156,9 +154,9 @@ module _ (n : ℕ) (ls : List Line) (all : AllOk n ls) where
   pub says_solution : (s : Assignment) → ((t : Step) → In t (steps_of ls) → Says s t) → ((k : ℕ) (l : Line) → At ls k l → is_false_lem l ≡ true → ⊥) → Solves ls s
   says_solution s says clear = lines_solve ls s met
     where
-      holds : (k : ℕ) (l : Line) → At ls k l → (side : ℕ) → side < 2 → (x : NamedStep) → step_of l side ≡ x → Holds s x
-      holds k l a side h (Found t) e = says t (member ls t k l a side h e)
-      holds k l a side h Nothing e = tt
+      holds : (k : ℕ) (l : Line) → At ls k l → (side : ℕ) → side < 2 → (x : Option Step) → step_of l side ≡ x → Holds s x
+      holds k l a side h (Some t) e = says t (member ls t k l a side h e)
+      holds k l a side h None e = tt
 
       low : (d : ℤ) → lt_z d (pos 0) ≡ false → pos 0 ⩽ d
       low d = simp ints (omega arith)
@@ -175,7 +173,7 @@ module _ (n : ℕ) (ls : List Line) (all : AllOk n ls) where
 -- ---- by step numbers
 -- the number of a step in a list
 module _ (L : List ℤ) where
-  numbered_found : (k side : ℕ) (t : Step) → k < line_count L → side < 2 → step_of (line_at L k) side ≡ Found t → step_numbered_lem L (2 * k + side) ≡ Found t
+  numbered_found : (k side : ℕ) (t : Step) → k < line_count L → side < 2 → step_of (line_at L k) side ≡ Some t → step_numbered_lem L (2 * k + side) ≡ Some t
   unfolding step_numbered_lem
   numbered_found k side t h l e =
       let a : (2 * k + side) / 2 ≡ k = omega arith in
@@ -200,11 +198,11 @@ module _ (L : List ℤ) where
         names = (numbered_found s.number s.side t k.0 s.low (ap (λ (l : Line). step_of l s.side) k.1 ∙ s.found), r.names);
       }
 
-  found_member : (k : ℕ) (t : Step) → step_numbered_lem L k ≡ Found t → In t (steps_of (lines_of L))
+  found_member : (k : ℕ) (t : Step) → step_numbered_lem L k ≡ Some t → In t (steps_of (lines_of L))
   unfolding step_numbered_lem
   found_member k t = go (ltb (k / 2) (line_count L)) refl
     where
-      go : (b : Bool) → ltb (k / 2) (line_count L) ≡ b → cond b (step_of (line_at L (k / 2)) (k % 2)) Nothing ≡ Found t → In t (steps_of (lines_of L))
+      go : (b : Bool) → ltb (k / 2) (line_count L) ≡ b → cond b (step_of (line_at L (k / 2)) (k % 2)) None ≡ Some t → In t (steps_of (lines_of L))
       go true e f = member (lines_of L) t (k / 2) (line_at L (k / 2)) (line_at_law L (k / 2) (ltb-true _ _ e)) (k % 2) (omega arith) f
       go false e f = never (cc)
 

@@ -2,11 +2,10 @@
 --
 -- Every solution of the second's list solves the first's, so that the laws of two lists (theory_answers/specs/Longer.antt) hold of them; and the number of a
 -- step means the same in both.
-use Rattle.std.specs.Prelude.{◌≡◌, refl, ◌↔◌, Bool, true, false, List, ◌++◌, ℕ, ◌%◌, ◌<◌, ℤ, length}
+use Rattle.std.specs.Prelude.{◌≡◌, refl, ◌↔◌, Bool, true, false, List, ◌++◌, ℕ, ◌%◌, ◌<◌, ℤ, length, Ok}
 use Rattle.std.proofs.Common.{sym, subst}
 use Rattle.std.proofs.Math.Decide.{dec_lt}
 use Rattle.integers.specs.Laws.{never}
-use Rattle.lines.specs.declared.Validity.TheVariants.{Valid}
 use Rattle.lines.specs.Limits.{line_size}
 use Rattle.lines.specs.Line.{line_at, line_count, lines_of, Assignment, Meets, Solves, Entails}
 use Rattle.lines.specs.LineNumbers.{line_left}
@@ -39,8 +38,8 @@ module _ (L M : List ℤ) (whole : length L % line_size ≡ 0) (t u : Row) (k j 
   choice_entails = more_entails (choice_flags L t k) (choice_flags (L ++ M) u j) L M whole flags_more
 
   -- a refutation with steps of the first's lines alone has steps of the second's alone, and stays accepted
-  pub counts_too : (n : ℕ) → validity_of n L ≡ Valid → validity_of n (L ++ M) ≡ Valid → (R : List ℕ) → (refutation_answer n L R ≡ Yes) × EachStep (StepOf L (choice_at t k)) R
-      → (refutation_answer n (L ++ M) R ≡ Yes) × EachStep (StepOf (L ++ M) (choice_at u j)) R
+  pub counts_too : (n : ℕ) → validity_of n L ≡ Ok tt → validity_of n (L ++ M) ≡ Ok tt → (R : List ℕ) → (refutation_answer n L R ≡ Ok Yes) × EachStep (StepOf L (choice_at t k)) R
+      → (refutation_answer n (L ++ M) R ≡ Ok Yes) × EachStep (StepOf (L ++ M) (choice_at u j)) R
   unfolding choice_list
   counts_too n v w R h =
       let few = (answered_yes n (choice_list L t k) R).0 ((choice_accepted L t k n v R).1 h) in

@@ -4,13 +4,13 @@ use Rattle.std.specs.Prelude.{◌≡◌, refl, List, [], ◌∷◌, ◌++◌, ma
 use Rattle.std.proofs.Common.{ap, ◌∙◌, arith, get_or-append-add}
 use Rattle.std.proofs.lemmas.List.{length-map}
 use Rattle.std.proofs.Math.ListN.{get_or-append}
-use Rattle.tree_reading.specs.Tree.{all, any}
+use Rattle.tree_reading.specs.declared.Kind.TheVariants.{AllOf, AnyOf}
 use Rattle.tree_reading.specs.Choices.{pairs, joined}
 
-pub earlier_first : (xs ys : List (List ℕ)) (i : ℕ) → i < length xs → get_or (joined any xs ys) i [] ≡ get_or xs i []
+pub earlier_first : (xs ys : List (List ℕ)) (i : ℕ) → i < length xs → get_or (joined AnyOf xs ys) i [] ≡ get_or xs i []
 earlier_first xs ys i h = get_or-append xs ys [] i h
 
-pub later_behind : (xs ys : List (List ℕ)) (j : ℕ) → get_or (joined any xs ys) (length xs + j) [] ≡ get_or ys j []
+pub later_behind : (xs ys : List (List ℕ)) (j : ℕ) → get_or (joined AnyOf xs ys) (length xs + j) [] ≡ get_or ys j []
 later_behind xs ys j = get_or-append-add xs ys j []
 
 -- number j of these, each with x in front
@@ -19,7 +19,7 @@ number_map x [] j h = absurd (omega arith)
 number_map x (y ∷ ys) zero h = refl
 number_map x (y ∷ ys) (suc j) h = number_map x ys j (omega arith)
 
-pub last_fastest : (xs ys : List (List ℕ)) (i j : ℕ) → i < length xs → j < length ys → get_or (joined all xs ys) (i * length ys + j) [] ≡ get_or xs i [] ++ get_or ys j []
+pub last_fastest : (xs ys : List (List ℕ)) (i j : ℕ) → i < length xs → j < length ys → get_or (joined AllOf xs ys) (i * length ys + j) [] ≡ get_or xs i [] ++ get_or ys j []
 last_fastest [] ys i j h k = absurd (omega arith)
 last_fastest (x ∷ xs) ys zero j h k =
     let first : List (List ℕ) = map (λ (y : List ℕ). x ++ y) ys in

@@ -1,6 +1,6 @@
 -- The lines that a choice picks, as a list of their own: each once, in list order, however often it is picked. The choice's list, in which each other line is
 -- 0 ≤ 0, has the same solutions, and its refutations are those of the whole list with steps of these lines alone.
-use Rattle.std.specs.Prelude.{◌≡◌, ◌↔◌, Bool, cond, ◌||◌, eqb, get_or, drop}
+use Rattle.std.specs.Prelude.{◌≡◌, ◌↔◌, Bool, cond, ◌||◌, eqb, get_or, drop, Ok}
 use Rattle.std.proofs.Math.Path.{refl, ap, subst}
 use Rattle.std.proofs.Common.{sym, ◌∙◌, inl, inr, ⊎_elim, length-append}
 use Rattle.std.proofs.Math.Bool.{true, false}
@@ -13,7 +13,6 @@ use Rattle.std.proofs.Math.IntN.{ℤ}
 use Rattle.std.proofs.Math.ListN.{length}
 use Rattle.integers.specs.Laws.{never}
 use Rattle.lines.specs.declared.Line.{Line}
-use Rattle.lines.specs.declared.Validity.TheVariants.{Valid}
 use Rattle.lines.specs.Limits.{line_size, max_variables, max_lines}
 use Rattle.lines.specs.Line.{numbers_of, line_at, line_count, lines_of, Assignment, Meets, Solves, Solvable, SameSolutions, is_false_lem}
 use Rattle.lines.specs.LineNumbers.{length_numbers_of, lines_of_numbers}
@@ -29,7 +28,8 @@ use Rattle.check_soundness.specs.Refutes.{Closed, Falsehood, Refutes, kind_1, ki
 use Rattle.check_soundness.specs.Carried.{Each, EachStep, refutes_each}
 use Rattle.check_soundness.specs.Answered.{accepted_when}
 use Rattle.theory_answers.specs.Decided.{Some, DueKind, due_1, due_2, due_3, LowestFalseLine}
-use Rattle.tree_reading.specs.Tree.{all, Row}
+use Rattle.tree_reading.specs.declared.Kind.TheVariants.{AllOf}
+use Rattle.tree_reading.specs.Tree.{Row}
 use Rattle.tree_reading.specs.Choices.{choices}
 use Rattle.tree_lists.specs.Masked.{is_picked_lem, masked_solved, solved_masked, same_count, line_picked}
 use Rattle.tree_lists.specs.Refuted.{PickedStep, false_masked, refutes_picked}
@@ -37,7 +37,7 @@ use Rattle.tree_lists.specs.Condition.{In, choice_flags, choice_list, picked_exa
 
 -- choice number k of a tree: the numbers of the lines that it picks
 abbrev pub choice_at : Row → ℕ → List ℕ
-choice_at t k = get_or (choices all t) k []
+choice_at t k = get_or (choices AllOf t) k []
 
 -- line i of the list is one of these
 abbrev pub Picks : List ℤ → List ℕ → ℕ → Type 0
@@ -119,12 +119,12 @@ module _ (L : List ℤ) (xs : List ℕ) where
   few_lines i zero = omega arith
   few_lines i (suc c) = omega (arith, length-append (picked_one L xs i) (picked_from L xs (i + 1) c), one_line i, few_lines (i + 1) c)
 
-  lines_valid : (n : ℕ) → ((j : ℕ) → j < line_count L → line_validity_lem n j (line_at L j) ≡ Valid) → (k i c : ℕ) → i + c ≤ line_count L → lines_validity_lem n k (picked_from L xs i c) ≡ Valid
+  lines_valid : (n : ℕ) → ((j : ℕ) → j < line_count L → line_validity_lem n j (line_at L j) ≡ Ok tt) → (k i c : ℕ) → i + c ≤ line_count L → lines_validity_lem n k (picked_from L xs i c) ≡ Ok tt
   unfolding lines_validity_lem
   lines_valid n f k i zero h = refl
   lines_valid n f k i (suc c) h = go (is_in i xs) (λ j. lines_valid n f j (i + 1) c (omega arith))
     where
-      go : (t : Bool) → ((j : ℕ) → lines_validity_lem n j (picked_from L xs (i + 1) c) ≡ Valid) → lines_validity_lem n k (cond t (line_at L i ∷ []) [] ++ picked_from L xs (i + 1) c) ≡ Valid
+      go : (t : Bool) → ((j : ℕ) → lines_validity_lem n j (picked_from L xs (i + 1) c) ≡ Ok tt) → lines_validity_lem n k (cond t (line_at L i ∷ []) [] ++ picked_from L xs (i + 1) c) ≡ Ok tt
       go true rest = rw (line_valid_more n n i k (line_at L i) (omega arith) (f i (omega arith))) (rest (k + 1))
       go false rest = rest k
 
@@ -132,7 +132,7 @@ module _ (L : List ℤ) (xs : List ℕ) where
   unfolding picked_list
   list_picked = lines_of_numbers (picked_lines L xs)
 
-  pub picked_valid : (n : ℕ) → validity_of n L ≡ Valid → validity_of n (picked_list L xs) ≡ Valid
+  pub picked_valid : (n : ℕ) → validity_of n L ≡ Ok tt → validity_of n (picked_list L xs) ≡ Ok tt
   unfolding validity_of picked_list
   picked_valid n v =
       let o = valid_list n L v in
@@ -140,7 +140,7 @@ module _ (L : List ℤ) (xs : List ℕ) where
       let size : length K ≡ line_size * length (picked_lines L xs) = length_numbers_of (picked_lines L xs) in
       let whole : length K % line_size ≡ 0 = omega arith in
       let few : line_count K ≤ max_lines = omega (arith, few_lines 0 (line_count L), o.count) in
-      let lines : lines_validity_lem n 0 (lines_of K) ≡ Valid = ap (lines_validity_lem n 0) list_picked ∙ lines_valid n o.each 0 0 (line_count L) (omega arith) in
+      let lines : lines_validity_lem n 0 (lines_of K) ≡ Ok tt = ap (lines_validity_lem n 0) list_picked ∙ lines_valid n o.each 0 0 (line_count L) (omega arith) in
       rw (le-ltb max_variables n o.variables, eq-eqb (length K % line_size) 0 whole, le-ltb max_lines (line_count K) few, lines)
 
 -- ---- a refutation with steps of these lines alone
@@ -224,8 +224,8 @@ module _ (L : List ℤ) (t : Row) (k : ℕ) where
       Flagged : ℕ → Type 0
       Flagged = PickedStep (choice_flags L t k) L
 
-  pub choice_accepted : (n : ℕ) → validity_of n L ≡ Valid → (R : List ℕ)
-      → (refutation_answer n (choice_list L t k) R ≡ Yes) ↔ ((refutation_answer n L R ≡ Yes) × EachStep (StepOf L (choice_at t k)) R)
+  pub choice_accepted : (n : ℕ) → validity_of n L ≡ Ok tt → (R : List ℕ)
+      → (refutation_answer n (choice_list L t k) R ≡ Ok Yes) ↔ ((refutation_answer n L R ≡ Ok Yes) × EachStep (StepOf L (choice_at t k)) R)
   choice_accepted n v R = (
     (λ e.
         let a = (accepted_when n (choice_list L t k) R).0 e in

@@ -1,8 +1,7 @@
 -- The model of a choice is small: each of its values lies within n times the limit on d, as of any valid list.
-use Rattle.std.specs.Prelude.{◌≡◌, true, List, ℕ, ◌*◌, ◌<◌, ℤ}
+use Rattle.std.specs.Prelude.{◌≡◌, true, List, ℕ, ◌*◌, ◌<◌, ℤ, Ok}
 use Rattle.integers.specs.Integer.{Within}
 use Rattle.integers.proofs.Halving.{abs_within}
-use Rattle.lines.specs.declared.Validity.TheVariants.{Valid}
 use Rattle.lines.specs.Limits.{max_constant}
 use Rattle.lines.specs.Line.{lines_of, assignment_of}
 use Rattle.lines.specs.Refusal.{validity_of}
@@ -15,7 +14,7 @@ use Rattle.tree_reading.specs.Tree.{Row}
 use Rattle.tree_lists.specs.Condition.{choice_list, choice_valid}
 use Rattle.tree_answers.specs.First.{choice_verdict}
 
-pub choice_model_small : (n : ℕ) (L : List ℤ) (t : Row) → validity_of n L ≡ Valid → (k : ℕ) → choice_verdict n L t k ≡ true
+pub choice_model_small : (n : ℕ) (L : List ℤ) (t : Row) → validity_of n L ≡ Ok tt → (k : ℕ) → choice_verdict n L t k ≡ true
     → (x : ℕ) → x < n → Within (n * max_constant) (assignment_of (model_of n (lines_of (choice_list L t k))) x)
 choice_model_small n L t valid k e x h =
     let K = choice_list L t k in

@@ -1,5 +1,6 @@
 -- The lines that choosing picks are those of the definition: choice number n of a tree's choices.
-use Rattle.std.specs.Prelude.{◌≡◌, Bool}
+use Rattle.tree_reading.specs.declared.TreeRefusal.{TreeRefusal}
+use Rattle.std.specs.Prelude.{◌≡◌, Bool, Err, Ok, Result}
 use Rattle.std.proofs.Math.Path.{refl, sym, ap, ap₂}
 use Rattle.std.proofs.Common.{subst, ◌∙◌, mod-eq_of_lt, mod-lt, div-lt_iff_lt-mul, zero-mul, mul-zero, get_or-append-add}
 use Rattle.std.proofs.Math.Bool.{true, false, cond}
@@ -12,12 +13,12 @@ use Rattle.std.proofs.Math.Dec.{ltb}
 use Rattle.std.proofs.Math.ListN.{length, get_or, get_or-append}
 use Rattle.std.proofs.lemmas.List.{length-map}
 use Rattle.integers.specs.Laws.{never}
-use Rattle.tree_reading.specs.Tree.{Kind, all, any, Row, none, line, node, other, code_of, line_code_lem, size, numbers, tree_numbers, max_depth, Fits, levels}
+use Rattle.tree_reading.specs.declared.Kind.{Kind}
+use Rattle.tree_reading.specs.declared.Kind.TheVariants.{AllOf, AnyOf}
+use Rattle.tree_reading.specs.Tree.{Row, none, line, node, other, code_of, line_code_lem, size, numbers, tree_numbers, max_depth, Fits, levels}
 use Rattle.tree_reading.specs.Choices.{max_choices, pairs, joined, choices, unit_of, with, count, here, overs}
 use Rattle.tree_reading.specs.declared.TreeRefusal.TheVariants.{NoSuchChoice}
 use Rattle.tree_reading.specs.declared.Node.{Node}
-use Rattle.tree_reading.specs.declared.Reading.{Reading}
-use Rattle.tree_reading.specs.declared.Reading.TheVariants.{Read, Refused}
 use Rattle.tree_reading.specs.Reading.{begun, finished, node_of, valid_tree_lem}
 use Rattle.tree_choices.specs.Choosing.{from_child, all_chosen, any_chosen, row_chosen, chosen_at, chosen, with_choice, choice_of}
 use Rattle.tree_reading.specs.Counted.{count_choices, node_choices}
@@ -80,7 +81,7 @@ nth_append xs ys n = go (ltb n (length xs)) refl
         ap (λ (i : ℕ). get_or (xs ++ ys) i []) u ∙ get_or-append-add xs ys (n - length xs) []
 
 -- ---- a child and the children after it
-module _ (f : ℕ → Reading) (g : ℕ → ℕ → ℕ → List ℕ) (xs ys : List (List ℕ)) (j at : ℕ) (b : Node) (e : f at ≡ Read b) (c : b.choices ≡ length xs)
+module _ (f : ℕ → Result Node TreeRefusal) (g : ℕ → ℕ → ℕ → List ℕ) (xs ys : List (List ℕ)) (j at : ℕ) (b : Node) (e : f at ≡ Ok b) (c : b.choices ≡ length xs)
     (first : (i : ℕ) → i < length xs → g at (length xs) i ≡ get_or xs i []) where
   all_chosen_law : (n : ℕ) → n < length xs * length ys → ((i : ℕ) → i < length ys → all_chosen f g j b.end (length ys) i ≡ get_or ys i [])
       → all_chosen f g (suc j) at (length xs * length ys) n ≡ get_or (pairs xs ys) n []
@@ -112,8 +113,8 @@ module _ (f : ℕ → Reading) (g : ℕ → ℕ → ℕ → List ℕ) (xs ys : L
 
   row_chosen_law : (k : Kind) (n : ℕ) → n < with k (length xs) (length ys) → ((i : ℕ) → i < length ys → row_chosen f g k j b.end (length ys) i ≡ get_or ys i [])
       → row_chosen f g k (suc j) at (with k (length xs) (length ys)) n ≡ get_or (joined k xs ys) n []
-  row_chosen_law all n h rest = all_chosen_law n h rest
-  row_chosen_law any n h rest = any_chosen_law n h rest
+  row_chosen_law AllOf n h rest = all_chosen_law n h rest
+  row_chosen_law AnyOf n h rest = any_chosen_law n h rest
 
 -- ---- a tree's children
 module _ (s : List ℕ) (m : ℕ) where
@@ -123,7 +124,7 @@ module _ (s : List ℕ) (m : ℕ) where
 
   -- the first child of these, of which the rest is known
   child_then : (d : ℕ) (k : Kind) (xs : List (List ℕ)) (r : Row) (p n : ℕ) (b : Node)
-      → node_of s m d (other k) p ≡ Read b → b.choices ≡ length xs
+      → node_of s m d (other k) p ≡ Ok b → b.choices ≡ length xs
       → ((i : ℕ) → i < length xs → chosen s m d (other k) p (length xs) i ≡ get_or xs i [])
       → n < with k (length xs) (count k r) → ((i : ℕ) → i < count k r → Picks d k r b.end i)
       → row_chosen (node_of s m d (other k)) (chosen s m d (other k)) k (suc (size r)) p (with k (length xs) (count k r)) n ≡ get_or (joined k xs (choices k r)) n []
@@ -159,9 +160,9 @@ module _ (s : List ℕ) (m : ℕ) where
 
   picks : (d : ℕ) (k : Kind) (t : Row) (p n : ℕ) → Fits m k d t → Has s p (numbers t) → overs p t ≡ [] → n < count k t → Picks d k t p n
   unfolding all_chosen any_chosen
-  picks d all none p zero f h o l = refl
-  picks d all none p (suc n) f h o l = absurd (omega arith)
-  picks d any none p n f h o l = absurd (omega arith)
+  picks d AllOf none p zero f h o l = refl
+  picks d AllOf none p (suc n) f h o l = absurd (omega arith)
+  picks d AnyOf none p n f h o l = absurd (omega arith)
   picks zero k (line i r) p n f h o l = absurd f
   picks zero k (node q c r) p n f h o l = absurd f
   picks (suc d) k (line i r) p n f h o l =
@@ -186,7 +187,7 @@ module _ (s : List ℕ) (m : ℕ) where
       let y : length (choices q c) ≡ count q c = count_choices q c in
       let ch : x.choices ≡ length (choices q c) = node_choices s q p c ∙ omega arith ∙ sym y in
       let kind : q ≡ other k = f.0 in
-      let rd : node_of s m (suc d) (other k) p ≡ Read (finished p x) = ap (λ (a : Kind). node_of s m (suc d) a p) (sym kind) ∙ node_read s m d q c p f.1 w hc in
+      let rd : node_of s m (suc d) (other k) p ≡ Ok (finished p x) = ap (λ (a : Kind). node_of s m (suc d) a p) (sym kind) ∙ node_read s m d q c p f.1 w hc in
       let inner : (j : ℕ) → j < length (choices q c) → chosen s m (suc d) (other k) p (length (choices q c)) j ≡ get_or (choices q c) j []
       = λ j b. ap (λ (a : Kind). chosen s m (suc d) a p (length (choices q c)) j) (sym kind) ∙ node_chosen d q p c w (length (choices q c)) j
       ∙ ap (λ (a : ℕ). row_chosen (node_of s m d (other q)) (chosen s m d (other q)) q (size c) (p + 2) a j) y ∙ picks d q c (p + 2) j f.1 hc v.1 (omega arith) in
@@ -197,26 +198,26 @@ module _ (s : List ℕ) (m : ℕ) where
 
 -- ---- the whole tree
 -- choosing number n picks the n-th choice of the tree that was read
-module _ (s : List ℕ) (m : ℕ) (b : Node) (e : valid_tree_lem s m ≡ Read b) where
-  pub picked : (n : ℕ) → n < b.choices → chosen s m max_depth all 0 b.choices n ≡ get_or (choices all (tree_in s m)) n []
+module _ (s : List ℕ) (m : ℕ) (b : Node) (e : valid_tree_lem s m ≡ Ok b) where
+  pub picked : (n : ℕ) → n < b.choices → chosen s m max_depth AllOf 0 b.choices n ≡ get_or (choices AllOf (tree_in s m)) n []
   picked n l =
       let t : Row = tree_in s m in
       let v = taken s m b e in
       let h : Has s 0 (tree_numbers t) = subst (Has s 0) v.numbers.numbered (has_self s) in
-      let o : overs 2 t ≡ [] = (none_left s m (here (count all t) 0) (overs 2 t) v.few).1 in
-      node_chosen s m levels all 0 t (h.0, h.1, (h.2.0, h.2.1, tt)) b.choices n
-      ∙ ap (λ (c : ℕ). row_chosen (node_of s m levels any) (chosen s m levels any) all (size t) 2 c n) v.counted
-      ∙ picks s m levels all t 2 n v.numbers.fits h.2.2 o (omega (arith, v.counted))
+      let o : overs 2 t ≡ [] = (none_left s m (here (count AllOf t) 0) (overs 2 t) v.few).1 in
+      node_chosen s m levels AllOf 0 t (h.0, h.1, (h.2.0, h.2.1, tt)) b.choices n
+      ∙ ap (λ (c : ℕ). row_chosen (node_of s m levels AnyOf) (chosen s m levels AnyOf) AllOf (size t) 2 c n) v.counted
+      ∙ picks s m levels AllOf t 2 n v.numbers.fits h.2.2 o (omega (arith, v.counted))
 
 -- where a choice is there, the tree is read and has it
-pub choice_read : (s : List ℕ) (m n : ℕ) (b : Node) → choice_of s m n ≡ Read b → (valid_tree_lem s m ≡ Read b) × (n < b.choices)
+pub choice_read : (s : List ℕ) (m n : ℕ) (b : Node) → choice_of s m n ≡ Ok b → (valid_tree_lem s m ≡ Ok b) × (n < b.choices)
 unfolding choice_of
 choice_read s m n b = go (valid_tree_lem s m) refl
   where
-    last : (x : Node) → valid_tree_lem s m ≡ Read x → (t : Bool) → ltb n x.choices ≡ t → cond t (Read x) (Refused NoSuchChoice) ≡ Read b → (valid_tree_lem s m ≡ Read b) × (n < b.choices)
-    last x p true q e = let j : x ≡ b = cc in (p ∙ ap Read j, subst (λ (y : Node). n < y.choices) j (ltb-true _ _ q))
+    last : (x : Node) → valid_tree_lem s m ≡ Ok x → (t : Bool) → ltb n x.choices ≡ t → cond t (Ok x) (Err NoSuchChoice) ≡ Ok b → (valid_tree_lem s m ≡ Ok b) × (n < b.choices)
+    last x p true q e = let j : x ≡ b = cc in (p ∙ ap Ok j, subst (λ (y : Node). n < y.choices) j (ltb-true _ _ q))
     last x p false q e = never (cc)
 
-    go : (r : Reading) → valid_tree_lem s m ≡ r → with_choice n r ≡ Read b → (valid_tree_lem s m ≡ Read b) × (n < b.choices)
-    go (Read x) p e = last x p (ltb n x.choices) refl e
-    go (Refused r) p e = never (cc)
+    go : (r : Result Node TreeRefusal) → valid_tree_lem s m ≡ r → with_choice n r ≡ Ok b → (valid_tree_lem s m ≡ Ok b) × (n < b.choices)
+    go (Ok x) p e = last x p (ltb n x.choices) refl e
+    go (Err r) p e = never (cc)

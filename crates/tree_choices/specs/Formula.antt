@@ -1,7 +1,9 @@
 -- A tree read as a formula holds exactly if all lines of one of its choices do.
 use Rattle.std.specs.Prelude.{◌⊎◌, List, [], ◌∷◌, ◌++◌, map, ℕ, zero, suc, ◌<◌, length, get_or}
 use Rattle.std.proofs.Common.{inl, inr, ⊎_elim, arith}
-use Rattle.tree_reading.specs.Tree.{Kind, all, any, Row, none, line, node}
+use Rattle.tree_reading.specs.declared.Kind.{Kind}
+use Rattle.tree_reading.specs.declared.Kind.TheVariants.{AllOf, AnyOf}
+use Rattle.tree_reading.specs.Tree.{Row, none, line, node}
 use Rattle.tree_reading.specs.Choices.{pairs, joined, choices}
 
 -- what holds of all of a list, and of some of a list of lists
@@ -15,12 +17,12 @@ Some Q (x ∷ xs) = Q x ⊎ Some Q xs
 
 -- nothing to ask for, and a child with the children after it
 abbrev pub Empty : Kind → Type 0
-Empty all = Unit {0}
-Empty any = ⊥
+Empty AllOf = Unit {0}
+Empty AnyOf = ⊥
 
 abbrev pub Both : Kind → Type 0 → Type 0 → Type 0
-Both all A B = A × B
-Both any A B = A ⊎ B
+Both AllOf A B = A × B
+Both AnyOf A B = A ⊎ B
 
 -- a node of kind k with these children, where P says which lines hold
 abbrev pub Holds : (ℕ → Type 0) → Kind → Row → Type 0
@@ -67,26 +69,26 @@ module _ (P : ℕ → Type 0) where
       ⊎_elim (λ a. let r = some_map x ys a in (inl r.0, r.1)) (λ b. let r = some_pairs xs ys b in (inr r.0, r.1)) (some_append (map (λ (y : List ℕ). x ++ y) ys) (pairs xs ys) h)
 
   joined_some : (k : Kind) (xs ys : List (List ℕ)) → Both k (Some (All P) xs) (Some (All P) ys) → Some (All P) (joined k xs ys)
-  joined_some all xs ys h = pairs_some xs ys h.0 h.1
-  joined_some any xs ys h = ⊎_elim (some_left xs ys) (some_right xs ys) h
+  joined_some AllOf xs ys h = pairs_some xs ys h.0 h.1
+  joined_some AnyOf xs ys h = ⊎_elim (some_left xs ys) (some_right xs ys) h
 
   some_joined : (k : Kind) (xs ys : List (List ℕ)) → Some (All P) (joined k xs ys) → Both k (Some (All P) xs) (Some (All P) ys)
-  some_joined all xs ys h = some_pairs xs ys h
-  some_joined any xs ys h = some_append xs ys h
+  some_joined AllOf xs ys h = some_pairs xs ys h
+  some_joined AnyOf xs ys h = some_append xs ys h
 
   both : (k : Kind) {A B C D : Type 0} → (A → C) → (B → D) → Both k A B → Both k C D
-  both all f g h = (f h.0, g h.1)
-  both any f g h = ⊎_elim (λ a. inl (f a)) (λ b. inr (g b)) h
+  both AllOf f g h = (f h.0, g h.1)
+  both AnyOf f g h = ⊎_elim (λ a. inl (f a)) (λ b. inr (g b)) h
 
   pub holds_some : (k : Kind) (t : Row) → Holds P k t → Some (All P) (choices k t)
-  holds_some all none h = inl tt
-  holds_some any none h = absurd h
+  holds_some AllOf none h = inl tt
+  holds_some AnyOf none h = absurd h
   holds_some k (line i r) h = joined_some k ((i ∷ []) ∷ []) (choices k r) (both k (λ a. inl (a, tt)) (holds_some k r) h)
   holds_some k (node l c r) h = joined_some k (choices l c) (choices k r) (both k (holds_some l c) (holds_some k r) h)
 
   pub some_holds : (k : Kind) (t : Row) → Some (All P) (choices k t) → Holds P k t
-  some_holds all none h = tt
-  some_holds any none h = h
+  some_holds AllOf none h = tt
+  some_holds AnyOf none h = h
   some_holds k (line i r) h = both k (λ a. ⊎_elim (λ b. b.0) (λ b. absurd b) a) (some_holds k r) (some_joined k ((i ∷ []) ∷ []) (choices k r) h)
   some_holds k (node l c r) h = both k (some_holds l c) (some_holds k r) (some_joined k (choices l c) (choices k r) h)
 

@@ -1,5 +1,5 @@
 -- Marking the lines of a choice one child after the other: what the loops of both choosers keep.
-use Rattle.std.specs.Prelude.{◌≡◌, ltb, length, set}
+use Rattle.std.specs.Prelude.{◌≡◌, ltb, length, set, Err, Ok, Result}
 use Rattle.std.proofs.Math.Path.{refl, ap}
 use Rattle.std.proofs.Common.{sym, ◌∙◌, lt-ltb, le-ltb, length-set}
 use Rattle.std.proofs.Math.Bool.{cond}
@@ -7,13 +7,13 @@ use mathlib.Core.List.{List, [], ◌∷◌, ◌++◌}
 use Prim.Native.Nat.{ℕ, zero, suc, ◌+◌, ◌-◌, ◌/◌, ◌%◌, ◌<◌, ◌≤◌}
 use native.Mathlib.Omega.{arith}
 use Rattle.std.proofs.Math.ListN.{get_or}
-use Rattle.tree_reading.specs.Tree.{Kind, all, any, other, code_of}
+use Rattle.tree_reading.specs.declared.Kind.{Kind}
+use Rattle.tree_reading.specs.declared.Kind.TheVariants.{AllOf, AnyOf}
+use Rattle.tree_reading.specs.Tree.{other, code_of}
 use Rattle.tree_reading.specs.declared.TreeRefusal.{TreeRefusal}
 use Rattle.tree_reading.specs.declared.TreeRefusal.TheVariants.{TooDeep, NoSuchChoice}
-use Rattle.tree_reading.specs.declared.Head.TheVariants.{Line, Children, Wrong}
+use Rattle.tree_reading.specs.declared.Head.TheVariants.{Line, Children}
 use Rattle.tree_reading.specs.declared.Node.{Node}
-use Rattle.tree_reading.specs.declared.Reading.{Reading}
-use Rattle.tree_reading.specs.declared.Reading.TheVariants.{Read, Refused}
 use Rattle.tree_reading.specs.Reading.{head_of, node_of, valid_tree_lem}
 use Rattle.tree_reading.specs.Running.{node_at}
 use Rattle.tree_choices.specs.Choosing.{marked, from_child, all_chosen, any_chosen, row_chosen, chosen_at, chosen, with_choice, choice_of}
@@ -37,52 +37,45 @@ length_marked p [] = refl
 length_marked p (i ∷ is) = length_marked (set p i 1) is ∙ length-set p i 1
 
 -- ---- one child
-module _ (f : ℕ → Reading) (g : ℕ → ℕ → ℕ → List ℕ) where
-  all_more : (j at total n : ℕ) (b : Node) → 0 < j → f at ≡ Read b
-      → all_chosen f g j at total n ≡ g at b.choices (n / (total / b.choices)) ++ all_chosen f g (j - 1) b.end (total / b.choices) (n % (total / b.choices))
+module _ (f : ℕ → Result Node TreeRefusal) (g : ℕ → ℕ → ℕ → List ℕ) where
+  all_more : (j at total n : ℕ) (b : Node) → f at ≡ Ok b
+      → all_chosen f g (suc j) at total n ≡ g at b.choices (n / (total / b.choices)) ++ all_chosen f g j b.end (total / b.choices) (n % (total / b.choices))
   unfolding all_chosen
-  all_more zero at total n b h e = absurd (omega arith)
-  all_more (suc j) at total n b h e =
-      let q : j ≡ suc j - 1 = omega arith in
+  all_more j at total n b e =
       ap (from_child (λ (x : Node). g at x.choices (n / (total / x.choices)) ++ all_chosen f g j x.end (total / x.choices) (n % (total / x.choices)))) e
-      ∙ ap (λ (i : ℕ). g at b.choices (n / (total / b.choices)) ++ all_chosen f g i b.end (total / b.choices) (n % (total / b.choices))) q
 
-  any_more : (j at n : ℕ) (b : Node) → 0 < j → f at ≡ Read b → any_chosen f g j at n ≡ cond (ltb n b.choices) (g at b.choices n) (any_chosen f g (j - 1) b.end (n - b.choices))
+  any_more : (j at n : ℕ) (b : Node) → f at ≡ Ok b → any_chosen f g (suc j) at n ≡ cond (ltb n b.choices) (g at b.choices n) (any_chosen f g j b.end (n - b.choices))
   unfolding any_chosen
-  any_more zero at n b h e = absurd (omega arith)
-  any_more (suc j) at n b h e =
-      let q : j ≡ suc j - 1 = omega arith in
-      ap (from_child (λ (x : Node). cond (ltb n x.choices) (g at x.choices n) (any_chosen f g j x.end (n - x.choices)))) e
-      ∙ ap (λ (i : ℕ). cond (ltb n b.choices) (g at b.choices n) (any_chosen f g i b.end (n - b.choices))) q
+  any_more j at n b e = ap (from_child (λ (x : Node). cond (ltb n x.choices) (g at x.choices n) (any_chosen f g j x.end (n - x.choices)))) e
 
-  row_stop : (k : Kind) (j at total n : ℕ) (r : TreeRefusal) → 0 < j → f at ≡ Refused r → row_chosen f g k j at total n ≡ []
+  row_stop : (k : Kind) (j at total n : ℕ) (r : TreeRefusal) → 0 < j → f at ≡ Err r → row_chosen f g k j at total n ≡ []
   unfolding all_chosen any_chosen
   row_stop k zero at total n r h e = absurd (omega arith)
-  row_stop all (suc j) at total n r h e = ap (from_child _) e
-  row_stop any (suc j) at total n r h e = ap (from_child _) e
+  row_stop AllOf (suc j) at total n r h e = ap (from_child _) e
+  row_stop AnyOf (suc j) at total n r h e = ap (from_child _) e
 
   row_none : (k : Kind) (j at total n : ℕ) → j ≡ 0 → row_chosen f g k j at total n ≡ []
   unfolding all_chosen any_chosen
-  row_none all zero at total n e = refl
-  row_none any zero at total n e = refl
+  row_none AllOf zero at total n e = refl
+  row_none AnyOf zero at total n e = refl
   row_none k (suc j) at total n e = absurd (omega arith)
 
 -- ---- the loops
 module _ (s : List ℕ) (m d : ℕ) (k : Kind) (at total n : ℕ) (flags : List ℕ) where
-  pub chosen_line : head_of s m d (code_of k) at ≡ Line → marked flags (chosen s m d k at total n) ≡ set flags (get_or s (at + 1) 0) 1
+  pub chosen_line : head_of s m d (code_of k) at ≡ Ok Line → marked flags (chosen s m d k at total n) ≡ set flags (get_or s (at + 1) 0) 1
   unfolding chosen
   chosen_line e = ap (marked flags) (go d e) ∙ marked_one flags (get_or s (at + 1) 0)
     where
-      go : (d : ℕ) → head_of s m d (code_of k) at ≡ Line → chosen s m d k at total n ≡ get_or s (at + 1) 0 ∷ []
-      go zero e = ap (chosen_at (λ p. Refused (TooDeep p)) (λ p c i. []) s k at total n) e
+      go : (d : ℕ) → head_of s m d (code_of k) at ≡ Ok Line → chosen s m d k at total n ≡ get_or s (at + 1) 0 ∷ []
+      go zero e = ap (chosen_at (λ p. Err (TooDeep p)) (λ p c i. []) s k at total n) e
       go (suc d) e = ap (chosen_at (node_of s m d (other k)) (chosen s m d (other k)) s k at total n) e
 
-  pub chosen_wrong : (r : TreeRefusal) → head_of s m d (code_of k) at ≡ Wrong r → marked flags (chosen s m d k at total n) ≡ flags
+  pub chosen_wrong : (r : TreeRefusal) → head_of s m d (code_of k) at ≡ Err r → marked flags (chosen s m d k at total n) ≡ flags
   unfolding chosen
   chosen_wrong r e = ap (marked flags) (go d e) ∙ marked_none flags
     where
-      go : (d : ℕ) → head_of s m d (code_of k) at ≡ Wrong r → chosen s m d k at total n ≡ []
-      go zero e = ap (chosen_at (λ p. Refused (TooDeep p)) (λ p c i. []) s k at total n) e
+      go : (d : ℕ) → head_of s m d (code_of k) at ≡ Err r → chosen s m d k at total n ≡ []
+      go zero e = ap (chosen_at (λ p. Err (TooDeep p)) (λ p c i. []) s k at total n) e
       go (suc d) e = ap (chosen_at (node_of s m d (other k)) (chosen s m d (other k)) s k at total n) e
 
   -- so many children are left, from here on, with so many choices, and these flags are set
@@ -91,11 +84,11 @@ module _ (s : List ℕ) (m d : ℕ) (k : Kind) (at total n : ℕ) (flags : List 
     pub sized : length now ≡ length flags
     pub same : marked flags (chosen s m d k at total n) ≡ marked now (row_chosen (node_of s m (d - 1) (other k)) (chosen s m (d - 1) (other k)) k left p rest number)
 
-  pub begins : (j : ℕ) → head_of s m d (code_of k) at ≡ Children j → Marking j (at + 2) total n flags
+  pub begins : (j : ℕ) → head_of s m d (code_of k) at ≡ Ok (Children j) → Marking j (at + 2) total n flags
   unfolding chosen
   begins j e = record { levels = (node_at s m d k at j e).levels; sized = refl; same = ap (marked flags) (go d e (node_at s m d k at j e).levels) }
     where
-      go : (d : ℕ) → head_of s m d (code_of k) at ≡ Children j → 0 < d
+      go : (d : ℕ) → head_of s m d (code_of k) at ≡ Ok (Children j) → 0 < d
           → chosen s m d k at total n ≡ row_chosen (node_of s m (d - 1) (other k)) (chosen s m (d - 1) (other k)) k j (at + 2) total n
       go zero e h = absurd (omega arith)
       go (suc d) e h =
@@ -107,49 +100,51 @@ module _ (s : List ℕ) (m d : ℕ) (k : Kind) (at total n : ℕ) (flags : List 
     pub ends : left ≡ 0 → now ≡ marked flags (chosen s m d k at total n)
     ends e = sym (h.same ∙ ap (marked now) (row_none _ _ k left p rest number e) ∙ marked_none now)
 
-    pub stops : (r : TreeRefusal) → 0 < left → node_of s m (d - 1) (other k) p ≡ Refused r → now ≡ marked flags (chosen s m d k at total n)
+    pub stops : (r : TreeRefusal) → 0 < left → node_of s m (d - 1) (other k) p ≡ Err r → now ≡ marked flags (chosen s m d k at total n)
     stops r l e = sym (h.same ∙ ap (marked now) (row_stop _ _ k left p rest number r l e) ∙ marked_none now)
 
-module _ (s : List ℕ) (m d at total n : ℕ) (flags : List ℕ) (left p rest number : ℕ) (now after : List ℕ) (b : Node) (l : 0 < left) where
+module _ (s : List ℕ) (m d at total n : ℕ) (flags : List ℕ) (left p rest number : ℕ) (now after : List ℕ) (b : Node) where
   -- a factor
-  pub next_factor : Marking s m d all at total n flags left p rest number now → node_of s m (d - 1) any p ≡ Read b
-      → after ≡ marked now (chosen s m (d - 1) any p b.choices (number / (rest / b.choices)))
-      → Marking s m d all at total n flags (left - 1) b.end (rest / b.choices) (number % (rest / b.choices)) after
-  next_factor h e q =
+  pub next_factor : (next : ℕ) → left ≡ suc next → Marking s m d AllOf at total n flags left p rest number now → node_of s m (d - 1) AnyOf p ≡ Ok b
+      → after ≡ marked now (chosen s m (d - 1) AnyOf p b.choices (number / (rest / b.choices)))
+      → Marking s m d AllOf at total n flags next b.end (rest / b.choices) (number % (rest / b.choices)) after
+  next_factor next l h e q =
       record {
         levels = h.levels;
         sized = ap length q ∙ length_marked now _ ∙ h.sized;
         same = h.same
-            ∙ ap (marked now) (all_more _ _ left p rest number b l e)
+            ∙ ap (λ (j : ℕ). marked now (all_chosen (node_of s m (d - 1) AnyOf) (chosen s m (d - 1) AnyOf) j p rest number)) l
+            ∙ ap (marked now) (all_more _ _ next p rest number b e)
             ∙ marked_append now _ _
-            ∙ ap (λ (x : List ℕ). marked x (all_chosen (node_of s m (d - 1) any) (chosen s m (d - 1) any) (left - 1) b.end (rest / b.choices) (number % (rest / b.choices)))) (sym q);
+            ∙ ap (λ (x : List ℕ). marked x (all_chosen (node_of s m (d - 1) AnyOf) (chosen s m (d - 1) AnyOf) next b.end (rest / b.choices) (number % (rest / b.choices)))) (sym q);
       }
 
   -- a branch that is passed, and the one that is taken
-  pub next_branch : Marking s m d any at total n flags left p rest number now → node_of s m (d - 1) all p ≡ Read b → b.choices ≤ number
-      → Marking s m d any at total n flags (left - 1) b.end rest (number - b.choices) now
-  next_branch h e q =
-      let t : any_chosen (node_of s m (d - 1) all) (chosen s m (d - 1) all) left p number ≡ any_chosen (node_of s m (d - 1) all) (chosen s m (d - 1) all) (left - 1) b.end (number - b.choices)
-      = any_more _ _ left p number b l e ∙ rw (le-ltb _ _ q) in
+  pub next_branch : (next : ℕ) → left ≡ suc next → Marking s m d AnyOf at total n flags left p rest number now → node_of s m (d - 1) AllOf p ≡ Ok b → b.choices ≤ number
+      → Marking s m d AnyOf at total n flags next b.end rest (number - b.choices) now
+  next_branch next l h e q =
+      let t : any_chosen (node_of s m (d - 1) AllOf) (chosen s m (d - 1) AllOf) left p number ≡ any_chosen (node_of s m (d - 1) AllOf) (chosen s m (d - 1) AllOf) next b.end (number - b.choices)
+      = ap (λ (j : ℕ). any_chosen (node_of s m (d - 1) AllOf) (chosen s m (d - 1) AllOf) j p number) l ∙ any_more _ _ next p number b e ∙ rw (le-ltb _ _ q) in
       record { levels = h.levels; sized = h.sized; same = h.same ∙ ap (marked now) t }
 
-  pub branch_taken : Marking s m d any at total n flags left p rest number now → node_of s m (d - 1) all p ≡ Read b → number < b.choices
-      → after ≡ marked now (chosen s m (d - 1) all p b.choices number) → after ≡ marked flags (chosen s m d any at total n)
-  branch_taken h e q u =
-      let t : any_chosen (node_of s m (d - 1) all) (chosen s m (d - 1) all) left p number ≡ chosen s m (d - 1) all p b.choices number
-      = any_more _ _ left p number b l e ∙ rw (lt-ltb _ _ q) in
+  pub branch_taken : 0 < left → Marking s m d AnyOf at total n flags left p rest number now → node_of s m (d - 1) AllOf p ≡ Ok b → number < b.choices
+      → after ≡ marked now (chosen s m (d - 1) AllOf p b.choices number) → after ≡ marked flags (chosen s m d AnyOf at total n)
+  branch_taken l h e q u =
+      let next : left ≡ suc (left - 1) = omega arith in
+      let t : any_chosen (node_of s m (d - 1) AllOf) (chosen s m (d - 1) AllOf) left p number ≡ chosen s m (d - 1) AllOf p b.choices number
+      = ap (λ (j : ℕ). any_chosen (node_of s m (d - 1) AllOf) (chosen s m (d - 1) AllOf) j p number) next ∙ any_more _ _ (left - 1) p number b e ∙ rw (lt-ltb _ _ q) in
       u ∙ sym (h.same ∙ ap (marked now) t)
 
 -- ---- a choice of the whole tree
 module _ (s : List ℕ) (m n : ℕ) where
-  pub choice_refused : (r : TreeRefusal) → valid_tree_lem s m ≡ Refused r → choice_of s m n ≡ Refused r
+  pub choice_refused : (r : TreeRefusal) → valid_tree_lem s m ≡ Err r → choice_of s m n ≡ Err r
   unfolding choice_of
   choice_refused r e = ap (with_choice n) e
 
-  pub choice_missing : (b : Node) → valid_tree_lem s m ≡ Read b → b.choices ≤ n → choice_of s m n ≡ Refused NoSuchChoice
+  pub choice_missing : (b : Node) → valid_tree_lem s m ≡ Ok b → b.choices ≤ n → choice_of s m n ≡ Err NoSuchChoice
   unfolding choice_of
   choice_missing b e h = ap (with_choice n) e ∙ rw (le-ltb _ _ h)
 
-  pub choice_there : (b : Node) → valid_tree_lem s m ≡ Read b → n < b.choices → choice_of s m n ≡ Read b
+  pub choice_there : (b : Node) → valid_tree_lem s m ≡ Ok b → n < b.choices → choice_of s m n ≡ Ok b
   unfolding choice_of
   choice_there b e h = ap (with_choice n) e ∙ rw (lt-ltb _ _ h)

@@ -1,11 +1,10 @@
 -- The identifiers of a choice's refutation are those of the whole list's lines: each of its steps is of a line that the choice picks.
-use Rattle.std.specs.Prelude.{◌≡◌, true, List, [], ◌∷◌, ℕ, zero, suc, ◌/◌, ◌<◌, ℤ, nat_abs, length, get_or, drop}
+use Rattle.std.specs.Prelude.{◌≡◌, true, List, [], ◌∷◌, ℕ, zero, suc, ◌/◌, ◌<◌, ℤ, nat_abs, length, get_or, drop, Some}
 use Rattle.std.proofs.Common.{ap, subst, append-nil, arith, length-drop, get_or-drop}
 use Rattle.integers.specs.Sequence.{tabulate_cong}
 use Rattle.lines.specs.declared.Line.{Line}
 use Rattle.lines.specs.Line.{line_count}
 use Rattle.steps.specs.declared.Step.{Step}
-use Rattle.steps.specs.declared.NamedStep.TheVariants.{Found}
 use Rattle.steps.specs.Step.{step_numbered_lem}
 use Rattle.steps.specs.Laws.{from_line}
 use Rattle.check_refutation.specs.Progress.{head_size}
@@ -26,7 +25,7 @@ module _ (flags : List ℕ) (L : List ℤ) where
   abbrev Listed : ℕ → Type 0
   Listed k = (k / 2 < line_count L) × (is_picked_lem flags (k / 2) ≡ true)
 
-  listed_step : (k : ℕ) (t : Step) → step_numbered_lem (masked flags L) k ≡ Found t → Listed k
+  listed_step : (k : ℕ) (t : Step) → step_numbered_lem (masked flags L) k ≡ Some t → Listed k
   listed_step k t e = let f = found_masked flags L k t e in ((from_line L k t f.1).0, f.0)
 
   listed_false : (k : ℕ) → FalseStep (masked flags L) k → Listed k

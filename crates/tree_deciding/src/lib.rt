@@ -6,16 +6,17 @@
 ghost use Rattle.std.specs.Prelude.{◌≡◌};
 ghost use Rattle.lines.specs.Valid.{ListOk};
 ghost use Rattle.tree_lists.specs.Numbered.{numbered_list};
+ghost use Rattle.tree_deciding.specs.declared.ConditionRefusal.TheVariants.{Deciding, Tree};
 ghost use Rattle.tree_deciding.specs.Refusal.{condition_number, condition_place};
 ghost use Rattle.tree_deciding.specs.Answer.{DecidesChoice};
-ghost use Rattle.tree_deciding.specs.Choice.{as_tree_answer_lem, DecidesListed};
+ghost use Rattle.tree_deciding.specs.Choice.{DecidesListed};
 
 use decide::{Answer, decide};
 use lines::limits::LINE_SIZE;
-use lines::{Numbered, Refusal, Validity, list_validity, number_and_place};
+use lines::{Numbered, Refusal, list_validity, number_and_place};
 use tree_choices::choice_in_tree;
 use tree_lists::{MOST_NUMBERS, write_choice};
-use tree_reading::{Reading, TreeRefusal, tree_number_and_place};
+use tree_reading::{TreeRefusal, tree_number_and_place};
 
 // A refusal that deciding has too, of the list or of what is lent; or one of the tree.
 #[derive(Clone, Copy)]
@@ -24,12 +25,20 @@ pub enum ConditionRefusal {
     Tree(TreeRefusal),
 }
 
-// Yes, with the number of the choice; no; or a refusal.
-#[derive(Clone, Copy)]
-pub enum TreeAnswer {
-    Yes(usize),
-    No,
-    Refused(ConditionRefusal),
+impl From<Refusal> for ConditionRefusal {
+    ghost from_gives = { λ r e. e ≡ Deciding r };
+
+    fn from(r: Refusal) -> ConditionRefusal {
+        ConditionRefusal::Deciding(r)
+    }
+}
+
+impl From<TreeRefusal> for ConditionRefusal {
+    ghost from_gives = { λ r e. e ≡ Tree r };
+
+    fn from(r: TreeRefusal) -> ConditionRefusal {
+        ConditionRefusal::Tree(r)
+    }
 }
 
 // The number and the place of each refusal.
@@ -42,18 +51,7 @@ pub fn condition_number_and_place(r: ConditionRefusal) -> Numbered
     }
 }
 
-// What deciding the list of a choice answers, as an answer on the tree.
-fn as_tree_answer(choice: usize, answer: Answer) -> TreeAnswer
-    ensures { result ≡ as_tree_answer_lem choice answer }
-{
-    match answer {
-        Answer::Yes => TreeAnswer::Yes(choice),
-        Answer::No => TreeAnswer::No,
-        Answer::Refused(r) => TreeAnswer::Refused(ConditionRefusal::Deciding(r)),
-    }
-}
-
-// Decides the list of a choice of a tree that has `total` choices.
+// Decides the list of a choice of a tree that has `total` choices. What it answers is an answer on the tree.
 fn decide_listed(
     n: usize,
     list: &[i32],
@@ -66,7 +64,7 @@ fn decide_listed(
     refutation: &mut [u32],
     identifiers: &mut [u32],
     work: &mut [i64],
-) -> TreeAnswer
+) -> Result<Option<usize>, ConditionRefusal>
     requires { ListOk n list.now }
     ensures { DecidesListed n (numbered_list tree.now list.now total choice) choice result
         (record { model = model.old; bounds = bounds.old; groups = groups.old; refutation = refutation.old; identifiers = identifiers.old; work = work.old })
@@ -83,8 +81,11 @@ fn decide_listed(
         refutation,
         identifiers,
         work,
-    );
-    as_tree_answer(choice, answer)
+    )?;
+    match answer {
+        Answer::Yes => Ok(Some(choice)),
+        Answer::No => Ok(None),
+    }
 }
 
 // Decides a choice of a tree over the lines of this list of n variables, as a list that has only the lines picked.
@@ -99,29 +100,24 @@ pub fn decide_choice(
     refutation: &mut [u32],
     identifiers: &mut [u32],
     work: &mut [i64],
-) -> TreeAnswer
+) -> Result<Option<usize>, ConditionRefusal>
     ensures { DecidesChoice n list.now tree.now choice result
         (record { model = model.old; bounds = bounds.old; groups = groups.old; refutation = refutation.old; identifiers = identifiers.old; work = work.old })
         (record { model = model.new; bounds = bounds.new; groups = groups.new; refutation = refutation.new; identifiers = identifiers.new; work = work.new }) }
 {
-    let found = list_validity(n, list);
-    if let Validity::Refused(r) = found {
-        return TreeAnswer::Refused(ConditionRefusal::Deciding(r));
-    }
-    match choice_in_tree(tree, list.len() / LINE_SIZE, choice) {
-        Reading::Refused(r) => TreeAnswer::Refused(ConditionRefusal::Tree(r)),
-        Reading::Read(node) => decide_listed(
-            n,
-            list,
-            tree,
-            node.choices,
-            choice,
-            model,
-            bounds,
-            groups,
-            refutation,
-            identifiers,
-            work,
-        ),
-    }
+    list_validity(n, list)?;
+    let root = choice_in_tree(tree, list.len() / LINE_SIZE, choice)?;
+    decide_listed(
+        n,
+        list,
+        tree,
+        root.choices,
+        choice,
+        model,
+        bounds,
+        groups,
+        refutation,
+        identifiers,
+        work,
+    )
 }

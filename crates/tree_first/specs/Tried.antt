@@ -1,10 +1,10 @@
 -- Trying one choice after the other: what each try and the search ask and leave, and that the first one found is the first with a solution.
-use Rattle.std.specs.Prelude.{◌≡◌, refl, Bool, true, false, not, List, ◌++◌, ℕ, ◌+◌, ◌<◌, ◌≤◌, ℤ, length, drop, replicate}
+use Rattle.tree_deciding.specs.declared.ConditionRefusal.{ConditionRefusal}
+use Rattle.std.specs.Prelude.{◌≡◌, refl, Bool, true, false, not, List, ◌++◌, ℕ, ◌+◌, ◌<◌, ◌≤◌, ℤ, length, drop, replicate, Ok, Option, Result}
 use Rattle.std.proofs.Common.{sym, ap, ◌∙◌, arith}
 use Rattle.std.proofs.lemmas.Bool.{not-true, not-false}
 use Rattle.std.proofs.lemmas.List.{length-replicate}
 use Rattle.integers.specs.Lowest.{lowest, Searched, searched_none, searched_more, searched_found, searched_all}
-use Rattle.lines.specs.declared.Validity.TheVariants.{Valid}
 use Rattle.lines.specs.Limits.{max_variables}
 use Rattle.lines.specs.Line.{line_count, lines_of}
 use Rattle.lines.specs.Refusal.{validity_of}
@@ -13,24 +13,23 @@ use Rattle.theory_bounds.specs.Answers.{model_of}
 use Rattle.decide_buffers.specs.Room.{model_room_lem, refutation_room_lem}
 use Rattle.decide.specs.Searched.{used_room}
 use Rattle.decide.specs.Modelled.{ModelAsked, Modelled}
-use Rattle.tree_reading.specs.Tree.{all, Row}
+use Rattle.tree_reading.specs.declared.Kind.TheVariants.{AllOf}
+use Rattle.tree_reading.specs.Tree.{Row}
 use Rattle.tree_reading.specs.Choices.{count}
 use Rattle.tree_reading.specs.declared.Node.{Node}
-use Rattle.tree_reading.specs.declared.Reading.TheVariants.{Read}
 use Rattle.tree_reading.specs.Reading.{valid_tree_lem}
 use Rattle.tree_reading.specs.Taken.{taken}
 use Rattle.tree_lists.specs.Condition.{choice_list, choice_valid}
 use Rattle.tree_lists.specs.Numbered.{numbered_list, numbered_list_law}
 use Rattle.tree_answers.specs.First.{choice_verdict, first_choice}
-use Rattle.tree_deciding.specs.declared.TreeAnswer.{TreeAnswer}
 use Rattle.tree_deciding.specs.Answer.{tree_over, first_found_lem, model_left}
 use Rattle.tree_deciding.specs.Found.{found_yes, found_no}
 
 -- a valid list, a tree over it that has so many choices, and room
 pub record TryAsked (n : ℕ) (L : List ℤ) (s : List ℕ) (total : ℕ) (model work : List ℤ) : Type 0 where
-  pub list : validity_of n L ≡ Valid
+  pub list : validity_of n L ≡ Ok tt
   pub root : Node
-  pub read : valid_tree_lem s (line_count L) ≡ Read root
+  pub read : valid_tree_lem s (line_count L) ≡ Ok root
   pub total_is : total ≡ root.choices
   pub model_room : model_room_lem n ≤ length model
   pub work_room : used_room n ≤ length work
@@ -46,7 +45,7 @@ pub record Tried (n : ℕ) (L : List ℤ) (t : Row) (k : ℕ) (model work : List
 -- the first choice with a solution, or their number
 pub record FirstTried (n : ℕ) (L : List ℤ) (t : Row) (model work : List ℤ) (first : ℕ) (model' work' : List ℤ) : Type 0 where
   pub is : first ≡ first_choice n L t
-  pub model_left_law : model' ≡ model_left n L t (first_found_lem (count all t) first) model
+  pub model_left_law : model' ≡ model_left n L t (first_found_lem (count AllOf t) first) model
   pub same_length : length work' ≡ length work
   pub behind : drop (used_room n) work' ≡ drop (used_room n) work
 
@@ -63,7 +62,7 @@ module _ (n : ℕ) (L : List ℤ) (s : List ℕ) (total : ℕ) (model work : Lis
   abbrev tree : Row
   tree = tree_over L s
 
-  pub counted : total ≡ count all tree
+  pub counted : total ≡ count AllOf tree
   counted = a.total_is ∙ (taken s (line_count L) a.root a.read).counted
 
   -- ---- a try
@@ -133,7 +132,7 @@ module _ (n : ℕ) (L : List ℤ) (s : List ℕ) (total : ℕ) (model work : Lis
             is = searched_found verdicts total i below (r.verdict ∙ e) t.searched ∙ ap (lowest verdicts 0) counted;
             model_left_law = r.on_yes e
                 ∙ ap (λ (m : List ℤ). model_of n (lines_of (choice_list L tree i)) ++ drop (model_room_lem n) m) t.same_model
-                ∙ sym (ap (λ (x : TreeAnswer). model_left n L tree x model) (found_yes (count all tree) i (omega (arith, counted))));
+                ∙ sym (ap (λ (x : Result (Option ℕ) ConditionRefusal). model_left n L tree x model) (found_yes (count AllOf tree) i (omega (arith, counted))));
             same_length = r.same_length ∙ t.same_length;
             behind = r.behind ∙ t.behind;
           }
@@ -142,7 +141,7 @@ module _ (n : ℕ) (L : List ℤ) (s : List ℕ) (total : ℕ) (model work : Lis
     all_tried h =
         record {
           is = searched_all verdicts total i (omega (arith, t.below)) t.searched ∙ ap (lowest verdicts 0) counted;
-          model_left_law = t.same_model ∙ sym (ap (λ (x : TreeAnswer). model_left n L tree x model) (found_no (count all tree) i (omega (arith, counted))));
+          model_left_law = t.same_model ∙ sym (ap (λ (x : Result (Option ℕ) ConditionRefusal). model_left n L tree x model) (found_no (count AllOf tree) i (omega (arith, counted))));
           same_length = t.same_length;
           behind = t.behind;
         }

@@ -7,12 +7,12 @@ ghost use Rattle.tree_deciding.specs.Answer.{tree_over, AnswersFirst};
 ghost use Rattle.tree_first.specs.Tried.{TryAsked, Tried, FirstTried};
 
 use decide::refuted_or_modelled;
-use decide_buffers::{MOST_REFUTATION, clear, model_validity, work_room};
+use decide_buffers::{Lengths, MOST_REFUTATION, clear, model_validity, work_room};
 use lines::limits::LINE_SIZE;
-use lines::{Validity, list_validity};
-use tree_deciding::{ConditionRefusal, TreeAnswer};
+use lines::list_validity;
+use tree_deciding::ConditionRefusal;
 use tree_lists::{MOST_NUMBERS, write_choice};
-use tree_reading::{Reading, valid_tree};
+use tree_reading::valid_tree;
 
 // Whether a choice has a solution. If so, its model is written.
 fn try_choice(
@@ -45,14 +45,12 @@ fn first_solvable(
     requires { TryAsked n list.now tree.now total model.old work.old }
     ensures { FirstTried n list.now (tree_over list.now tree.now) model.old work.old result model.new work.new }
 {
-    let mut choice = 0;
-    while choice < total {
+    for choice in 0..total {
         if try_choice(n, list, tree, total, choice, model, work) {
             return choice;
         }
-        choice += 1;
     }
-    choice
+    total
 }
 
 // The first choice with a solution, of a tree over the lines of this list of n variables. Only a yes writes the model.
@@ -62,28 +60,18 @@ pub fn first_choice(
     tree: &[u32],
     model: &mut [i32],
     work: &mut [i64],
-) -> TreeAnswer
+) -> Result<Option<usize>, ConditionRefusal>
     ensures { AnswersFirst n list.now tree.now result
         (record { model = model.old; work = work.old })
         (record { model = model.new; work = work.new }) }
 {
-    let found = list_validity(n, list);
-    if let Validity::Refused(r) = found {
-        return TreeAnswer::Refused(ConditionRefusal::Deciding(r));
+    list_validity(n, list)?;
+    let root = valid_tree(tree, list.len() / LINE_SIZE)?;
+    model_validity(n, Lengths::of_model(model.len(), work.len()))?;
+    let choice = first_solvable(n, list, tree, root.choices, model, work);
+    clear(work, work_room(n));
+    if choice < root.choices {
+        return Ok(Some(choice));
     }
-    match valid_tree(tree, list.len() / LINE_SIZE) {
-        Reading::Refused(r) => TreeAnswer::Refused(ConditionRefusal::Tree(r)),
-        Reading::Read(node) => {
-            let found = model_validity(n, model.len(), work.len());
-            if let Validity::Refused(r) = found {
-                return TreeAnswer::Refused(ConditionRefusal::Deciding(r));
-            }
-            let choice = first_solvable(n, list, tree, node.choices, model, work);
-            clear(work, work_room(n));
-            if choice < node.choices {
-                return TreeAnswer::Yes(choice);
-            }
-            TreeAnswer::No
-        }
-    }
+    Ok(None)
 }

@@ -1,6 +1,6 @@
 -- A tree over the lines of a list: an assignment meets the condition exactly if it solves the list of one of its choices,
 -- in which each line that is not picked is zeros.
-use Rattle.std.specs.Prelude.{◌≡◌, ◌↔◌, ◌⊎◌, Bool, ℤ, set, replicate}
+use Rattle.std.specs.Prelude.{◌≡◌, ◌↔◌, ◌⊎◌, Bool, ℤ, set, replicate, Ok}
 use Rattle.std.proofs.Math.Path.{refl, subst}
 use Rattle.std.proofs.Common.{sym, ap, ◌∙◌, arith, eq-eqb, eqb-true, get_or-set_same, get_or-set_other}
 use Rattle.std.proofs.Math.Logic.{inl, inr, ⊎_elim}
@@ -13,13 +13,14 @@ use Rattle.std.proofs.Math.ListN.{length, get_or, length-set}
 use Rattle.std.proofs.lemmas.List.{length-replicate, get_or-replicate}
 use Rattle.integers.specs.Laws.{never}
 use Rattle.lines.specs.Line.{line_at, line_count, lines_of, Assignment, Meets, Solves}
-use Rattle.lines.specs.declared.Validity.TheVariants.{Valid}
 use Rattle.lines.specs.Refusal.{validity_of}
-use Rattle.tree_reading.specs.Tree.{Kind, all, any, Row, none, line, node, Fits, levels}
+use Rattle.tree_reading.specs.declared.Kind.{Kind}
+use Rattle.tree_reading.specs.declared.Kind.TheVariants.{AllOf, AnyOf}
+use Rattle.tree_reading.specs.Tree.{Row, none, line, node, Fits, levels}
 use Rattle.tree_reading.specs.Choices.{pairs, joined, choices, count}
 use Rattle.tree_choices.specs.Choosing.{marked}
 use Rattle.tree_reading.specs.Counted.{count_choices}
-use Rattle.tree_choices.specs.Formula.{All, Some, Holds, both_all, holds_some, some_holds, some_number, number_some}
+use Rattle.tree_choices.specs.Formula.{All, Holds, both_all, holds_some, some_holds, some_number, number_some}
 use Rattle.tree_lists.specs.Masked.{is_picked_lem, masked, masked_valid, masked_solved, solved_masked}
 
 -- ---- the flags of some lines
@@ -99,12 +100,12 @@ module _ (m : ℕ) where
   each_pairs (x ∷ xs) ys h k = each_append (map (λ (y : List ℕ). x ++ y) ys) (pairs xs ys) (each_map x ys h.0 k) (each_pairs xs ys h.1 k)
 
   each_joined : (k : Kind) (xs ys : List (List ℕ)) → Each Listed xs → Each Listed ys → Each Listed (joined k xs ys)
-  each_joined all xs ys h g = each_pairs xs ys h g
-  each_joined any xs ys h g = each_append xs ys h g
+  each_joined AllOf xs ys h g = each_pairs xs ys h g
+  each_joined AnyOf xs ys h g = each_append xs ys h g
 
   listed : (d : ℕ) (k : Kind) (t : Row) → Fits m k d t → Each Listed (choices k t)
-  listed d all none f = (tt, tt)
-  listed d any none f = tt
+  listed d AllOf none f = (tt, tt)
+  listed d AnyOf none f = tt
   listed zero k (line i r) f = absurd f
   listed zero k (node l c r) f = absurd f
   listed (suc d) k (line i r) f = each_joined k ((i ∷ []) ∷ []) (choices k r) ((f.0, tt), tt) (listed (suc d) k r f.1)
@@ -118,46 +119,46 @@ module _ (m : ℕ) where
 -- ---- the condition
 -- the flags of choice number n, and its list
 abbrev pub choice_flags : List ℤ → Row → ℕ → List ℕ
-choice_flags L t n = flags_of (line_count L) (get_or (choices all t) n [])
+choice_flags L t n = flags_of (line_count L) (get_or (choices AllOf t) n [])
 
 unfoldable pub choice_list : List ℤ → Row → ℕ → List ℤ
 choice_list L t n = masked (choice_flags L t n) L
 
 -- the flags say which lines the choice picks
-pub picked_exactly : (L : List ℤ) (t : Row) (n k : ℕ) → k < line_count L → (is_picked_lem (choice_flags L t n) k ≡ true) ↔ In k (get_or (choices all t) n [])
+pub picked_exactly : (L : List ℤ) (t : Row) (n k : ℕ) → k < line_count L → (is_picked_lem (choice_flags L t n) k ≡ true) ↔ In k (get_or (choices AllOf t) n [])
 picked_exactly L t n k h =
     let none : List ℕ = replicate (line_count L) 0 in
-    let lines : List ℕ = get_or (choices all t) n [] in (
+    let lines : List ℕ = get_or (choices AllOf t) n [] in (
       (λ e. ⊎_elim (λ a. never (sym (get_or-replicate (line_count L) k 0 0 h) ∙ eqb-true _ _ a)) (λ b. b) (flag_only k none lines e)),
       (λ i. flag_set k none lines (omega (arith, length-replicate {A = ℕ} (line_count L) 0)) i),
     )
 
 -- the tree as a formula over the lines of the list
 abbrev pub Condition : List ℤ → Row → Assignment → Type 0
-Condition L t s = Holds (λ i. Meets s (line_at L i)) all t
+Condition L t s = Holds (λ i. Meets s (line_at L i)) AllOf t
 
 module _ (L : List ℤ) (t : Row) (s : Assignment) where
-  pub some_choice : Condition L t s → (n : ℕ) × (n < count all t) × Solves (lines_of (choice_list L t n)) s
+  pub some_choice : Condition L t s → (n : ℕ) × (n < count AllOf t) × Solves (lines_of (choice_list L t n)) s
   unfolding choice_list
   some_choice h =
       let P : ℕ → Type 0 = λ i. Meets s (line_at L i) in
-      let some = some_number P (choices all t) (holds_some P all t h) in (
+      let some = some_number P (choices AllOf t) (holds_some P AllOf t h) in (
         some.0,
-        subst (λ (c : ℕ). some.0 < c) (count_choices all t) some.1,
-        solved_masked _ L s (picked_all P (line_count L) (get_or (choices all t) some.0 []) some.2),
+        subst (λ (c : ℕ). some.0 < c) (count_choices AllOf t) some.1,
+        solved_masked _ L s (picked_all P (line_count L) (get_or (choices AllOf t) some.0 []) some.2),
       )
 
-  pub choice_meets : Fits (line_count L) all levels t → (n : ℕ) → n < count all t → Solves (lines_of (choice_list L t n)) s → Condition L t s
+  pub choice_meets : Fits (line_count L) AllOf levels t → (n : ℕ) → n < count AllOf t → Solves (lines_of (choice_list L t n)) s → Condition L t s
   unfolding choice_list
   choice_meets f n l h =
       let P : ℕ → Type 0 = λ i. Meets s (line_at L i) in
-      let k : n < length (choices all t) = subst (λ (j : ℕ). n < j) (sym (count_choices all t)) l in
-      let lines : List ℕ = get_or (choices all t) n [] in
-      let listed : All (λ i. i < line_count L) lines = each_at (line_count L) (choices all t) n k (listed (line_count L) levels all t f) in
+      let k : n < length (choices AllOf t) = subst (λ (j : ℕ). n < j) (sym (count_choices AllOf t)) l in
+      let lines : List ℕ = get_or (choices AllOf t) n [] in
+      let listed : All (λ i. i < line_count L) lines = each_at (line_count L) (choices AllOf t) n k (listed (line_count L) levels AllOf t f) in
       let met : All P lines = all_picked P (line_count L) lines listed (masked_solved (flags_of (line_count L) lines) L s h) in
-      some_holds P all t (number_some P (choices all t) n k met)
+      some_holds P AllOf t (number_some P (choices AllOf t) n k met)
 
 -- a choice is decided as its list: it is valid
-pub choice_valid : (n : ℕ) (L : List ℤ) (t : Row) (k : ℕ) → validity_of n L ≡ Valid → validity_of n (choice_list L t k) ≡ Valid
+pub choice_valid : (n : ℕ) (L : List ℤ) (t : Row) (k : ℕ) → validity_of n L ≡ Ok tt → validity_of n (choice_list L t k) ≡ Ok tt
 unfolding choice_list
 choice_valid n L t k = masked_valid (choice_flags L t k) L n

@@ -1,12 +1,11 @@
 -- The list of a choice: each line that is not picked is replaced by 0 ≤ 0. It is as long, as valid, and its solutions are those of the lines that are picked.
-use Rattle.std.specs.Prelude.{◌≡◌, refl, Bool, true, false, List, [], ◌∷◌, ◌++◌, ℕ, ◌+◌, ◌*◌, ◌/◌, ◌%◌, ◌<◌, ◌≤◌, eqb, ltb, ℤ, pos, length, get_or, set, drop}
+use Rattle.std.specs.Prelude.{◌≡◌, refl, Bool, true, false, List, [], ◌∷◌, ◌++◌, ℕ, ◌+◌, ◌*◌, ◌/◌, ◌%◌, ◌<◌, ◌≤◌, eqb, ltb, ℤ, pos, length, get_or, set, drop, Ok}
 use Rattle.std.proofs.Common.{sym, subst, ◌∙◌, le-ltb, lt-ltb}
 use Rattle.std.proofs.Math.Path.{ap}
 use Rattle.std.proofs.Math.Bool.{cond}
 use native.Mathlib.Omega.{arith}
 use Rattle.integers.specs.Sequence.{tabulate, length_tabulate, get_d_tabulate, tabulate_add, grow}
 use Rattle.lines.specs.declared.Line.{Line}
-use Rattle.lines.specs.declared.Validity.TheVariants.{Valid}
 use Rattle.lines.specs.Limits.{line_size, max_lines}
 use Rattle.lines.specs.Line.{number, line_numbers_lem, line_at, line_count, lines_of, Assignment, Meets, Solves}
 use Rattle.lines.specs.LineNumbers.{number_at}
@@ -90,7 +89,7 @@ module _ (flags : List ℕ) (L : List ℤ) where
       go false g = z
 
   -- ---- validity
-  pub masked_valid : (n : ℕ) → validity_of n L ≡ Valid → validity_of n (masked flags L) ≡ Valid
+  pub masked_valid : (n : ℕ) → validity_of n L ≡ Ok tt → validity_of n (masked flags L) ≡ Ok tt
   masked_valid n e =
       let o = valid_list n L e in
       let whole : length (masked flags L) % line_size ≡ 0 = ap (λ (i : ℕ). i % line_size) same_length ∙ o.whole in
@@ -98,8 +97,8 @@ module _ (flags : List ℕ) (L : List ℤ) where
       list_valid n (masked flags L) o.variables whole few
       (lines_valid n (line_count (masked flags L)) (line_at (masked flags L)) 0 (λ k l. valid k (subst (λ (c : ℕ). k < c) same_count l)))
     where
-      valid : (k : ℕ) → k < line_count L → line_validity_lem n 0 (line_at (masked flags L) k) ≡ Valid
-      valid k l = each_masked (λ m. line_validity_lem n 0 m ≡ Valid) (zero_valid n 0) k l (λ p. line_valid_more n n k 0 (line_at L k) (omega arith) ((valid_list n L e).each k l))
+      valid : (k : ℕ) → k < line_count L → line_validity_lem n 0 (line_at (masked flags L) k) ≡ Ok tt
+      valid k l = each_masked (λ m. line_validity_lem n 0 m ≡ Ok tt) (zero_valid n 0) k l (λ p. line_valid_more n n k 0 (line_at L k) (omega arith) ((valid_list n L e).each k l))
 
   -- ---- solutions
   -- a solution meets the lines that are picked, and what meets those is a solution

@@ -1,12 +1,11 @@
 -- Picks of which the second has all lines of the first and perhaps others, in the same list or in a longer one: every solution of its list solves the first's,
 -- and what is accepted against the first's is accepted against its own.
-use Rattle.std.specs.Prelude.{◌≡◌, true, List, ◌++◌, ℕ, ◌/◌, ◌%◌, ◌<◌, ℤ, length}
+use Rattle.std.specs.Prelude.{◌≡◌, true, List, ◌++◌, ℕ, ◌/◌, ◌%◌, ◌<◌, ℤ, length, Some}
 use Rattle.std.proofs.Common.{subst, arith}
 use Rattle.lines.specs.Limits.{line_size}
 use Rattle.lines.specs.Line.{line_count, lines_of, Meets, Entails}
 use Rattle.lines.specs.LineNumbers.{count_append, line_left}
 use Rattle.steps.specs.declared.Step.{Step}
-use Rattle.steps.specs.declared.NamedStep.TheVariants.{Found}
 use Rattle.steps.specs.Step.{step_numbered_lem}
 use Rattle.steps.specs.Laws.{from_line}
 use Rattle.check_refutation.specs.Progress.{accepts}
@@ -28,7 +27,7 @@ module _ (few many : List ℕ) (L M : List ℤ) (whole : length L % line_size �
       let steps : EachStep (PickedStep many (L ++ M)) R = refutes_each (masked few L) (PickedStep many (L ++ M)) found false_step R ((accepts_exactly (masked few L) R).0 e) in
       (accepts_picked many (L ++ M) R).1 (accepts_longer L M whole R ((accepts_picked few L R).0 e).0, steps)
     where
-      found : (k : ℕ) (t : Step) → step_numbered_lem (masked few L) k ≡ Found t → is_picked_lem many (k / 2) ≡ true
+      found : (k : ℕ) (t : Step) → step_numbered_lem (masked few L) k ≡ Some t → is_picked_lem many (k / 2) ≡ true
       found k t f = let p = found_masked few L k t f in more (k / 2) (from_line L k t p.1).0 p.0
 
       false_step : (k : ℕ) → FalseStep (masked few L) k → is_picked_lem many (k / 2) ≡ true

@@ -1,5 +1,5 @@
 -- The list of a choice that is found in the numbers of a tree, and what writing it asks and leaves.
-use Rattle.std.specs.Prelude.{◌≡◌, refl, Bool, true, false, List, [], ◌∷◌, ◌++◌, eqb, ℤ, pos, length, get_or, set, take, drop, replicate}
+use Rattle.std.specs.Prelude.{◌≡◌, refl, Bool, true, false, List, [], ◌∷◌, ◌++◌, eqb, ℤ, pos, length, get_or, set, take, drop, replicate, Ok}
 use Rattle.std.proofs.Math.Path.{sym, ap}
 use Rattle.std.proofs.Common.{subst, ◌∙◌, eqb-true, length-set, get_or-set_same, get_or-set_other, take_at}
 use Rattle.std.proofs.Math.Bool.{cond}
@@ -12,8 +12,8 @@ use Rattle.integers.specs.Sequence.{tabulate_cong}
 use Rattle.lines.specs.Limits.{line_size, max_lines}
 use Rattle.lines.specs.Line.{number, line_count}
 use Rattle.tree_reading.specs.declared.Node.{Node}
-use Rattle.tree_reading.specs.declared.Reading.TheVariants.{Read}
-use Rattle.tree_reading.specs.Tree.{all, max_depth}
+use Rattle.tree_reading.specs.declared.Kind.TheVariants.{AllOf}
+use Rattle.tree_reading.specs.Tree.{max_depth}
 use Rattle.tree_reading.specs.Reading.{valid_tree_lem}
 use Rattle.tree_reading.specs.Taken.{tree_in}
 use Rattle.tree_choices.specs.Choosing.{marked, chosen}
@@ -23,14 +23,14 @@ use Rattle.tree_lists.specs.Condition.{flags_of, choice_list}
 
 -- the lines that choice k picks in a tree with these numbers and so many choices, over m lines
 abbrev pub numbered_lines : List ℕ → ℕ → ℕ → ℕ → List ℕ
-numbered_lines s m total k = chosen s m max_depth all 0 total k
+numbered_lines s m total k = chosen s m max_depth AllOf 0 total k
 
 -- the list of these lines
 unfoldable pub numbered_list : List ℕ → List ℤ → ℕ → ℕ → List ℤ
 numbered_list s L total k = masked (flags_of (line_count L) (numbered_lines s (line_count L) total k)) L
 
 -- it is that of the choice
-pub numbered_list_law : (s : List ℕ) (L : List ℤ) (b : Node) → valid_tree_lem s (line_count L) ≡ Read b → (k : ℕ) → k < b.choices
+pub numbered_list_law : (s : List ℕ) (L : List ℤ) (b : Node) → valid_tree_lem s (line_count L) ≡ Ok b → (k : ℕ) → k < b.choices
     → numbered_list s L b.choices k ≡ choice_list L (tree_in s (line_count L)) k
 unfolding numbered_list choice_list
 numbered_list_law s L b e k l = ap (λ (lines : List ℕ). masked (flags_of (line_count L) lines) L) (picked s (line_count L) b e k l)

@@ -2,21 +2,17 @@
 --
 -- A step number means the same in the masked list where its line is picked, and names no step where it is not; so each refutation is carried over by its
 -- own step numbers, both ways.
-use Rattle.std.specs.Prelude.{◌≡◌, ◌↔◌, Bool, List, ℕ, ◌*◌, ◌/◌, ◌%◌, ◌<◌, ltb, ℤ}
+use Rattle.std.specs.Prelude.{◌≡◌, ◌↔◌, Bool, List, ℕ, ◌*◌, ◌/◌, ◌%◌, ◌<◌, ltb, ℤ, None, Ok, Option, Some}
 use Rattle.std.proofs.Math.Path.{refl}
 use Rattle.std.proofs.Common.{sym, ap, subst, ◌∙◌, arith, ltb-true}
 use Rattle.std.proofs.Math.Bool.{true, false, cond}
 use Rattle.integers.specs.Laws.{never}
 use Rattle.lines.specs.declared.Line.{Line}
-use Rattle.lines.specs.declared.Validity.TheVariants.{Valid}
 use Rattle.lines.specs.Line.{line_at, line_count, is_false_lem}
 use Rattle.lines.specs.Refusal.{validity_of}
 use Rattle.lines.specs.Zero.{zero_line}
 use Rattle.steps.specs.declared.Step.{Step}
-use Rattle.steps.specs.declared.NamedStep.{NamedStep}
-use Rattle.steps.specs.declared.NamedStep.TheVariants.{Found, Nothing}
 use Rattle.steps.specs.Step.{step_of, step_numbered_lem}
-use Rattle.steps.specs.Laws.{from_line}
 use Rattle.steps.specs.Zero.{zero_no_step, zero_not_false}
 use Rattle.check_answers.specs.declared.CheckAnswer.TheVariants.{Yes}
 use Rattle.check_refutation.specs.Progress.{accepts}
@@ -33,33 +29,33 @@ module _ (flags : List ℕ) (L : List ℤ) where
   PickedStep k = is_picked_lem flags (k / 2) ≡ true
 
   -- a step number names what it names in the whole list, or nothing
-  pub step_masked : (k : ℕ) → step_numbered_lem (masked flags L) k ≡ cond (is_picked_lem flags (k / 2)) (step_numbered_lem L k) Nothing
+  pub step_masked : (k : ℕ) → step_numbered_lem (masked flags L) k ≡ cond (is_picked_lem flags (k / 2)) (step_numbered_lem L k) None
   unfolding step_numbered_lem
   step_masked k = rw (same_count flags L) (go (ltb (k / 2) (line_count L)) refl)
     where
-      at : (t : Bool) → step_of (cond t (line_at L (k / 2)) zero_line) (k % 2) ≡ cond t (step_of (line_at L (k / 2)) (k % 2)) Nothing
+      at : (t : Bool) → step_of (cond t (line_at L (k / 2)) zero_line) (k % 2) ≡ cond t (step_of (line_at L (k / 2)) (k % 2)) None
       at true = refl
       at false = zero_no_step (k % 2) (omega arith)
 
-      none : (t : Bool) → Nothing ≡ cond t Nothing Nothing
+      none : (t : Bool) → ◌≡◌ {A = Option Step} None (cond t None None)
       none true = refl
       none false = refl
 
       go : (u : Bool) → ltb (k / 2) (line_count L) ≡ u
-          → cond u (step_of (line_at (masked flags L) (k / 2)) (k % 2)) Nothing ≡ cond (is_picked_lem flags (k / 2)) (cond u (step_of (line_at L (k / 2)) (k % 2)) Nothing) Nothing
+          → cond u (step_of (line_at (masked flags L) (k / 2)) (k % 2)) None ≡ cond (is_picked_lem flags (k / 2)) (cond u (step_of (line_at L (k / 2)) (k % 2)) None) None
       go true e = ap (λ (l : Line). step_of l (k % 2)) (line_masked flags L (k / 2) (ltb-true _ _ e)) ∙ at (is_picked_lem flags (k / 2))
       go false e = none (is_picked_lem flags (k / 2))
 
   -- a step of the masked list is one of a picked line of the whole list, with the same number
-  pub found_masked : (k : ℕ) (t : Step) → step_numbered_lem (masked flags L) k ≡ Found t → PickedStep k × (step_numbered_lem L k ≡ Found t)
+  pub found_masked : (k : ℕ) (t : Step) → step_numbered_lem (masked flags L) k ≡ Some t → PickedStep k × (step_numbered_lem L k ≡ Some t)
   found_masked k t e = go (is_picked_lem flags (k / 2)) (sym (step_masked k) ∙ e)
     where
-      go : (b : Bool) → cond b (step_numbered_lem L k) Nothing ≡ Found t → (b ≡ true) × (step_numbered_lem L k ≡ Found t)
+      go : (b : Bool) → cond b (step_numbered_lem L k) None ≡ Some t → (b ≡ true) × (step_numbered_lem L k ≡ Some t)
       go true q = (refl, q)
       go false q = never (cc)
 
-  pub masked_found : (k : ℕ) (t : Step) → PickedStep k → step_numbered_lem L k ≡ Found t → step_numbered_lem (masked flags L) k ≡ Found t
-  masked_found k t p e = step_masked k ∙ ap (λ (b : Bool). cond b (step_numbered_lem L k) Nothing) p ∙ e
+  pub masked_found : (k : ℕ) (t : Step) → PickedStep k → step_numbered_lem L k ≡ Some t → step_numbered_lem (masked flags L) k ≡ Some t
+  masked_found k t p e = step_masked k ∙ ap (λ (b : Bool). cond b (step_numbered_lem L k) None) p ∙ e
 
   -- the same of false lines
   half_twice : (k l : ℕ) → k ≡ 2 * l → k / 2 ≡ l
@@ -107,7 +103,7 @@ module _ (flags : List ℕ) (L : List ℤ) where
   )
 
   -- the checker itself, in a valid list: what it accepts against the masked list is what it accepts against the whole list with steps of picked lines alone
-  pub answers_picked : (n : ℕ) → validity_of n L ≡ Valid → (R : List ℕ) → (refutation_answer n (masked flags L) R ≡ Yes) ↔ ((refutation_answer n L R ≡ Yes) × EachStep PickedStep R)
+  pub answers_picked : (n : ℕ) → validity_of n L ≡ Ok tt → (R : List ℕ) → (refutation_answer n (masked flags L) R ≡ Ok Yes) ↔ ((refutation_answer n L R ≡ Ok Yes) × EachStep PickedStep R)
   answers_picked n v R = (
     (λ e.
         let y = (answered_yes n (masked flags L) R).0 e in

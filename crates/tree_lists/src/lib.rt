@@ -16,34 +16,32 @@ pub const MOST_NUMBERS: usize = LINE_SIZE * MAX_LINES;
 fn is_picked(picked: &[u8], line: usize) -> bool
     ensures { result ≡ is_picked_lem picked.now line }
 {
-    if line < picked.len() {
-        return picked[line] == 1;
-    }
-    false
+    line < picked.len() && picked[line] == 1
 }
 
 // A number of a line, or zero if the line is not picked.
+#[tactic(auto, unfolding(crate::specs::Masked::masked_number_lem))]
 fn masked_number(list: &[i32], picked: &[u8], index: usize) -> i32
     requires { index < length list.now }
     ensures { result ≡ masked_number_lem picked.now list.now index }
 {
     if is_picked(picked, index / LINE_SIZE) {
-        return list[index];
+        list[index]
+    } else {
+        0
     }
-    0
 }
 
 // The list, with zeros for each line that is not picked, at the front of a buffer; one that is too short stays as it is.
+#[tactic(auto, unfolding(crate::specs::Masked::masked_into))]
 pub fn mask(list: &[i32], picked: &[u8], out: &mut [i32])
     ensures { out.new ≡ masked_into picked.now list.now out.old }
 {
     if out.len() < list.len() {
         return;
     }
-    let mut i = 0;
-    while i < list.len() {
+    for i in 0..list.len() {
         out[i] = masked_number(list, picked, i);
-        i += 1;
     }
 }
 

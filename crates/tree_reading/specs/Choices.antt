@@ -1,6 +1,8 @@
 -- The choices of a tree: lists of line numbers, in order, and how many there are.
 use Rattle.std.specs.Prelude.{cond, List, [], ◌∷◌, ◌++◌, map, ℕ, ◌+◌, ◌*◌, min, ltb, length}
-use Rattle.tree_reading.specs.Tree.{Kind, all, any, Row, none, line, node, numbers}
+use Rattle.tree_reading.specs.declared.Kind.{Kind}
+use Rattle.tree_reading.specs.declared.Kind.TheVariants.{AllOf, AnyOf}
+use Rattle.tree_reading.specs.Tree.{Row, none, line, node, numbers}
 
 -- each of the first with each of the second; the second changes faster
 abbrev pub pairs : List (List ℕ) → List (List ℕ) → List (List ℕ)
@@ -9,13 +11,13 @@ pairs (x ∷ xs) ys = map (λ (y : List ℕ). x ++ y) ys ++ pairs xs ys
 
 -- what a node with no children has: one choice, which picks nothing, or none
 abbrev pub no_children : Kind → List (List ℕ)
-no_children all = [] ∷ []
-no_children any = []
+no_children AllOf = [] ∷ []
+no_children AnyOf = []
 
 -- a child's choices and those of the children after it
 abbrev pub joined : Kind → List (List ℕ) → List (List ℕ) → List (List ℕ)
-joined all xs ys = pairs xs ys
-joined any xs ys = xs ++ ys
+joined AllOf xs ys = pairs xs ys
+joined AnyOf xs ys = xs ++ ys
 
 -- the choices of a node of this kind with these children
 abbrev pub choices : Kind → Row → List (List ℕ)
@@ -29,12 +31,12 @@ max_choices = 256
 
 -- their number
 abbrev pub unit_of : Kind → ℕ
-unit_of all = 1
-unit_of any = 0
+unit_of AllOf = 1
+unit_of AnyOf = 0
 
 abbrev pub with : Kind → ℕ → ℕ → ℕ
-with all a b = a * b
-with any a b = a + b
+with AllOf a b = a * b
+with AnyOf a b = a + b
 
 abbrev pub count : Kind → Row → ℕ
 count k none = unit_of k
@@ -51,7 +53,7 @@ overs at (line i r) = overs (at + 2) r
 overs at (node l c r) = here (count l c) at ++ overs (at + 2) c ++ overs (at + 2 + length (numbers c)) r
 
 abbrev pub overs_of : Row → List ℕ
-overs_of t = here (count all t) 0 ++ overs 2 t
+overs_of t = here (count AllOf t) 0 ++ overs 2 t
 
 -- the lowest of these, or d if there is none
 abbrev pub lowest : ℕ → List ℕ → ℕ

@@ -3,7 +3,9 @@
 use Rattle.std.specs.Prelude.{◌≡◌, refl, Bool, true, false, List, [], ◌∷◌, ◌++◌, map, ℕ, zero, suc, ◌+◌, ◌*◌, ◌≤◌, ltb, length}
 use Rattle.std.proofs.Common.{sym, ap, ap₂, ◌∙◌, mul_assoc, mul-one, one-mul, mul-zero, zero-mul, mul-le-mul, arith, ltb-true, ltb-false, length-append}
 use Rattle.std.proofs.lemmas.List.{length-map}
-use Rattle.tree_reading.specs.Tree.{Kind, all, any, Row, none, line, node}
+use Rattle.tree_reading.specs.declared.Kind.{Kind}
+use Rattle.tree_reading.specs.declared.Kind.TheVariants.{AllOf, AnyOf}
+use Rattle.tree_reading.specs.Tree.{Row, none, line, node}
 use Rattle.tree_reading.specs.Choices.{max_choices, pairs, joined, choices, unit_of, with, count}
 use Rattle.tree_reading.specs.declared.Node.{Node}
 use Rattle.tree_reading.specs.Reading.{cap, begun, with_child, finished}
@@ -17,12 +19,12 @@ length_pairs (x ∷ xs) ys =
     omega (arith, length-append (map (λ (y : List ℕ). x ++ y) ys) (pairs xs ys), m, length_pairs xs ys)
 
 length_joined : (k : Kind) (xs ys : List (List ℕ)) → length (joined k xs ys) ≡ with k (length xs) (length ys)
-length_joined all xs ys = length_pairs xs ys
-length_joined any xs ys = length-append xs ys
+length_joined AllOf xs ys = length_pairs xs ys
+length_joined AnyOf xs ys = length-append xs ys
 
 pub count_choices : (k : Kind) (t : Row) → length (choices k t) ≡ count k t
-count_choices all none = refl
-count_choices any none = refl
+count_choices AllOf none = refl
+count_choices AnyOf none = refl
 count_choices k (line i r) = length_joined k _ (choices k r) ∙ ap (with k 1) (count_choices k r)
 count_choices k (node l c r) = length_joined k (choices l c) (choices k r) ∙ ap₂ (with k) (count_choices l c) (count_choices k r)
 
@@ -64,27 +66,27 @@ cap_product (suc a) (suc b) = go (ltb max_choices (suc a)) refl (ltb max_choices
         ap₂ (λ (i j : ℕ). cap (i * j)) x y
 
 cap_with : (k : Kind) (a b : ℕ) → cap (with k (cap a) (cap b)) ≡ cap (with k a b)
-cap_with all a b = cap_product a b
-cap_with any a b = omega arith
+cap_with AllOf a b = cap_product a b
+cap_with AnyOf a b = omega arith
 
 cap_cap : (n : ℕ) → cap (cap n) ≡ cap n
 cap_cap n = omega arith
 
 with_unit : (k : Kind) (a : ℕ) → with k a (unit_of k) ≡ a
-with_unit all a = mul-one a
-with_unit any a = omega arith
+with_unit AllOf a = mul-one a
+with_unit AnyOf a = omega arith
 
 unit_with : (k : Kind) (a : ℕ) → with k (unit_of k) a ≡ a
-unit_with all a = one-mul a
-unit_with any a = omega arith
+unit_with AllOf a = one-mul a
+unit_with AnyOf a = omega arith
 
 with_assoc : (k : Kind) (a b c : ℕ) → with k (with k a b) c ≡ with k a (with k b c)
-with_assoc all a b c = mul_assoc a b c
-with_assoc any a b c = omega arith
+with_assoc AllOf a b c = mul_assoc a b c
+with_assoc AnyOf a b c = omega arith
 
 cap_unit : (k : Kind) → cap (unit_of k) ≡ unit_of k
-cap_unit all = refl
-cap_unit any = refl
+cap_unit AllOf = refl
+cap_unit AnyOf = refl
 
 module _ (s : List ℕ) where
   -- one more child
@@ -106,5 +108,5 @@ module _ (s : List ℕ) where
   pub node_choices : (l : Kind) (at : ℕ) (c : Row) → (after s l (begun s at (unit_of l)) c).choices ≡ cap (count l c)
   node_choices l at c = after_choices l (unit_of l) (begun s at (unit_of l)) c (sym (cap_unit l)) ∙ ap cap (unit_with l (count l c))
 
-  pub root_choices : (t : Row) → (root_of s t).choices ≡ cap (count all t)
-  root_choices t = node_choices all 0 t
+  pub root_choices : (t : Row) → (root_of s t).choices ≡ cap (count AllOf t)
+  root_choices t = node_choices AllOf 0 t

@@ -3,7 +3,9 @@
 -- Each node has two numbers, so that node number k of the reading order begins at index 2k. What is still to come there follows from the numbers before it:
 -- a node that is too deep, of the wrong kind for its place or not in the list leaves that known, and only a first number that is no kind does not.
 use Rattle.std.specs.Prelude.{◌≡◌, ◌⊎◌, Bool, true, false, cond, ◌&&◌, ◌||◌, List, [], ◌∷◌, ◌++◌, ℕ, zero, suc, ◌+◌, ◌*◌, ◌<◌, ◌≤◌, eqb, ltb, length, get_or, replicate}
-use Rattle.tree_reading.specs.Tree.{Kind, all, any, other, code_of, line_code_lem, max_depth}
+use Rattle.tree_reading.specs.declared.Kind.{Kind}
+use Rattle.tree_reading.specs.declared.Kind.TheVariants.{AllOf, AnyOf}
+use Rattle.tree_reading.specs.Tree.{other, code_of, line_code_lem, max_depth}
 use Rattle.tree_reading.specs.declared.TreeRefusal.{TreeRefusal}
 use Rattle.tree_reading.specs.declared.TreeRefusal.TheVariants.{Malformed, TooDeep}
 use Rattle.tree_reading.specs.Refusal.{tree_number, tree_place}
@@ -16,7 +18,7 @@ pub record Due : Type 0 where
   pub or_line : Bool
 
 abbrev pub root : Due
-root = record { depth = 1; kind = all; or_line = false }
+root = record { depth = 1; kind = AllOf; or_line = false }
 
 -- a child of a node of kind k at this depth
 abbrev pub child_of : ℕ → Kind → Due
@@ -31,8 +33,8 @@ pub data Ahead : Type 0 where
 abbrev pub behind : Due → List Due → ℕ → ℕ → Ahead
 behind x xs first second =
     cond (eqb first line_code_lem) (nodes xs)
-    (cond (eqb first (code_of all)) (nodes (replicate second (child_of x.depth all) ++ xs))
-    (cond (eqb first (code_of any)) (nodes (replicate second (child_of x.depth any) ++ xs)) unknown))
+    (cond (eqb first (code_of AllOf)) (nodes (replicate second (child_of x.depth AllOf) ++ xs))
+    (cond (eqb first (code_of AnyOf)) (nodes (replicate second (child_of x.depth AnyOf) ++ xs)) unknown))
 
 abbrev pub behind_node : List ℕ → ℕ → Ahead → Ahead
 behind_node s k unknown = unknown

@@ -1,5 +1,6 @@
 -- What stands at an index, by the tests.
-use Rattle.std.specs.Prelude.{◌≡◌, Bool, cond, List, ℕ, zero, suc, ◌+◌, ◌<◌, ◌≤◌, length, get_or}
+use Rattle.tree_reading.specs.declared.TreeRefusal.{TreeRefusal}
+use Rattle.std.specs.Prelude.{◌≡◌, Bool, cond, List, ℕ, zero, suc, ◌+◌, ◌<◌, ◌≤◌, length, get_or, Err, Ok, Result}
 use Rattle.std.proofs.Math.Path.{refl}
 use Rattle.std.proofs.Math.Bool.{true, false}
 use Rattle.std.proofs.Common.{arith}
@@ -8,15 +9,15 @@ use Rattle.std.proofs.Math.Dec.{ltb, eqb}
 use Rattle.tree_reading.specs.Tree.{line_code_lem}
 use Rattle.tree_reading.specs.declared.TreeRefusal.TheVariants.{Malformed, TooDeep}
 use Rattle.tree_reading.specs.declared.Head.{Head}
-use Rattle.tree_reading.specs.declared.Head.TheVariants.{Line, Children, Wrong}
+use Rattle.tree_reading.specs.declared.Head.TheVariants.{Line, Children}
 use Rattle.tree_reading.specs.Reading.{line_head_lem, children_head_lem, head_of}
 
 module _ (s : List ℕ) (m d kind at : ℕ) where
-  pub head_cut : length s ≤ at → head_of s m d kind at ≡ Wrong (Malformed (length s))
+  pub head_cut : length s ≤ at → head_of s m d kind at ≡ Err (Malformed (length s))
   unfolding head_of
   head_cut h = rw (le-ltb _ _ h)
 
-  pub head_deep : at < length s → d ≡ 0 → head_of s m d kind at ≡ Wrong (TooDeep at)
+  pub head_deep : at < length s → d ≡ 0 → head_of s m d kind at ≡ Err (TooDeep at)
   unfolding head_of
   head_deep h e = rw (lt-ltb _ _ h, eq-eqb _ _ e)
 
@@ -28,29 +29,29 @@ module _ (s : List ℕ) (m d kind at : ℕ) where
   unfolding head_of
   head_children h p n e = rw (lt-ltb _ _ h, ne_eqb d 0 (λ q. omega arith), ne_eqb _ _ n, eq-eqb _ _ e)
 
-  pub head_kind : at < length s → 0 < d → (get_or s at 0 ≡ line_code_lem → ⊥) → (get_or s at 0 ≡ kind → ⊥) → head_of s m d kind at ≡ Wrong (Malformed at)
+  pub head_kind : at < length s → 0 < d → (get_or s at 0 ≡ line_code_lem → ⊥) → (get_or s at 0 ≡ kind → ⊥) → head_of s m d kind at ≡ Err (Malformed at)
   unfolding head_of
   head_kind h p n q = rw (lt-ltb _ _ h, ne_eqb d 0 (λ e. omega arith), ne_eqb _ line_code_lem n, ne_eqb _ kind q)
 
 module _ (s : List ℕ) (m at : ℕ) where
-  pub line_cut : length s ≤ at + 1 → line_head_lem s m at ≡ Wrong (Malformed (length s))
+  pub line_cut : length s ≤ at + 1 → line_head_lem s m at ≡ Err (Malformed (length s))
   unfolding line_head_lem
   line_cut h = rw (le-ltb _ _ h)
 
-  pub line_out : at + 1 < length s → m ≤ get_or s (at + 1) 0 → line_head_lem s m at ≡ Wrong (Malformed (at + 1))
+  pub line_out : at + 1 < length s → m ≤ get_or s (at + 1) 0 → line_head_lem s m at ≡ Err (Malformed (at + 1))
   unfolding line_head_lem
   line_out h k = rw (lt-ltb (at + 1) _ h, le-ltb _ m k)
 
-  pub line_in : at + 1 < length s → get_or s (at + 1) 0 < m → line_head_lem s m at ≡ Line
+  pub line_in : at + 1 < length s → get_or s (at + 1) 0 < m → line_head_lem s m at ≡ Ok Line
   unfolding line_head_lem
   line_in h k = rw (lt-ltb (at + 1) _ h, lt-ltb _ m k)
 
 module _ (s : List ℕ) (at : ℕ) where
-  pub children_cut : length s ≤ at + 1 → children_head_lem s at ≡ Wrong (Malformed (length s))
+  pub children_cut : length s ≤ at + 1 → children_head_lem s at ≡ Err (Malformed (length s))
   unfolding children_head_lem
   children_cut h = rw (le-ltb _ _ h)
 
-  pub children_in : at + 1 < length s → children_head_lem s at ≡ Children (get_or s (at + 1) 0)
+  pub children_in : at + 1 < length s → children_head_lem s at ≡ Ok (Children (get_or s (at + 1) 0))
   unfolding children_head_lem
   children_in h = rw (lt-ltb _ _ h)
 
@@ -72,10 +73,10 @@ positive zero n = absurd (n refl)
 positive (suc d) n = omega arith
 
 module _ (s : List ℕ) (m d kind at : ℕ) where
-  abbrev pub Stands : Head → Type 0
-  Stands Line = LineAt s m d at
-  Stands (Children n) = NodeAt s d kind at n
-  Stands (Wrong r) = Unit {0}
+  abbrev pub Stands : Result Head TreeRefusal → Type 0
+  Stands (Ok Line) = LineAt s m d at
+  Stands (Ok (Children n)) = NodeAt s d kind at n
+  Stands (Err r) = Unit {0}
 
   pub stands : Stands (head_of s m d kind at)
   unfolding head_of line_head_lem children_head_lem
@@ -83,10 +84,10 @@ module _ (s : List ℕ) (m d kind at : ℕ) where
     where
       go : (a : Bool) → ltb at (length s) ≡ a → (b : Bool) → eqb d 0 ≡ b → (c : Bool) → eqb (get_or s at 0) line_code_lem ≡ c
           → (e : Bool) → eqb (get_or s at 0) kind ≡ e → (f : Bool) → ltb (at + 1) (length s) ≡ f → (g : Bool) → ltb (get_or s (at + 1) 0) m ≡ g
-          → Stands (cond a (cond b (Wrong (TooDeep at))
-          (cond c (cond f (cond g Line (Wrong (Malformed (at + 1)))) (Wrong (Malformed (length s))))
-          (cond e (cond f (Children (get_or s (at + 1) 0)) (Wrong (Malformed (length s)))) (Wrong (Malformed at)))))
-          (Wrong (Malformed (length s))))
+          → Stands (cond a (cond b (Err (TooDeep at))
+          (cond c (cond f (cond g (Ok Line) (Err (Malformed (at + 1)))) (Err (Malformed (length s))))
+          (cond e (cond f (Ok (Children (get_or s (at + 1) 0))) (Err (Malformed (length s)))) (Err (Malformed at)))))
+          (Err (Malformed (length s))))
       go false p b q c r e t f u g v = tt
       go true p true q c r e t f u g v = tt
       go true p false q true r e t false u g v = tt

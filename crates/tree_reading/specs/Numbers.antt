@@ -1,7 +1,9 @@
 -- Numbers that stand in a list from an index on, and a tree's numbers: no two trees have the same.
 use Rattle.std.specs.Prelude.{◌≡◌, refl, List, [], ◌∷◌, ◌++◌, ℕ, suc, ◌+◌, ◌<◌, ◌≤◌, length, get_or, drop}
 use Rattle.std.proofs.Common.{sym, ap, subst, ◌∙◌, append_assoc, append-nil, add-zero, arith, length-drop, drop_of_length-le, drop-cons}
-use Rattle.tree_reading.specs.Tree.{Kind, all, any, Row, none, line, node, code_of, line_code_lem, size, numbers, tree_numbers}
+use Rattle.tree_reading.specs.declared.Kind.{Kind}
+use Rattle.tree_reading.specs.declared.Kind.TheVariants.{AllOf, AnyOf}
+use Rattle.tree_reading.specs.Tree.{Row, none, line, node, code_of, line_code_lem, size, numbers, tree_numbers}
 
 -- s has these numbers from p on
 abbrev pub Has : List ℕ → ℕ → List ℕ → Type 0
@@ -50,14 +52,14 @@ module _ (s : List ℕ) where
 
 -- ---- no two trees have the same numbers
 code_injective : (k l : Kind) → code_of k ≡ code_of l → k ≡ l
-code_injective all all e = refl
-code_injective all any e = absurd (omega arith)
-code_injective any all e = absurd (omega arith)
-code_injective any any e = refl
+code_injective AllOf AllOf e = refl
+code_injective AllOf AnyOf e = absurd (omega arith)
+code_injective AnyOf AllOf e = absurd (omega arith)
+code_injective AnyOf AnyOf e = refl
 
 pub code_not_line : (k : Kind) → code_of k ≡ line_code_lem → ⊥
-code_not_line all e = omega arith
-code_not_line any e = omega arith
+code_not_line AllOf e = omega arith
+code_not_line AnyOf e = omega arith
 
 numbers_injective : (t u : Row) (xs ys : List ℕ) → size t ≡ size u → numbers t ++ xs ≡ numbers u ++ ys → (t ≡ u) × (xs ≡ ys)
 numbers_injective none none xs ys h e = (refl, e)

@@ -1,13 +1,14 @@
 -- The node that reading finds is the lowest with more than the most choices, and a tree is refused exactly if it has one.
-use Rattle.std.specs.Prelude.{◌≡◌, refl, Bool, true, false, cond, List, [], ◌∷◌, ◌++◌, ℕ, ◌+◌, ◌<◌, ◌≤◌, min, ltb, length}
+use Rattle.tree_reading.specs.declared.TreeRefusal.{TreeRefusal}
+use Rattle.std.specs.Prelude.{◌≡◌, refl, Bool, true, false, cond, List, [], ◌∷◌, ◌++◌, ℕ, ◌+◌, ◌<◌, ◌≤◌, min, ltb, length, Err, Ok, Result}
 use Rattle.std.proofs.Common.{sym, ap, subst, ◌∙◌, arith, ltb-true, ltb-false, lt-ltb, le-ltb, length-append}
 use Rattle.integers.specs.Laws.{never}
-use Rattle.tree_reading.specs.Tree.{Kind, all, Row, none, line, node, numbers, tree_numbers, Fits, levels}
+use Rattle.tree_reading.specs.declared.Kind.{Kind}
+use Rattle.tree_reading.specs.declared.Kind.TheVariants.{AllOf}
+use Rattle.tree_reading.specs.Tree.{Row, none, line, node, numbers, tree_numbers, Fits, levels}
 use Rattle.tree_reading.specs.Choices.{max_choices, unit_of, count, here, overs, overs_of, lowest}
 use Rattle.tree_reading.specs.declared.TreeRefusal.TheVariants.{TooManyChoices}
 use Rattle.tree_reading.specs.declared.Node.{Node}
-use Rattle.tree_reading.specs.declared.Reading.{Reading}
-use Rattle.tree_reading.specs.declared.Reading.TheVariants.{Read, Refused}
 use Rattle.tree_reading.specs.Reading.{cap, begun, with_child, finished, tree_of, few_choices_lem, valid_tree_lem}
 use Rattle.tree_reading.specs.Whole.{tree_valid}
 use Rattle.tree_reading.specs.Accepted.{after, root_of, after_end, IsTree, accepted, read_back}
@@ -53,7 +54,7 @@ below_overs at (node l c r) =
     below_append d (here (count l c) at ++ overs (at + 2) c) _ (below_append d (here (count l c) at) (overs (at + 2) c) p q) u
 
 pub below_overs_of : (t : Row) → Below (length (tree_numbers t)) (overs_of t)
-below_overs_of t = below_append _ (here (count all t) 0) (overs 2 t) (below_here (count all t) 0 _ (omega arith)) (below_more _ _ (overs 2 t) (omega arith) (below_overs 2 t))
+below_overs_of t = below_append _ (here (count AllOf t) 0) (overs 2 t) (below_here (count AllOf t) 0 _ (omega arith)) (below_more _ _ (overs 2 t) (omega arith) (below_overs 2 t))
 
 lowest_below : (d x : ℕ) (xs : List ℕ) → Below d (x ∷ xs) → lowest d (x ∷ xs) < d
 lowest_below d x xs h = omega (arith, h.0)
@@ -83,7 +84,7 @@ module _ (s : List ℕ) where
       omega (arith, lowest_append (length s) (here (count l c) e ++ overs (e + 2) c) (overs (e + 2 + length (numbers c)) r))
 
   pub root_over : (t : Row) → (root_of s t).over ≡ lowest (length s) (overs_of t)
-  root_over t = node_over (count all t) 0 (after s all (begun s 0 (unit_of all)) t) (overs 2 t) (root_choices s t) (omega (arith, after_over all (begun s 0 (unit_of all)) t (omega arith), lowest_le (length s) (overs 2 t)))
+  root_over t = node_over (count AllOf t) 0 (after s AllOf (begun s 0 (unit_of AllOf)) t) (overs 2 t) (root_choices s t) (omega (arith, after_over AllOf (begun s 0 (unit_of AllOf)) t (omega arith), lowest_le (length s) (overs 2 t)))
 
 -- ---- they rise, so that the first in reading order is the lowest
 abbrev Rising : ℕ → List ℕ → Type 0
@@ -116,7 +117,7 @@ rising_overs at (node l c r) =
     rising_append at e (h ++ overs (at + 2) c) (overs e r) (omega arith) p b (rising_overs e r)
 
 rising_overs_of : (t : Row) → Rising 0 (overs_of t)
-rising_overs_of t = rising_append 0 2 (here (count all t) 0) (overs 2 t) (omega arith) (rising_here (count all t) 0) (below_here (count all t) 0 2 (omega arith)) (rising_overs 2 t)
+rising_overs_of t = rising_append 0 2 (here (count AllOf t) 0) (overs 2 t) (omega arith) (rising_here (count AllOf t) 0) (below_here (count AllOf t) 0 2 (omega arith)) (rising_overs 2 t)
 
 lowest_rising : (d x : ℕ) (xs : List ℕ) → x ≤ d → Rising x xs → x ≤ lowest d xs
 lowest_rising d x [] l h = l
@@ -126,20 +127,20 @@ first_lowest : (d x : ℕ) (xs : List ℕ) → x ≤ d → Rising x xs → lowes
 first_lowest d x xs l h = omega (arith, lowest_rising d x xs l h)
 
 -- ---- the refusal of a tree, or its number of choices
-few_choices : (t : Row) → overs_of t ≡ [] → count all t ≤ max_choices
-few_choices t e = go (ltb max_choices (count all t)) refl e
+few_choices : (t : Row) → overs_of t ≡ [] → count AllOf t ≤ max_choices
+few_choices t e = go (ltb max_choices (count AllOf t)) refl e
   where
-    go : (u : Bool) → ltb max_choices (count all t) ≡ u → cond u (0 ∷ []) [] ++ overs 2 t ≡ [] → count all t ≤ max_choices
+    go : (u : Bool) → ltb max_choices (count AllOf t) ≡ u → cond u (0 ∷ []) [] ++ overs 2 t ≡ [] → count AllOf t ≤ max_choices
     go true p q = never (cc)
-    go false p q = ltb-false max_choices (count all t) p
+    go false p q = ltb-false max_choices (count AllOf t) p
 
 -- s are the numbers of a tree with at most the most choices at each node, and b has where it ends and its number of choices
 pub record IsValid (s : List ℕ) (m : ℕ) (b : Node) : Type 0 where
   pub read : IsTree s m b
   pub few : overs_of read.tree ≡ []
-  pub counted : b.choices ≡ count all read.tree
+  pub counted : b.choices ≡ count AllOf read.tree
 
-pub valid : (s : List ℕ) (m : ℕ) (b : Node) → valid_tree_lem s m ≡ Read b → IsValid s m b
+pub valid : (s : List ℕ) (m : ℕ) (b : Node) → valid_tree_lem s m ≡ Ok b → IsValid s m b
 unfolding valid_tree_lem
 valid s m b = go (tree_of s m) refl
   where
@@ -155,29 +156,29 @@ valid s m b = go (tree_of s m) refl
         let e : overs_of t.tree ≡ [] = none_over t h (overs_of t.tree) refl in
         record { read = t; few = e; counted = ap (λ (n : Node). n.choices) t.same ∙ root_choices s t.tree ∙ omega (arith, few_choices t.tree e) }
 
-    last : (x : Node) → tree_of s m ≡ Read x → (u : Bool) → ltb x.over (length s) ≡ u → cond u (Refused (TooManyChoices x.over)) (Read x) ≡ Read b → IsValid s m b
+    last : (x : Node) → tree_of s m ≡ Ok x → (u : Bool) → ltb x.over (length s) ≡ u → cond u (Err (TooManyChoices x.over)) (Ok x) ≡ Ok b → IsValid s m b
     last x p true q e = never (cc)
     last x p false q e =
         let j : x ≡ b = cc in
         let i : length s ≤ x.over = ltb-false _ _ q in
-        whole (accepted s m b (p ∙ ap Read j)) (subst (λ (n : Node). length s ≤ n.over) j i)
+        whole (accepted s m b (p ∙ ap Ok j)) (subst (λ (n : Node). length s ≤ n.over) j i)
 
-    go : (r : Reading) → tree_of s m ≡ r → few_choices_lem s r ≡ Read b → IsValid s m b
-    go (Read x) p e = last x p (ltb x.over (length s)) refl e
-    go (Refused r) p e = never (cc)
+    go : (r : Result Node TreeRefusal) → tree_of s m ≡ r → few_choices_lem s r ≡ Ok b → IsValid s m b
+    go (Ok x) p e = last x p (ltb x.over (length s)) refl e
+    go (Err r) p e = never (cc)
 
-module _ (t : Row) (m : ℕ) (f : Fits m all levels t) where
-  pub valid_back : overs_of t ≡ [] → valid_tree_lem (tree_numbers t) m ≡ Read (root_of (tree_numbers t) t)
+module _ (t : Row) (m : ℕ) (f : Fits m AllOf levels t) where
+  pub valid_back : overs_of t ≡ [] → valid_tree_lem (tree_numbers t) m ≡ Ok (root_of (tree_numbers t) t)
   valid_back e =
       let s : List ℕ = tree_numbers t in
       let h : length s ≤ (root_of s t).over = omega (arith, root_over s t ∙ ap (lowest (length s)) e) in
       tree_valid s m _ (read_back t m f) ∙ rw (le-ltb _ _ h)
 
-  pub too_many : (x : ℕ) (xs : List ℕ) → overs_of t ≡ x ∷ xs → valid_tree_lem (tree_numbers t) m ≡ Refused (TooManyChoices x)
+  pub too_many : (x : ℕ) (xs : List ℕ) → overs_of t ≡ x ∷ xs → valid_tree_lem (tree_numbers t) m ≡ Err (TooManyChoices x)
   too_many x xs e =
       let s : List ℕ = tree_numbers t in
       let b : Below (length s) (x ∷ xs) = subst (Below (length s)) e (below_overs_of t) in
       let r : Rising 0 (x ∷ xs) = subst (Rising 0) e (rising_overs_of t) in
       let q : (root_of s t).over ≡ x = root_over s t ∙ ap (lowest (length s)) e ∙ first_lowest (length s) x xs (omega (arith, b.0)) r.1 in
       let h : (root_of s t).over < length s = omega (arith, b.0) in
-      tree_valid s m _ (read_back t m f) ∙ rw (lt-ltb _ _ h) (ap (λ (j : ℕ). Refused (TooManyChoices j)) q)
+      tree_valid s m _ (read_back t m f) ∙ rw (lt-ltb _ _ h) (ap (λ (j : ℕ). Err (TooManyChoices j)) q)

@@ -1,7 +1,8 @@
 -- What it means that a tree fits, rule by rule: the kinds alternate, the depth is at most 8, the lines are in the list.
 use Rattle.std.specs.Prelude.{◌≡◌, ℕ, zero, suc, ◌<◌, ◌≤◌, max}
 use Rattle.std.proofs.Common.{arith}
-use Rattle.tree_reading.specs.Tree.{Kind, Row, none, line, node, other, max_depth, Fits, levels}
+use Rattle.tree_reading.specs.declared.Kind.{Kind}
+use Rattle.tree_reading.specs.Tree.{Row, none, line, node, other, max_depth, Fits, levels}
 
 -- all-of nodes hold any-of nodes, and the other way round
 abbrev pub Alternates : Kind → Row → Type 0

@@ -1,9 +1,7 @@
 -- Trees over the lines of a list: their numbers in reading order, and which of them fit.
 use Rattle.std.specs.Prelude.{List, [], ◌∷◌, ◌++◌, ◌≡◌, ℕ, zero, suc, ◌-◌, ◌<◌}
-
--- a node asks for all of its children, or for any one of them
-pub data Kind : Type 0 where
-  all any : Kind
+use Rattle.tree_reading.specs.declared.Kind.{Kind}
+use Rattle.tree_reading.specs.declared.Kind.TheVariants.{AllOf, AnyOf}
 
 -- The children of a node, in their order: none; a line and the children after it; a node of this kind with these
 -- children, and the children after it. The root is all-of, so that a tree is the row of its root's children.
@@ -14,13 +12,13 @@ pub data Row : Type 0 where
 
 -- the other kind: all-of nodes hold any-of nodes, any-of nodes hold all-of nodes
 abbrev pub other : Kind → Kind
-other all = any
-other any = all
+other AllOf = AnyOf
+other AnyOf = AllOf
 
 -- the first number of an all-of, of an any-of, and of a line
 abbrev pub code_of : Kind → ℕ
-code_of all = 1
-code_of any = 2
+code_of AllOf = 1
+code_of AnyOf = 2
 
 abbrev pub line_code_lem : ℕ
 line_code_lem = 3
@@ -46,7 +44,7 @@ numbers (line i r) = line_code_lem ∷ i ∷ numbers r
 numbers (node k c r) = code_of k ∷ size c ∷ (numbers c ++ numbers r)
 
 abbrev pub tree_numbers : Row → List ℕ
-tree_numbers t = code_of all ∷ size t ∷ numbers t
+tree_numbers t = code_of AllOf ∷ size t ∷ numbers t
 
 -- These may be the children of a node of kind k that has d levels below it, in a list of m lines: the kinds alternate,
 -- nothing is too deep, and each line is in the list.

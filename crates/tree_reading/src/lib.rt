@@ -3,20 +3,23 @@
 
 #![tactic(auto)]
 
-ghost use Rattle.std.specs.Prelude.{◌≡◌, ◌<◌, min, length};
-ghost use Rattle.tree_reading.specs.Tree.{all, any};
+ghost use Rattle.std.specs.Prelude.{◌≡◌, ◌+◌, ◌<◌, length, Ok};
+ghost use Rattle.tree_reading.specs.declared.Kind.TheVariants.{AllOf, AnyOf};
+ghost use Rattle.tree_reading.specs.Tree.{code_of};
 ghost use Rattle.tree_reading.specs.Refusal.{tree_number, tree_place};
 ghost use Rattle.tree_reading.specs.Reading as read;
-ghost use Rattle.tree_reading.specs.declared.Reading.TheVariants.{Read};
 
 use lines::{Numbered, numbered_at};
 
-// The first number of an all-of, an any-of and a line.
-pub const ALL_OF: u32 = 1;
+// A node asks for all of its children, or for any one of them. The number of its kind is its first one.
+#[derive(Clone, Copy)]
+pub enum Kind {
+    AllOf = 1,
+    AnyOf = 2,
+}
 
-pub const ANY_OF: u32 = 2;
-
-pub const LINE: u32 = 3;
+// The first number of a line.
+const LINE: u32 = 3;
 // The greatest depth.
 pub const MAX_DEPTH: usize = 8;
 // The most choices of a node.
@@ -31,12 +34,11 @@ pub enum TreeRefusal {
     NoSuchChoice,
 }
 
-// What the first two numbers of a node say: a line, a number of children, or a refusal.
+// What the first two numbers of a node say: a line, or a number of children.
 #[derive(Clone, Copy)]
 pub enum Head {
     Line,
     Children(u32),
-    Wrong(TreeRefusal),
 }
 
 // A node that was read: where the next one begins, its choices (one above the most for any higher number), and the first
@@ -46,12 +48,6 @@ pub struct Node {
     pub end: usize,
     pub choices: usize,
     pub over: usize,
-}
-
-#[derive(Clone, Copy)]
-pub enum Reading {
-    Read(Node),
-    Refused(TreeRefusal),
 }
 
 // The number and the place of each refusal; 43 has none, which is 0.
@@ -74,221 +70,198 @@ pub fn as_index(x: u32) -> usize
 }
 
 // A number of choices, or one above the most for any higher one.
-fn capped(n: usize) -> usize
-    ensures { result ≡ read.cap n }
+fn capped(choices: usize) -> usize
+    ensures { result ≡ read.cap choices }
 {
-    if n > MAX_CHOICES {
-        return MAX_CHOICES + 1;
-    }
-    n
+    choices.min(MAX_CHOICES + 1)
 }
 
-// The lower of two.
-fn least(a: usize, b: usize) -> usize
-    ensures { result ≡ min a b }
-{
-    if b < a {
-        return b;
+impl Node {
+    // A line, or a node before its first child: what stands behind its first two numbers, with so many choices.
+    fn begun(numbers: &[u32], at: usize, choices: usize) -> Node
+        requires { at + 1 < length numbers.now }
+        ensures { result ≡ read.begun numbers.now at choices }
+    {
+        Node {
+            end: at + 2,
+            choices,
+            over: numbers.len(),
+        }
     }
-    a
-}
 
-// One more child of an all-of.
-fn with_factor(node: Node, child: Node) -> Node
-    ensures { result ≡ read.with_child all node child }
-{
-    Node {
-        end: child.end,
-        choices: capped(capped(node.choices) * capped(child.choices)),
-        over: least(node.over, child.over),
+    // A node of this kind with one more child.
+    fn with_child(self, kind: Kind, child: Node) -> Node
+        ensures { result ≡ read.with_child kind self child }
+    {
+        let before = capped(self.choices);
+        let more = capped(child.choices);
+        let choices = match kind {
+            Kind::AllOf => before * more,
+            Kind::AnyOf => before + more,
+        };
+        Node {
+            end: child.end,
+            choices: capped(choices),
+            over: self.over.min(child.over),
+        }
     }
-}
 
-// One more child of an any-of.
-fn with_branch(node: Node, child: Node) -> Node
-    ensures { result ≡ read.with_child any node child }
-{
-    Node {
-        end: child.end,
-        choices: capped(capped(node.choices) + capped(child.choices)),
-        over: least(node.over, child.over),
+    // The node at `at`, after its last child: it may itself have too many choices.
+    fn finished(mut self, at: usize) -> Node
+        ensures { result ≡ read.finished at self }
+    {
+        if self.choices > MAX_CHOICES {
+            self.over = at.min(self.over);
+        }
+        self
     }
-}
-
-// After the last child: the node itself may have too many choices.
-fn finished(at: usize, mut node: Node) -> Node
-    ensures { result ≡ read.finished at node }
-{
-    if node.choices > MAX_CHOICES {
-        node.over = least(at, node.over);
-    }
-    node
 }
 
 // A line's number, which is in the list, or 41 at it.
-fn line_head(numbers: &[u32], lines: usize, at: usize) -> Head
+#[tactic(auto, unfolding(crate::specs::Reading::line_head_lem))]
+fn line_head(numbers: &[u32], lines: usize, at: usize) -> Result<Head, TreeRefusal>
     requires { at < length numbers.now }
     ensures { result ≡ read.line_head_lem numbers.now lines at }
 {
     if at + 1 >= numbers.len() {
-        return Head::Wrong(TreeRefusal::Malformed(numbers.len()));
+        return Err(TreeRefusal::Malformed(numbers.len()));
     }
     if as_index(numbers[at + 1]) >= lines {
-        return Head::Wrong(TreeRefusal::Malformed(at + 1));
+        return Err(TreeRefusal::Malformed(at + 1));
     }
-    Head::Line
+    Ok(Head::Line)
 }
 
 // A number of children, any at all.
-fn children_head(numbers: &[u32], at: usize) -> Head
+#[tactic(auto, unfolding(crate::specs::Reading::children_head_lem))]
+fn children_head(numbers: &[u32], at: usize) -> Result<Head, TreeRefusal>
     requires { at < length numbers.now }
     ensures { result ≡ read.children_head_lem numbers.now at }
 {
     if at + 1 >= numbers.len() {
-        return Head::Wrong(TreeRefusal::Malformed(numbers.len()));
+        return Err(TreeRefusal::Malformed(numbers.len()));
     }
-    Head::Children(numbers[at + 1])
+    Ok(Head::Children(numbers[at + 1]))
 }
 
 // What stands at `at`, where a line or a node of this kind may stand, with `depth` levels left: 41 at a cut, 42, 41 for a
 // kind that may not stand there, then the second number.
-pub fn head_at(numbers: &[u32], lines: usize, depth: usize, kind: u32, at: usize) -> Head
-    ensures { result ≡ read.head_of numbers.now lines depth kind at }
+#[tactic(auto, unfolding(crate::specs::Reading::head_of))]
+pub fn head_at(
+    numbers: &[u32],
+    lines: usize,
+    depth: usize,
+    kind: Kind,
+    at: usize,
+) -> Result<Head, TreeRefusal>
+    ensures { result ≡ read.head_of numbers.now lines depth (code_of kind) at }
 {
     if at >= numbers.len() {
-        return Head::Wrong(TreeRefusal::Malformed(numbers.len()));
+        return Err(TreeRefusal::Malformed(numbers.len()));
     }
     if depth == 0 {
-        return Head::Wrong(TreeRefusal::TooDeep(at));
+        return Err(TreeRefusal::TooDeep(at));
     }
     if numbers[at] == LINE {
         return line_head(numbers, lines, at);
     }
-    if numbers[at] == kind {
+    if numbers[at] == kind as u32 {
         return children_head(numbers, at);
     }
-    Head::Wrong(TreeRefusal::Malformed(at))
+    Err(TreeRefusal::Malformed(at))
 }
 
-// A line or an all-of, with `depth` levels left.
+// A line or an all-of, which holds any-ofs one level down: two functions that call each other, the form that was asked for.
 #[cycle(read_all_of_read_any_of)]
-pub fn read_all_of(numbers: &[u32], lines: usize, depth: usize, at: usize) -> Reading
-    ensures { result ≡ read.node_of numbers.now lines depth all at }
+pub fn read_all_of(
+    numbers: &[u32],
+    lines: usize,
+    depth: usize,
+    at: usize,
+) -> Result<Node, TreeRefusal>
+    ensures { result ≡ read.node_of numbers.now lines depth AllOf at }
 {
-    match head_at(numbers, lines, depth, ALL_OF, at) {
-        Head::Wrong(r) => Reading::Refused(r),
-        Head::Line => Reading::Read(Node {
-            end: at + 2,
-            choices: 1,
-            over: numbers.len(),
-        }),
+    match head_at(numbers, lines, depth, Kind::AllOf, at)? {
+        Head::Line => Ok(Node::begun(numbers, at, 1)),
         Head::Children(count) => {
-            let mut node = Node {
-                end: at + 2,
-                choices: 1,
-                over: numbers.len(),
-            };
-            let mut left = count;
-            while left > 0 {
-                match read_any_of(numbers, lines, depth - 1, node.end) {
-                    Reading::Read(child) => {
-                        node = with_factor(node, child);
-                    }
-                    Reading::Refused(r) => {
-                        return Reading::Refused(r);
-                    }
-                }
-                left -= 1;
+            let mut node = Node::begun(numbers, at, 1);
+            for _ in 0..count {
+                let child = read_any_of(numbers, lines, depth - 1, node.end)?;
+                node = node.with_child(Kind::AllOf, child);
             }
-            Reading::Read(finished(at, node))
+            Ok(node.finished(at))
         }
     }
 }
 
-// A line or an any-of, with `depth` levels left.
+// A line or an any-of, which holds all-ofs one level down.
 #[cycle(read_all_of_read_any_of)]
-pub fn read_any_of(numbers: &[u32], lines: usize, depth: usize, at: usize) -> Reading
-    ensures { result ≡ read.node_of numbers.now lines depth any at }
+pub fn read_any_of(
+    numbers: &[u32],
+    lines: usize,
+    depth: usize,
+    at: usize,
+) -> Result<Node, TreeRefusal>
+    ensures { result ≡ read.node_of numbers.now lines depth AnyOf at }
 {
-    match head_at(numbers, lines, depth, ANY_OF, at) {
-        Head::Wrong(r) => Reading::Refused(r),
-        Head::Line => Reading::Read(Node {
-            end: at + 2,
-            choices: 1,
-            over: numbers.len(),
-        }),
+    match head_at(numbers, lines, depth, Kind::AnyOf, at)? {
+        Head::Line => Ok(Node::begun(numbers, at, 1)),
         Head::Children(count) => {
-            let mut node = Node {
-                end: at + 2,
-                choices: 0,
-                over: numbers.len(),
-            };
-            let mut left = count;
-            while left > 0 {
-                match read_all_of(numbers, lines, depth - 1, node.end) {
-                    Reading::Read(child) => {
-                        node = with_branch(node, child);
-                    }
-                    Reading::Refused(r) => {
-                        return Reading::Refused(r);
-                    }
-                }
-                left -= 1;
+            let mut node = Node::begun(numbers, at, 0);
+            for _ in 0..count {
+                let child = read_all_of(numbers, lines, depth - 1, node.end)?;
+                node = node.with_child(Kind::AnyOf, child);
             }
-            Reading::Read(finished(at, node))
+            Ok(node.finished(at))
         }
     }
 }
 
 // Whether a line stands where the root should.
+#[tactic(auto, unfolding(crate::specs::Reading::root_is_line_lem))]
 fn root_is_line(numbers: &[u32]) -> bool
     ensures { result ≡ read.root_is_line_lem numbers.now }
 {
-    if numbers.len() == 0 {
-        return false;
-    }
-    numbers[0] == LINE
+    !numbers.is_empty() && numbers[0] == LINE
 }
 
 // 41 at the first number left over.
-fn whole_tree(numbers: &[u32], node: Node) -> Reading
-    ensures { result ≡ read.whole_tree_lem numbers.now (Read node) }
+fn whole_tree(numbers: &[u32], node: Node) -> Result<Node, TreeRefusal>
+    ensures { result ≡ read.whole_tree_lem numbers.now (Ok node) }
 {
     if node.end < numbers.len() {
-        return Reading::Refused(TreeRefusal::Malformed(node.end));
+        return Err(TreeRefusal::Malformed(node.end));
     }
-    Reading::Read(node)
+    Ok(node)
 }
 
 // 40 at the first node with more than the most choices.
-fn few_choices(numbers: &[u32], node: Node) -> Reading
-    ensures { result ≡ read.few_choices_lem numbers.now (Read node) }
+fn few_choices(numbers: &[u32], node: Node) -> Result<Node, TreeRefusal>
+    ensures { result ≡ read.few_choices_lem numbers.now (Ok node) }
 {
     if node.over < numbers.len() {
-        return Reading::Refused(TreeRefusal::TooManyChoices(node.over));
+        return Err(TreeRefusal::TooManyChoices(node.over));
     }
-    Reading::Read(node)
+    Ok(node)
 }
 
 // The whole tree, which is an all-of and no line: 41 and 42.
-pub fn read_tree(numbers: &[u32], lines: usize) -> Reading
+#[tactic(auto, unfolding(crate::specs::Reading::tree_of))]
+pub fn read_tree(numbers: &[u32], lines: usize) -> Result<Node, TreeRefusal>
     ensures { result ≡ read.tree_of numbers.now lines }
 {
     if root_is_line(numbers) {
-        return Reading::Refused(TreeRefusal::Malformed(0));
+        return Err(TreeRefusal::Malformed(0));
     }
-    match read_all_of(numbers, lines, MAX_DEPTH, 0) {
-        Reading::Refused(r) => Reading::Refused(r),
-        Reading::Read(node) => whole_tree(numbers, node),
-    }
+    let root = read_all_of(numbers, lines, MAX_DEPTH, 0)?;
+    whole_tree(numbers, root)
 }
 
 // All refusals of a tree, in their order: 41 and 42, then 40.
-pub fn valid_tree(numbers: &[u32], lines: usize) -> Reading
+#[tactic(auto, unfolding(crate::specs::Reading::valid_tree_lem))]
+pub fn valid_tree(numbers: &[u32], lines: usize) -> Result<Node, TreeRefusal>
     ensures { result ≡ read.valid_tree_lem numbers.now lines }
 {
-    match read_tree(numbers, lines) {
-        Reading::Refused(r) => Reading::Refused(r),
-        Reading::Read(node) => few_choices(numbers, node),
-    }
+    let root = read_tree(numbers, lines)?;
+    few_choices(numbers, root)
 }

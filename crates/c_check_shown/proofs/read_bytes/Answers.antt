@@ -18,11 +18,11 @@ use Rattle.c_check_shown.proofs.read_bytes.Goals as goal
 pub loop-i-init : goal.loop-i-init
 unfolding run first_of
 loop-i-init c =
-    let e = c.new-s.ensures in
+    let e = c.new-progress.ensures in
     (omega arith, e, rw e (start_small max_weight), ap (λ (s : Progress). s.read) e)
 
-pub take-s-requires : goal.take-s-requires
-take-s-requires c =
+pub take-progress-requires : goal.take-progress-requires
+take-progress-requires c =
     (c.requires.0 _, c.loop-i.invariant.2, omega arith)
 
 pub loop-i-preserved : goal.loop-i-preserved
@@ -33,12 +33,12 @@ loop-i-preserved c =
     let x : ℕ = c.u32_at.result in
     let is : x ≡ le32 b (number_bytes * i) = c.u32_at.ensures in (
       omega arith,
-      c.take-s.ensures
+      c.take-progress.ensures
           ∙ ap₂ (λ (s : Progress) (y : ℕ). advance list s y) c.loop-i.invariant.1 is
           ∙ sym (run_snoc list start (first_of number_bytes le32 b i) (le32 b (number_bytes * i)))
           ∙ ap (run list start) (next number_bytes le32 b i),
-      rw c.take-s.ensures (advance_small max_weight c.loop-i.s c.loop-i.invariant.2 (omega arith) list x (λ t. numbered_weight max_variables list x t (c.requires.0 _)) c.u32_at.type_inv),
-      ap (λ (s : Progress). s.read) c.take-s.ensures ∙ advance_read list c.loop-i.s x ∙ ap (λ (m : ℕ). m + 1) c.loop-i.invariant.3,
+      rw c.take-progress.ensures (advance_small max_weight c.loop-i.progress c.loop-i.invariant.2 (omega arith) list x (λ t. numbered_weight max_variables list x t (c.requires.0 _)) c.u32_at.type_inv),
+      ap (λ (s : Progress). s.read) c.take-progress.ensures ∙ advance_read list c.loop-i.progress x ∙ ap (λ (m : ℕ). m + 1) c.loop-i.invariant.3,
     )
 
 pub returns : goal.returns

@@ -14,7 +14,7 @@ use Rattle.c_checking.proofs.take_bytes.Goals as goal
 
 pub loop-i-init : goal.loop-i-init
 unfolding first_of take_all
-loop-i-init c = (omega arith, c.begin-kept.ensures, tt)
+loop-i-init c = (c.begin-kept.ensures, tt)
 
 pub loop-i-preserved : goal.loop-i-preserved
 loop-i-preserved c =
@@ -24,15 +24,14 @@ loop-i-preserved c =
     let r : ℕ = c.u32_at.result in
     let is : r ≡ le32 b (number_bytes * i) = c.u32_at.ensures in
     let more = next number_bytes le32 b i in (
-      omega arith,
       c.take_on-kept.ensures
-          ∙ ap₂ (λ (k : Progress) (x : ℕ). take_on_lem L k x) c.loop-i.invariant.1 is
+          ∙ ap₂ (λ (k : Progress) (x : ℕ). take_on_lem L k x) c.loop-i.invariant.0 is
           ∙ sym (take_snoc L start (first_of number_bytes le32 b i) (le32 b (number_bytes * i)))
           ∙ ap (take_all L start) more,
-      rw (← more) (words_snoc (first_of number_bytes le32 b i) (le32 b (number_bytes * i)) c.loop-i.invariant.2 (rw (← is) c.u32_at.type_inv)),
+      rw (← more) (words_snoc (first_of number_bytes le32 b i) (le32 b (number_bytes * i)) c.loop-i.invariant.1 (rw (← is) c.u32_at.type_inv)),
     )
 
 pub returns : goal.returns
 returns c =
     let e : c.loop-i.i ≡ length c.args.refutation.now / number_bytes = omega arith in
-    rw (← e) (c.loop-i.invariant.1, c.loop-i.invariant.2)
+    rw (← e) (c.loop-i.invariant.0, c.loop-i.invariant.1)

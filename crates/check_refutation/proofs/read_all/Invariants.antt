@@ -1,15 +1,10 @@
--- What the loops of `check_refutation::read_all` keep.
-use mathlib.Core.Path.{◌≡◌}
-use Prim.Native.Nat.{◌-◌, ◌≤◌}
-use lib.ListN.{length, take}
+-- What the loop of `check_refutation::read_all` keeps: the progress is that after the first numbers, is small, and has counted them.
+use Rattle.std.specs.Prelude.{◌≡◌, take}
 use Rattle.steps.specs.Step.{max_weight}
 use Rattle.check_refutation.specs.Progress.{start, run}
 use Rattle.check_refutation.specs.Small.{Small}
 use Rattle.check_refutation.proofs.read_all.Given as goal
 
--- `check_refutation::read_all` meets its contract. The invariant: s is the progress after the first i numbers, is small, and has counted i.
-abbrev pub invariant-loop-i : goal.invariant-loop-i
-invariant-loop-i l = (l.i ≤ length l.refutation) × (l.s ≡ run l.list start (take l.i l.refutation)) × Small max_weight l.s × (l.s.read ≡ l.i)
-
-abbrev pub decreases-loop-i : goal.decreases-loop-i
-decreases-loop-i l = length l.refutation - l.i
+abbrev pub invariant-loop-number : goal.invariant-loop-number
+invariant-loop-number l =
+    record { run : l.progress ≡ run l.list start (take l.number-index l.refutation); small : Small max_weight l.progress; read : l.progress.read ≡ l.number-index }

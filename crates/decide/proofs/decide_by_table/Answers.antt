@@ -17,9 +17,8 @@ pub refuted-requires : goal.refuted-requires
 refuted-requires c = search_ready _ _ (held (goal.at.refuted-requires c).Start) c.requires
 
 -- the search is done
-module _ (r : After-refuted) where
-  abbrev lent : Lent
-  lent = held (goal.at.After-refuted r).Start
+abbrev lent : After-refuted → Lent
+lent r = held (goal.at.After-refuted r).Start
 
 pub write_identifiers-requires : goal.write_identifiers-requires
 write_identifiers-requires c =

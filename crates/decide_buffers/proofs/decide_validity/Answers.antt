@@ -1,55 +1,47 @@
 -- `decide_buffers::decide_validity` meets its contract: what is found of the list goes first.
+use Rattle.std.proofs.lemmas.Result.{err_from_is_err_and}
+use Rattle.std.specs.Prelude.{Ok, Result}
+use Rattle.lines.specs.declared.Refusal.{Refusal}
 use mathlib.Core.Path.{◌≡◌, sym, ap, ◌∙◌}
 use mathlib.Core.List.{List}
 use Prim.Native.Nat.{ℕ, ◌≤◌}
 use lib.IntN.{ℤ}
-use Rattle.lines.specs.declared.Validity.{Validity}
-use Rattle.lines.specs.declared.Validity.TheVariants.{Valid}
 use Rattle.lines.specs.Limits.{max_variables}
-use Rattle.lines.specs.Refusal.{◌or_else◌}
+use Rattle.lines.specs.Refusal.{◌or_else◌, validity_of}
 use Rattle.lines.specs.Valid.{valid_list}
-use Rattle.decide_buffers.specs.Room.{Lengths, lent_rooms_by, first_short, rooms_validity, decide_validity_lem}
-use Rattle.decide_buffers.proofs.decide_validity.Goals.{After-list_validity-found}
+use Rattle.decide_buffers.specs.declared.Lengths.{Lengths}
+use Rattle.decide_buffers.specs.Room.{lent_rooms_by, first_short, rooms_validity, decide_validity_lem}
+use Rattle.decide_buffers.proofs.decide_validity.Goals.{In_ok-list_validity}
 use Rattle.decide_buffers.proofs.decide_validity.Goals as goal
 
--- `decide_buffers::decide_validity` meets its contract: what is found of the list goes first.
--- what is found, by what the call found of the list
-module _ (v : After-list_validity-found) where
-  abbrev n : ℕ
-  n = v.args.n
+-- what is found, by what is found of the list
+found : (n : ℕ) (L : List ℤ) (s : Lengths) (u : Result Unit Refusal) → validity_of n L ≡ u → decide_validity_lem n L s ≡ (u or_else rooms_validity n s)
+unfolding decide_validity_lem
+found n L s u e = ap (λ (t : Result Unit Refusal). t or_else rooms_validity n s) e
 
-  abbrev list : List ℤ
-  list = v.args.list.now
+pub returns-in_err-list_validity : goal.returns-in_err-list_validity
+returns-in_err-list_validity c =
+    let p = err_from_is_err_and c.from_residual.result c.from_residual.ensures.1 in
+    rw (p.1, p.2) (sym (found c.args.n c.args.list.now c.args.lengths _ (sym c.list_validity.ensures ∙ c.in_err-list_validity.was)))
 
-  abbrev lengths : Lengths
-  lengths =
-      record {
-        model = v.args.model;
-        bounds = v.args.bounds;
-        groups = v.args.groups;
-        refutation = v.args.refutation;
-        identifiers = v.args.identifiers;
-        work = v.args.work;
-      }
+-- the list is valid, so that it has few variables
+module _ (c : In_ok-list_validity) where
+  valid : validity_of c.args.n c.args.list.now ≡ Ok tt
+  valid = sym c.list_validity.ensures ∙ c.in_ok-list_validity.was
 
-  found : (u : Validity) → v.list_validity-found.result ≡ u → decide_validity_lem n list lengths ≡ (u or_else rooms_validity n lengths)
-  unfolding decide_validity_lem
-  found u e = ap (λ (t : Validity). t or_else rooms_validity n lengths) (sym v.list_validity-found.ensures ∙ e)
-
-pub returns-in-Refused : goal.returns-in-Refused
-returns-in-Refused c = sym (found (goal.at.returns-in-Refused c).After-list_validity-found _ c.in-Refused.is)
-
--- a valid list has few variables
-few : (v : After-list_validity-found) → v.list_validity-found.result ≡ Valid → v.args.n ≤ max_variables
-few v e = (valid_list _ _ (sym v.list_validity-found.ensures ∙ e)).variables
+  few : c.args.n ≤ max_variables
+  few = (valid_list _ _ valid).variables
 
 pub work_room-requires : goal.work_room-requires
-work_room-requires c = few (goal.at.work_room-requires c).After-list_validity-found c.in_default.is
+work_room-requires c = few c
 
 pub rooms_validity-requires : goal.rooms_validity-requires
-rooms_validity-requires c = few (goal.at.rooms_validity-requires c).After-list_validity-found c.in_default.is
+rooms_validity-requires c = few (goal.at.rooms_validity-requires c).In_ok-list_validity
 
 pub returns : goal.returns
 unfolding rooms_validity
 returns c =
-    sym (found (goal.at.returns c).After-list_validity-found _ c.in_default.is ∙ ap (λ (k : ℕ). first_short (lent_rooms_by (λ _. k)) (n (goal.at.returns c).After-list_validity-found) (lengths (goal.at.returns c).After-list_validity-found)) (sym c.work_room.ensures) ∙ sym c.rooms_validity.ensures)
+    let a = c.args in
+    c.rooms_validity.ensures
+    ∙ ap (λ (k : ℕ). first_short (lent_rooms_by (λ _. k)) a.n a.lengths) c.work_room.ensures
+    ∙ sym (found a.n a.list.now a.lengths _ (valid (goal.at.returns c).In_ok-list_validity))

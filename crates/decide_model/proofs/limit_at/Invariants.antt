@@ -10,6 +10,3 @@ use Rattle.decide_model.proofs.limit_at.Given as goal
 -- `decide_model::limit_at` meets its contract. The invariant: the limit, given the values of the variables below x.
 abbrev pub invariant-loop-x : goal.invariant-loop-x
 invariant-loop-x l = (l.x ≤ length l.values) × (l.limit ≡ stored (limit_of (by_rows (2 * l.n) l.table) l.values l.x l.p))
-
-abbrev pub decreases-loop-x : goal.decreases-loop-x
-decreases-loop-x l = length l.values - l.x

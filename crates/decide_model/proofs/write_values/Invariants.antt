@@ -10,6 +10,3 @@ use Rattle.decide_model.proofs.write_values.Given as goal
 -- `decide_model::write_values` meets its contract. The invariant: the first k values are written, and what lies beyond is as it was.
 abbrev pub invariant-loop-k : goal.invariant-loop-k
 invariant-loop-k l = (l.k ≤ l.n) × (length l.model ≡ length l.initial.model) × (l.model ≡ values_of (by_rows (2 * l.n) l.table) l.k ++ drop l.k l.initial.model)
-
-abbrev pub decreases-loop-k : goal.decreases-loop-k
-decreases-loop-k l = l.n - l.k

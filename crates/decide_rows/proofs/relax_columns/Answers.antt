@@ -1,5 +1,5 @@
--- `decide_rows::relax_columns` meets its contract. The invariant: the step was gone in the columns 0 to j - 1.
-use mathlib.Core.Path.{◌≡◌, refl, ◌∙◌}
+-- `decide_rows::relax_columns` meets its contract.
+use mathlib.Core.Path.{◌≡◌}
 use native.Mathlib.Omega.{arith}
 use mir.Syntax.{w64}
 use mir.Val.{to_z, of_z}
@@ -21,7 +21,7 @@ overflow_mul-to c = record { fits = omega (arith, c.requires.to_fits, c.ranges.s
 
 pub loop-j-init : goal.loop-j-init
 loop-j-init c =
-    (refl, across_start c.args.size c.args.width c.args.step c.args.rows.now c.requires)
+    across_start c.args.size c.args.width c.args.step c.args.rows.now c.requires
 
 pub overflow_add-from : goal.overflow_add-from
 overflow_add-from c =
@@ -35,16 +35,14 @@ pub relax_at-requires : goal.relax_at-requires
 relax_at-requires c =
     let r = c.requires in
     let h = c.loop-j-test.true in
-    let a = c.loop-j.invariant.1 in
+    let a = c.loop-j.invariant in
     (across_length c.args.size c.args.width c.args.step c.args.rows.now r c.loop-j.rows c.loop-j.j a, omega (arith, r.from_fits, h), omega (arith, r.to_fits, h), rw (weight_is (goal.at.relax_at-requires c).Start) r.small, across_short c.args.size c.args.width c.args.step c.args.rows.now r c.loop-j.rows c.loop-j.j a h)
 
 pub loop-j-preserved : goal.loop-j-preserved
 loop-j-preserved c =
-    let r = c.relax_at in (
-      r.auto.rows ∙ c.loop-j.invariant.0,
-      across_more c.args.size c.args.width c.args.step c.args.rows.now c.requires c.loop-j.rows c.loop-j.j c.loop-j.invariant.1 c.loop-j-test.true r.new.rows (rw (weight_is (goal.at.loop-j-preserved c).Start) at r.ensures),
-    )
+    let r = c.relax_at in
+    across_more c.args.size c.args.width c.args.step c.args.rows.now c.requires c.loop-j.rows c.loop-j.j c.loop-j.invariant c.loop-j-test.true r.new.rows (rw (weight_is (goal.at.loop-j-preserved c).Start) at r.ensures)
 
 pub returns : goal.returns
 returns c =
-    across_end c.args.size c.args.width c.args.step c.args.rows.now c.requires c.loop-j.rows c.loop-j.j c.loop-j.invariant.1 (omega (arith, c.loop-j.invariant.1.count, c.loop-j-test.false))
+    across_end c.args.size c.args.width c.args.step c.args.rows.now c.requires c.loop-j.rows c.loop-j.j c.loop-j.invariant (omega arith)

@@ -1,5 +1,5 @@
--- `decide_rows::relax_row` meets its contract. The invariant: the new row is the old one relaxed by the steps gone through so far.
-use mathlib.Core.Path.{◌≡◌, refl, ◌∙◌}
+-- `decide_rows::relax_row` meets its contract.
+use mathlib.Core.Path.{◌≡◌, ◌∙◌}
 use mathlib.Core.Logic.{inl}
 use mathlib.Core.List.{List}
 use Prim.Native.Nat.{ℕ, ◌*◌}
@@ -31,21 +31,23 @@ module _ (c : After-copy_row) where
   ready = copy_ready n width L c.args.rows.now twice c.requires c.copy_row.ensures
 
 pub loop-number-init : goal.loop-number-init
-loop-number-init c = (refl, round_start (n (goal.at.loop-number-init c).After-copy_row) (width (goal.at.loop-number-init c).After-copy_row) (L (goal.at.loop-number-init c).After-copy_row) (twice (goal.at.loop-number-init c).After-copy_row) (ready (goal.at.loop-number-init c).After-copy_row))
+loop-number-init c =
+    let a = (goal.at.loop-number-init c).After-copy_row in
+    round_start (n a) (width a) (L a) (twice a) (ready a)
 
 pub relax_one-requires : goal.relax_one-requires
 relax_one-requires c =
-    round_ready (n (goal.at.relax_one-requires c).After-copy_row) (width (goal.at.relax_one-requires c).After-copy_row) (L (goal.at.relax_one-requires c).After-copy_row) (twice (goal.at.relax_one-requires c).After-copy_row) (ready (goal.at.relax_one-requires c).After-copy_row) c.loop-number.rows c.loop-number.number c.loop-number.invariant.1
+    let a = (goal.at.relax_one-requires c).After-copy_row in
+    round_ready (n a) (width a) (L a) (twice a) (ready a) c.loop-number.rows c.loop-number.number c.loop-number.invariant
 
 pub loop-number-preserved : goal.loop-number-preserved
 loop-number-preserved c =
-    let r = c.relax_one in (
-      r.auto.rows ∙ c.loop-number.invariant.0,
-      round_more (n (goal.at.loop-number-preserved c).After-copy_row) (width (goal.at.loop-number-preserved c).After-copy_row) (L (goal.at.loop-number-preserved c).After-copy_row) (twice (goal.at.loop-number-preserved c).After-copy_row) (ready (goal.at.loop-number-preserved c).After-copy_row) c.loop-number.rows c.loop-number.number c.loop-number.invariant.1 (omega (arith, c.loop-number-test.true)) r.new.rows r.ensures,
-    )
+    let a = (goal.at.loop-number-preserved c).After-copy_row in
+    round_more (n a) (width a) (L a) (twice a) (ready a) c.loop-number.rows c.loop-number.number c.loop-number.invariant c.loop-number-test.true c.relax_one.new.rows c.relax_one.ensures
 
 pub returns : goal.returns
 returns c =
-    let e : c.loop-number.number ≡ 2 * line_count (L (goal.at.returns c).After-copy_row) = omega (arith, c.loop-number.invariant.1.count) in
-    round_end (n (goal.at.returns c).After-copy_row) (width (goal.at.returns c).After-copy_row) (L (goal.at.returns c).After-copy_row) (twice (goal.at.returns c).After-copy_row) (ready (goal.at.returns c).After-copy_row) c.loop-number.rows c.loop-number.number c.loop-number.invariant.1 e
-    ∙ copy_end (2 * n (goal.at.returns c).After-copy_row * width (goal.at.returns c).After-copy_row) c.args.rows.now (twice (goal.at.returns c).After-copy_row) c.requires.long c.copy_row.ensures _
+    let a = (goal.at.returns c).After-copy_row in
+    let e : c.loop-number.number ≡ 2 * line_count (L a) = omega arith in
+    round_end (n a) (width a) (L a) (twice a) (ready a) c.loop-number.rows c.loop-number.number c.loop-number.invariant e
+    ∙ copy_end (2 * n a * width a) c.args.rows.now (twice a) c.requires.long c.copy_row.ensures _

@@ -1,6 +1,5 @@
 -- What the loops of `decide_table_by_rounds::distance_table` keep.
 use mathlib.Core.Path.{◌≡◌}
-use Prim.Native.Nat.{◌-◌}
 use lib.ListN.{length}
 use Rattle.lines.specs.Line.{lines_of}
 use Rattle.steps.specs.Step.{steps_of}
@@ -10,6 +9,3 @@ use Rattle.decide_table_by_rounds.proofs.distance_table.Given as goal
 -- `decide_table_by_rounds::distance_table` meets its contract. The invariant: the table after k rounds, with nothing negative on its diagonal.
 abbrev pub invariant-loop-k : goal.invariant-loop-k
 invariant-loop-k l = (length l.work ≡ length l.initial.work) × Turn (steps_of (lines_of l.list)) l.size l.initial.work l.work l.k
-
-abbrev pub decreases-loop-k : goal.decreases-loop-k
-decreases-loop-k l = l.size - l.k

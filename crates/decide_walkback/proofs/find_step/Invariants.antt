@@ -7,9 +7,6 @@ use Rattle.decide_walkback.proofs.find_step.Given as goal
 abbrev pub invariant-loop-side : goal.invariant-loop-side
 invariant-loop-side l = (l.line < l.count) × (l.side ≤ 2) × NoneBelow l.list l.old l.v l.z (2 * l.line + l.side)
 
-abbrev pub decreases-loop-side : goal.decreases-loop-side
-decreases-loop-side l = 2 - l.side
-
 abbrev pub invariant-search : goal.invariant-search
 invariant-search l = (l.line ≤ l.count) × NoneBelow l.list l.old l.v l.z (2 * l.line)
 

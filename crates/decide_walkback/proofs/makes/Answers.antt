@@ -16,16 +16,16 @@ step_numbered-requires c = lines_more c.requires.variables max_variables _ c.req
 
 pub step_makes-requires : goal.step_makes-requires
 step_makes-requires c =
-    let t : Step = c.in-Found.t in
-    let named = sym c.step_numbered.ensures ∙ c.in-Found.is in
+    let t : Step = c.in-Some.t in
+    let named = sym c.step_numbered.ensures ∙ c.in-Some.is in
     let low : t.from < length c.args.old.now = omega (arith, c.requires.size, numbered_start c.requires.variables c.args.list.now c.args.number t c.requires.lines named) in
     (low, c.requires.near t.from low, numbered_weight c.requires.variables c.args.list.now c.args.number t (c.requires.lines _) named)
 
-pub returns-in-Found : goal.returns-in-Found
-returns-in-Found c =
+pub returns-in-Some : goal.returns-in-Some
+returns-in-Some c =
     (rw (to_z-of_z c.ranges.z) at c.step_makes.ensures)
-    ∙ ap (named_makes c.args.old.now c.args.v c.args.z) (sym c.in-Found.is ∙ c.step_numbered.ensures)
+    ∙ ap (named_makes c.args.old.now c.args.v c.args.z) (sym c.in-Some.is ∙ c.step_numbered.ensures)
 
-pub returns-in-Nothing : goal.returns-in-Nothing
-returns-in-Nothing c =
-    ap (named_makes c.args.old.now c.args.v c.args.z) (sym c.in-Nothing.is ∙ c.step_numbered.ensures)
+pub returns-in-None : goal.returns-in-None
+returns-in-None c =
+    ap (named_makes c.args.old.now c.args.v c.args.z) (sym c.in-None.is ∙ c.step_numbered.ensures)

@@ -1,6 +1,5 @@
 -- `decide_walkback::move_back` meets its contract: the two entries are equal, or the search finds a step and its number is written.
 use mathlib.Core.Path.{◌≡◌, refl, ap}
-use mathlib.Core.Logic.{inl, inr}
 use mathlib.Core.List.{List}
 use Prim.Native.Nat.{◌+◌, ◌*◌, ◌-◌}
 use native.Mathlib.Omega.{arith}
@@ -10,8 +9,6 @@ use mir.Syntax.{w64}
 use mir.Val.{SFits, of_z}
 use mir.Facts.{to_z-of_z, to_z_pos}
 use Rattle.integers.proofs.Bits.{eq_of_bits}
-use Rattle.lines.specs.Limits.{max_variables}
-use Rattle.lines.specs.Valid.{lines_more}
 use Rattle.decide_walkback.specs.Makes.{entry}
 use Rattle.decide_walkback.specs.Move.{search_ok}
 use Rattle.decide_walkback.proofs.move_back.Goals.{After-there-1, Else-there-here}
@@ -29,7 +26,9 @@ module _ (c : After-there-1) where
   here_fits = record { sfits = c.here-1.given }
 
 pub returns-then-there-here : goal.returns-then-there-here
-returns-then-there-here c = inl (record { count = refl; area = refl; point = refl; same = eq_of_bits (there_fits (goal.at.returns-then-there-here c).After-there-1) (here_fits (goal.at.returns-then-there-here c).After-there-1) c.if-there-here.true })
+returns-then-there-here c =
+    let a = (goal.at.returns-then-there-here c).After-there-1 in
+    record { area = refl; same = eq_of_bits (there_fits a) (here_fits a) c.if-there-here.true }
 
 -- beyond the test: the part that is lent is a row
 module _ (c : Else-there-here) where
@@ -40,17 +39,10 @@ pub find_step-number-requires : goal.find_step-number-requires
 find_step-number-requires c =
     rw (row_size (goal.at.find_step-number-requires c).Else-there-here, to_z-of_z (here_fits (goal.at.find_step-number-requires c).After-there-1)) (search_ok _ _ _ _ _ _ c.requires (λ q. c.if-there-here.false (ap (of_z w64) q)))
 
-pub start_of-point-requires : goal.start_of-point-requires
-start_of-point-requires c =
-    let p = c.requires in
-    lines_more _ max_variables _ p.few p.lines
-
 pub returns : goal.returns
 returns c =
     let f = c.find_step-number.ensures in
-    inr (record {
-      count = refl;
+    record {
       area = ap (set c.args.work.now c.args.slot) (to_z_pos w64 (omega (arith, f.below, c.well_formed.0.1)));
-      point = c.start_of-point.ensures;
       maker = rw (row_size (goal.at.returns c).Else-there-here, to_z-of_z (here_fits (goal.at.returns c).After-there-1)) at f;
-    })
+    }

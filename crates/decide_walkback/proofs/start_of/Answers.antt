@@ -6,8 +6,8 @@ use Rattle.decide_walkback.proofs.start_of.Goals as goal
 pub step_numbered-requires : goal.step_numbered-requires
 step_numbered-requires c = c.requires _
 
-pub returns-in-Found : goal.returns-in-Found
-returns-in-Found c = ap start_of (sym c.in-Found.is ∙ c.step_numbered.ensures)
+pub returns-in-Some : goal.returns-in-Some
+returns-in-Some c = ap start_of (sym c.in-Some.is ∙ c.step_numbered.ensures)
 
-pub returns-in-Nothing : goal.returns-in-Nothing
-returns-in-Nothing c = ap start_of (sym c.in-Nothing.is ∙ c.step_numbered.ensures)
+pub returns-in-None : goal.returns-in-None
+returns-in-None c = ap start_of (sym c.in-None.is ∙ c.step_numbered.ensures)

@@ -1,49 +1,60 @@
 -- `differences::decide_differences` meets its contract: a refusal, a refutation, or the model, the bounds and the groups.
+use Rattle.std.proofs.lemmas.Result.{err_from_is_err_and}
+use Rattle.std.specs.Prelude.{Ok}
 use mathlib.Core.Path.{◌≡◌, sym, ◌∙◌}
-use Rattle.lines.specs.declared.Validity.TheVariants.{Valid}
 use Rattle.decide_buffers.specs.Room.{Lent}
 use Rattle.differences.specs.Decided.{plain_validity_for, refused}
 use Rattle.differences.specs.Answered.{few, answer_ready, room_left, identifiers_ready, decided_no, decided_yes}
-use Rattle.differences.proofs.decide_differences.Goals.{After-differences_validity-found, In_default}
+use Rattle.differences.proofs.decide_differences.Goals.{After-differences_validity, In_ok-differences_validity}
 use Rattle.differences.proofs.decide_differences.Goals as goal
 
--- the start, and what the buffers held
-module _ (v : After-differences_validity-found) where
-  abbrev lent : Lent
-  lent = record { model = v.args.model.now; bounds = v.args.bounds.now; groups = v.args.groups.now; refutation = v.args.refutation.now; identifiers = v.args.identifiers.now; work = v.args.work.now }
+-- what the buffers held
+abbrev held : After-differences_validity → Lent
+held v = record { model = v.args.model.now; bounds = v.args.bounds.now; groups = v.args.groups.now; refutation = v.args.refutation.now; identifiers = v.args.identifiers.now; work = v.args.work.now }
 
-pub returns-in-Refused : goal.returns-in-Refused
-returns-in-Refused c =
-    refused _ _ (lent (goal.at.returns-in-Refused c).After-differences_validity-found) _ (sym c.differences_validity-found.ensures ∙ c.in-Refused.is)
+pub returns-in_err-differences_validity : goal.returns-in_err-differences_validity
+returns-in_err-differences_validity c =
+    let p = err_from_is_err_and c.from_residual.result c.from_residual.ensures.1 in
+    rw (p.1, p.2) (refused _ _ (held (goal.at.returns-in_err-differences_validity c).After-differences_validity) _ (sym c.differences_validity.ensures ∙ c.in_err-differences_validity.was))
 
 -- nothing is refused
-module _ (t : In_default) where
-  valid : plain_validity_for t.args.n t.args.list.now (lent (goal.at.In_default t).After-differences_validity-found) ≡ Valid
-  valid = sym t.differences_validity-found.ensures ∙ t.in_default.is
+module _ (t : In_ok-differences_validity) where
+  abbrev lent : Lent
+  lent = held (goal.at.In_ok-differences_validity t).After-differences_validity
+
+  valid : plain_validity_for t.args.n t.args.list.now lent ≡ Ok tt
+  valid = sym t.differences_validity.ensures ∙ t.in_ok-differences_validity.was
 
 pub differences_work_room-room-requires : goal.differences_work_room-room-requires
-differences_work_room-room-requires c = few _ _ (lent (goal.at.differences_work_room-room-requires c).After-differences_validity-found) (valid c)
+differences_work_room-room-requires c = few _ _ (lent c) (valid c)
 
 pub refuted_or_answered-requires : goal.refuted_or_answered-requires
-refuted_or_answered-requires c = answer_ready _ _ (lent (goal.at.refuted_or_answered-requires c).After-differences_validity-found) (valid (goal.at.refuted_or_answered-requires c).In_default)
+refuted_or_answered-requires c =
+    let t = (goal.at.refuted_or_answered-requires c).In_ok-differences_validity in
+    answer_ready _ _ (lent t) (valid t)
 
 pub write_identifiers-requires : goal.write_identifiers-requires
 write_identifiers-requires c =
-    identifiers_ready _ _ (lent (goal.at.write_identifiers-requires c).After-differences_validity-found) (valid (goal.at.write_identifiers-requires c).In_default) _ _ _ _ _ c.refuted_or_answered.ensures c.if-refuted_or_answered.true
+    let t = (goal.at.write_identifiers-requires c).In_ok-differences_validity in
+    identifiers_ready _ _ (lent t) (valid t) _ _ _ _ _ c.refuted_or_answered.ensures c.if-refuted_or_answered.true
 
 pub clear-requires : goal.clear-requires
 clear-requires c =
-    rw c.differences_work_room-room.ensures (room_left _ _ (lent (goal.at.clear-requires c).After-differences_validity-found) (valid (goal.at.clear-requires c).In_default) _ _ _ _ _ c.refuted_or_answered.ensures)
+    let t = (goal.at.clear-requires c).In_ok-differences_validity in
+    rw c.differences_work_room-room.ensures (room_left _ _ (lent t) (valid t) _ _ _ _ _ c.refuted_or_answered.ensures)
 
 pub returns-then-refuted_or_answered : goal.returns-then-refuted_or_answered
 returns-then-refuted_or_answered c =
-    decided_no _ _ (lent (goal.at.returns-then-refuted_or_answered c).After-differences_validity-found) (valid (goal.at.returns-then-refuted_or_answered c).In_default) _ _ _ _ _ c.refuted_or_answered.ensures _ (rw c.differences_work_room-room.ensures at c.clear.ensures) c.if-refuted_or_answered.true _
+    let t = (goal.at.returns-then-refuted_or_answered c).In_ok-differences_validity in
+    decided_no _ _ (lent t) (valid t) _ _ _ _ _ c.refuted_or_answered.ensures _ (rw c.differences_work_room-room.ensures at c.clear.ensures) c.if-refuted_or_answered.true _
     c.write_identifiers.ensures
 
 pub clear-requires-2 : goal.clear-requires-2
 clear-requires-2 c =
-    rw c.differences_work_room-room.ensures (room_left _ _ (lent (goal.at.clear-requires-2 c).After-differences_validity-found) (valid (goal.at.clear-requires-2 c).In_default) _ _ _ _ _ c.refuted_or_answered.ensures)
+    let t = (goal.at.clear-requires-2 c).In_ok-differences_validity in
+    rw c.differences_work_room-room.ensures (room_left _ _ (lent t) (valid t) _ _ _ _ _ c.refuted_or_answered.ensures)
 
 pub returns : goal.returns
 returns c =
-    decided_yes _ _ (lent (goal.at.returns c).After-differences_validity-found) (valid (goal.at.returns c).In_default) _ _ _ _ _ c.refuted_or_answered.ensures _ (rw c.differences_work_room-room.ensures at c.clear-2.ensures) c.if-refuted_or_answered.false
+    let t = (goal.at.returns c).In_ok-differences_validity in
+    decided_yes _ _ (lent t) (valid t) _ _ _ _ _ c.refuted_or_answered.ensures _ (rw c.differences_work_room-room.ensures at c.clear-2.ensures) c.if-refuted_or_answered.false

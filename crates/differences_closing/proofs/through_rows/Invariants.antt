@@ -1,11 +1,7 @@
 -- What the loops of `differences_closing::through_rows` keep.
-use Prim.Native.Nat.{◌-◌}
 use Rattle.differences_closing.specs.Closed.{RowsThrough}
 use Rattle.differences_closing.proofs.through_rows.Given as goal
 
--- `differences_closing::through_rows` meets its contract. The invariant: the rows before v are no more than through k.
+-- The rows before v are no more than through k.
 abbrev pub invariant-loop-v : goal.invariant-loop-v
 invariant-loop-v l = RowsThrough l.n l.k l.from l.initial.table l.table l.v
-
-abbrev pub decreases-loop-v : goal.decreases-loop-v
-decreases-loop-v l = l.end - l.v

@@ -1,62 +1,44 @@
 -- `differences_lines::differences_validity` meets its contract: what is found of the list goes first, then a line that is no difference.
+use Rattle.std.proofs.lemmas.Result.{err_from_is_err_and}
+use Rattle.std.specs.Prelude.{Ok}
 use mathlib.Core.Path.{◌≡◌, sym, ap, ◌∙◌}
 use mathlib.Core.Bool.{true}
-use mathlib.Core.List.{List}
 use Prim.Native.Nat.{ℕ, ◌≤◌}
 use native.Mathlib.Omega.{arith}
-use lib.IntN.{ℤ}
-use Rattle.lines.specs.declared.Validity.TheVariants.{Valid}
 use Rattle.lines.specs.Limits.{max_variables}
 use Rattle.lines.specs.Refusal.{validity_of}
 use Rattle.lines.specs.Valid.{valid_list}
-use Rattle.decide_buffers.specs.Room.{Lengths, lent_rooms_by, first_short}
+use Rattle.decide_buffers.specs.Room.{lent_rooms_by, first_short}
 use Rattle.theory_differences.specs.Plain.{all_differences}
-use Rattle.differences_lines.specs.Others.{first_other_lem, none_other, an_other}
+use Rattle.differences_lines.specs.Others.{none_other, an_other}
 use Rattle.differences_lines.specs.Refused.{list_refused, other_refused, rooms_left}
-use Rattle.differences_lines.proofs.differences_validity.Goals.{After-first_other-other, After-list_validity-found, Else-other-list}
+use Rattle.differences_lines.proofs.differences_validity.Goals.{After-first_other-other, Else-other-list}
 use Rattle.differences_lines.proofs.differences_validity.Goals as goal
 
--- what the list was found to be
-module _ (v : After-list_validity-found) where
-  abbrev n : ℕ
-  n = v.args.n
+pub returns-in_err-list_validity : goal.returns-in_err-list_validity
+returns-in_err-list_validity c =
+    let a = c.args in
+    let p = err_from_is_err_and c.from_residual.result c.from_residual.ensures.1 in
+    rw (p.1, p.2) (list_refused a.n a.list.now a.lengths _ (sym c.list_validity.ensures ∙ c.in_err-list_validity.was))
 
-  abbrev list : List ℤ
-  list = v.args.list.now
-
-  abbrev lengths : Lengths
-  lengths =
-      record {
-        model = v.args.model;
-        bounds = v.args.bounds;
-        groups = v.args.groups;
-        refutation = v.args.refutation;
-        identifiers = v.args.identifiers;
-        work = v.args.work;
-      }
-
-pub returns-in-Refused : goal.returns-in-Refused
-returns-in-Refused c =
-    list_refused (n (goal.at.returns-in-Refused c).After-list_validity-found) (list (goal.at.returns-in-Refused c).After-list_validity-found) (lengths (goal.at.returns-in-Refused c).After-list_validity-found) _ (sym c.list_validity-found.ensures ∙ c.in-Refused.is)
-
--- it is valid
+-- the list is valid
 module _ (f : After-first_other-other) where
-  valid : validity_of (n (goal.at.After-first_other-other f).After-list_validity-found) (list (goal.at.After-first_other-other f).After-list_validity-found) ≡ Valid
-  valid = sym f.list_validity-found.ensures ∙ f.in_default.is
+  valid : validity_of f.args.n f.args.list.now ≡ Ok tt
+  valid = sym f.list_validity.ensures ∙ f.in_ok-list_validity.was
 
-  few : n (goal.at.After-first_other-other f).After-list_validity-found ≤ max_variables
-  few = (valid_list (n (goal.at.After-first_other-other f).After-list_validity-found) (list (goal.at.After-first_other-other f).After-list_validity-found) valid).variables
-
-  other_is : f.first_other-other.result ≡ first_other_lem (list (goal.at.After-first_other-other f).After-list_validity-found)
-  other_is = f.first_other-other.ensures
+  few : f.args.n ≤ max_variables
+  few = (valid_list _ _ valid).variables
 
 pub returns-then-other-list : goal.returns-then-other-list
 returns-then-other-list c =
-    other_refused (n (goal.at.returns-then-other-list c).After-list_validity-found) (list (goal.at.returns-then-other-list c).After-list_validity-found) (lengths (goal.at.returns-then-other-list c).After-list_validity-found) (valid (goal.at.returns-then-other-list c).After-first_other-other) c.first_other-other.result (other_is (goal.at.returns-then-other-list c).After-first_other-other) (an_other (list (goal.at.returns-then-other-list c).After-list_validity-found) (omega (arith, other_is (goal.at.returns-then-other-list c).After-first_other-other, c.if-other-list.true)))
+    let a = c.args in
+    let v = valid (goal.at.returns-then-other-list c).After-first_other-other in
+    let o = c.first_other-other in
+    other_refused a.n a.list.now a.lengths v o.result o.ensures (an_other a.list.now (omega (arith, o.ensures, c.if-other-list.true)))
 
--- and all lines are differences
-all : (e : Else-other-list) → all_differences (list (goal.at.Else-other-list e).After-list_validity-found) ≡ true
-all e = none_other (list (goal.at.Else-other-list e).After-list_validity-found) (omega (arith, other_is (goal.at.Else-other-list e).After-first_other-other, e.if-other-list.false))
+-- and all its lines are differences
+all : (e : Else-other-list) → all_differences e.args.list.now ≡ true
+all e = none_other e.args.list.now (omega (arith, e.first_other-other.ensures, e.if-other-list.false))
 
 pub differences_work_room-requires : goal.differences_work_room-requires
 differences_work_room-requires c = few (goal.at.differences_work_room-requires c).After-first_other-other
@@ -66,6 +48,8 @@ rooms_validity-requires c = few (goal.at.rooms_validity-requires c).After-first_
 
 pub returns : goal.returns
 returns c =
+    let a = c.args in
+    let before = goal.at.returns c in
     c.rooms_validity.ensures
-    ∙ ap (λ (k : ℕ). first_short (lent_rooms_by (λ _. k)) (n (goal.at.returns c).After-list_validity-found) (lengths (goal.at.returns c).After-list_validity-found)) c.differences_work_room.ensures
-    ∙ rooms_left (n (goal.at.returns c).After-list_validity-found) (list (goal.at.returns c).After-list_validity-found) (lengths (goal.at.returns c).After-list_validity-found) (valid (goal.at.returns c).After-first_other-other) (all (goal.at.returns c).Else-other-list)
+    ∙ ap (λ (k : ℕ). first_short (lent_rooms_by (λ _. k)) a.n a.lengths) c.differences_work_room.ensures
+    ∙ rooms_left a.n a.list.now a.lengths (valid before.After-first_other-other) (all before.Else-other-list)

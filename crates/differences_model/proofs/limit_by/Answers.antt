@@ -54,15 +54,18 @@ module _ (c : After-distance_at) where
 
 pub sum-requires : goal.sum-requires
 sum-requires c =
-    (entry_short (distance (goal.at.sum-requires c).Start c.args.k c.args.x) (there (goal.at.sum-requires c).Start) (entry c) (is c), rw (value_is (goal.at.sum-requires c).Start) (value_short (v (goal.at.sum-requires c).Start) c.requires.3))
+    let start = (goal.at.sum-requires c).Start in
+    (entry_short (distance start c.args.k c.args.x) (there start) (entry c) (is c), rw (value_is start) (value_short c.args.value c.requires.3))
 
 pub returns-then-upper : goal.returns-then-upper
 returns-then-upper c =
+    let after_distance_at = (goal.at.returns-then-upper c).After-distance_at in
+    let start = (goal.at.returns-then-upper c).Start in
     rw c.if-upper.true
     (kept w64 c.sum.result c.sum.type_inv
     ∙ c.sum.ensures
-    ∙ ap (λ (z : ℤ). stored (distance_of (entry (goal.at.returns-then-upper c).After-distance_at) ⊞ distance_of z)) (value_is (goal.at.returns-then-upper c).Start)
-    ∙ sum_back (distance (goal.at.returns-then-upper c).Start c.args.k c.args.x) (there (goal.at.returns-then-upper c).Start) (entry (goal.at.returns-then-upper c).After-distance_at) (is (goal.at.returns-then-upper c).After-distance_at) (v (goal.at.returns-then-upper c).Start) c.requires.3)
+    ∙ ap (λ (z : ℤ). stored (distance_of (entry after_distance_at) ⊞ distance_of z)) (value_is start)
+    ∙ sum_back (distance start c.args.k c.args.x) (there start) (entry after_distance_at) (is after_distance_at) c.args.value c.requires.3)
 
 -- the least one, negated
 module _ (c : After-distance_at-2) where
@@ -72,18 +75,17 @@ module _ (c : After-distance_at-2) where
   is2 : entry2 ≡ stored (distance (goal.at.After-distance_at-2 c).Start c.args.x c.args.k)
   is2 = kept w64 c.distance_at-2.result c.distance_at-2.type_inv ∙ c.distance_at-2.ensures
 
-pub overflow_sub-value : goal.overflow_sub-value
-overflow_sub-value c =
-    rw (value_is (goal.at.overflow_sub-value c).Start, minus_is) (opposite_fits (goal.at.overflow_sub-value c).Start)
-
 pub sum-requires-2 : goal.sum-requires-2
 sum-requires-2 c =
-    (entry_short (distance (goal.at.sum-requires-2 c).Start c.args.x c.args.k) (back (goal.at.sum-requires-2 c).Start) (entry2 c) (is2 c), rw (opposite_is (goal.at.sum-requires-2 c).Start) (value_short (neg_ℤ (v (goal.at.sum-requires-2 c).Start)) (minus_small (goal.at.sum-requires-2 c).Start)))
+    let start = (goal.at.sum-requires-2 c).Start in
+    (entry_short (distance start c.args.x c.args.k) (back start) (entry2 c) (is2 c), rw (opposite_is start) (value_short (neg_ℤ c.args.value) (minus_small start)))
 
 pub returns : goal.returns
 returns c =
+    let after_distance_at = (goal.at.returns c).After-distance_at-2 in
+    let start = (goal.at.returns c).Start in
     rw c.if-upper.false
     (kept w64 c.sum-2.result c.sum-2.type_inv
     ∙ c.sum-2.ensures
-    ∙ ap (λ (z : ℤ). stored (distance_of (entry2 (goal.at.returns c).After-distance_at-2) ⊞ distance_of z)) (opposite_is (goal.at.returns c).Start)
-    ∙ sum_back (distance (goal.at.returns c).Start c.args.x c.args.k) (back (goal.at.returns c).Start) (entry2 (goal.at.returns c).After-distance_at-2) (is2 (goal.at.returns c).After-distance_at-2) (neg_ℤ (v (goal.at.returns c).Start)) (minus_small (goal.at.returns c).Start))
+    ∙ ap (λ (z : ℤ). stored (distance_of (entry2 after_distance_at) ⊞ distance_of z)) (opposite_is start)
+    ∙ sum_back (distance start c.args.x c.args.k) (back start) (entry2 after_distance_at) (is2 after_distance_at) (neg_ℤ c.args.value) (minus_small start))

@@ -48,11 +48,13 @@ module _ (c : After-limit_at-low) where
 
 pub nearest_value-requires : goal.nearest_value-requires
 nearest_value-requires c =
-    limit_back_short c.args.n (t (goal.at.nearest_value-requires c).Start) (values (goal.at.nearest_value-requires c).Start) c.requires false (low c) (low_is c)
+    limit_back_short c.args.n c.args.table.now c.args.values.now c.requires false (low c) (low_is c)
 
 pub returns : goal.returns
 returns c =
+    let start = (goal.at.returns c).Start in
+    let after_limit_at_low = (goal.at.returns c).After-limit_at-low in
     kept w64 c.nearest_value.result c.nearest_value.type_inv
     ∙ c.nearest_value.ensures
-    ∙ ap₂ near (back (goal.at.returns c).Start true (up (goal.at.returns c).After-limit_at-low) (up_is (goal.at.returns c).After-limit_at-low)) (back (goal.at.returns c).Start false (low (goal.at.returns c).After-limit_at-low) (low_is (goal.at.returns c).After-limit_at-low))
-    ∙ sym (doubled_pick (table_of c.args.n (t (goal.at.returns c).Start)) (assignment_of (values (goal.at.returns c).Start)) (length (values (goal.at.returns c).Start)))
+    ∙ ap₂ near (back start true (up after_limit_at_low) (up_is after_limit_at_low)) (back start false (low after_limit_at_low) (low_is after_limit_at_low))
+    ∙ sym (doubled_pick (table_of c.args.n c.args.table.now) (assignment_of c.args.values.now) (length c.args.values.now))

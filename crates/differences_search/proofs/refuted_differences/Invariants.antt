@@ -1,12 +1,9 @@
 -- What the loops of `differences_search::refuted_differences` keep.
 use mathlib.Core.Path.{◌≡◌}
-use Prim.Native.Nat.{◌-◌, ◌≤◌}
+use Prim.Native.Nat.{◌*◌, ◌≤◌}
 use Rattle.differences_search.specs.Searched.{Going}
 use Rattle.differences_search.proofs.refuted_differences.Given as goal
 
--- `differences_search::refuted_differences` meets its contract. The invariant: the rows 0 to k stand, and no walk read back from them has shown a closed one.
+-- The rows 0 to k stand, and no walk read back from them has shown a closed one.
 abbrev pub invariant-loop-k : goal.invariant-loop-k
-invariant-loop-k l = (l.refutation ≡ l.initial.refutation) × (l.due ≤ l.n) × Going l.n l.list l.initial.work l.work l.k l.from
-
-abbrev pub decreases-loop-k : goal.decreases-loop-k
-decreases-loop-k l = l.n - l.k
+invariant-loop-k l = (l.refutation ≡ l.initial.refutation) × (l.due ≤ l.n) × Going l.n l.list l.initial.work l.work l.k (l.k * l.n)

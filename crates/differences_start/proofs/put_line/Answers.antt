@@ -1,4 +1,5 @@
--- `differences_start::put_line` meets its contract. All that is read is small, so that the sums fit: each number is the one that its bits stand for, and the test
+-- `differences_start::put_line` meets its contract. All that is read is small, so that the sums fit: each number is the one that its bits stand for, and the
+-- test is a test of the reduced weight.
 use mathlib.Core.Path.{◌≡◌, ap, ◌∙◌}
 use mathlib.Core.List.{List}
 use Prim.Native.Nat.{ℕ, ◌+◌, ◌*◌, ◌<◌, ◌≤◌}
@@ -25,7 +26,6 @@ use Rattle.differences_start.specs.Start.{point_of, from_lt, to_lt, to_row, ligh
 use Rattle.differences_start.proofs.put_line.Goals.{After-old-1, After-other-1, After-struct_told-1}
 use Rattle.differences_start.proofs.put_line.Goals as goal
 
--- is a test of the reduced weight.
 pub plain_step-step-requires : goal.plain_step-step-requires
 plain_step-step-requires c = plain_at c.requires.0.numbers.plain c.args.k c.requires.1
 
@@ -79,29 +79,33 @@ module _ (read : After-other-1) where
   points = read.walk_at-points.result
 
   abbrev v : ℤ
-  v = (step (goal.at.After-other-1 read).After-struct_told-1).weight
+  v = read.plain_step-step.result.weight
 
   abbrev own : ℤ
-  own = point_of (n (goal.at.After-other-1 read).After-struct_told-1) (w (goal.at.After-other-1 read).After-struct_told-1) (step (goal.at.After-other-1 read).After-struct_told-1).from
+  own = point_of read.args.n read.args.work.now read.plain_step-step.result.from
 
   abbrev other : ℤ
-  other = point_of (n (goal.at.After-other-1 read).After-struct_told-1) (w (goal.at.After-other-1 read).After-struct_told-1) (step (goal.at.After-other-1 read).After-struct_told-1).to
+  other = point_of read.args.n read.args.work.now read.plain_step-step.result.to
 
-  own_is : to_z w64 (of_z w64 (number (w (goal.at.After-other-1 read).After-struct_told-1) (points + (step (goal.at.After-other-1 read).After-struct_told-1).from))) ≡ own
-  own_is = kept w64 _ read.own-1.given ∙ ap (λ (p : ℕ). number (w (goal.at.After-other-1 read).After-struct_told-1) (p + (step (goal.at.After-other-1 read).After-struct_told-1).from)) (place (goal.at.After-other-1 read).After-struct_told-1)
+  own_is : to_z w64 (of_z w64 (number read.args.work.now (points + read.plain_step-step.result.from))) ≡ own
+  own_is = kept w64 _ read.own-1.given ∙ ap (λ (p : ℕ). number read.args.work.now (p + read.plain_step-step.result.from)) (place (goal.at.After-other-1 read).After-struct_told-1)
 
-  other_is : to_z w64 (of_z w64 (number (w (goal.at.After-other-1 read).After-struct_told-1) (points + (step (goal.at.After-other-1 read).After-struct_told-1).to))) ≡ other
-  other_is = kept w64 _ read.other-1.given ∙ ap (λ (p : ℕ). number (w (goal.at.After-other-1 read).After-struct_told-1) (p + (step (goal.at.After-other-1 read).After-struct_told-1).to)) (place (goal.at.After-other-1 read).After-struct_told-1)
+  other_is : to_z w64 (of_z w64 (number read.args.work.now (points + read.plain_step-step.result.to))) ≡ other
+  other_is = kept w64 _ read.other-1.given ∙ ap (λ (p : ℕ). number read.args.work.now (p + read.plain_step-step.result.to)) (place (goal.at.After-other-1 read).After-struct_told-1)
 
   -- the sums
   twice : SFits w64 (v +ℤ v)
   twice = twice_fits v (small (goal.at.After-other-1 read).After-struct_told-1)
 
   plus : SFits w64 ((v +ℤ v) +ℤ own)
-  plus = plus_fits v own (small (goal.at.After-other-1 read).After-struct_told-1) (own_small (goal.at.After-other-1 read).After-struct_told-1)
+  plus =
+      let told = (goal.at.After-other-1 read).After-struct_told-1 in
+      plus_fits v own (small told) (own_small told)
 
   whole : SFits w64 (((v +ℤ v) +ℤ own) -ℤ other)
-  whole = whole_fits v own other (small (goal.at.After-other-1 read).After-struct_told-1) (own_small (goal.at.After-other-1 read).After-struct_told-1) (other_small (goal.at.After-other-1 read).After-struct_told-1)
+  whole =
+      let told = (goal.at.After-other-1 read).After-struct_told-1 in
+      whole_fits v own other (small told) (own_small told) (other_small told)
 
 pub overflow_add-own : goal.overflow_add-own
 overflow_add-own told = let h = from_low told in search rules
@@ -134,32 +138,46 @@ pub overflow_mul-at : goal.overflow_mul-at
 overflow_mul-at read = record { fits = omega (arith, row (goal.at.overflow_mul-at read).After-struct_told-1, read.requires.0.numbers.room) }
 
 pub overflow_add-at : goal.overflow_add-at
-overflow_add-at read = record { fits = omega (arith, row (goal.at.overflow_add-at read).After-struct_told-1, from_low (goal.at.overflow_add-at read).After-struct_told-1, read.requires.0.numbers.room) }
+overflow_add-at read =
+    let told = (goal.at.overflow_add-at read).After-struct_told-1 in
+    record { fits = omega (arith, row told, from_low told, read.requires.0.numbers.room) }
 
 pub offset_bounds-work-at : goal.offset_bounds-work-at
-offset_bounds-work-at read = record { fits = omega (arith, row (goal.at.offset_bounds-work-at read).After-struct_told-1, from_low (goal.at.offset_bounds-work-at read).After-struct_told-1, read.requires.0.numbers.room) }
+offset_bounds-work-at read =
+    let told = (goal.at.offset_bounds-work-at read).After-struct_told-1 in
+    record { fits = omega (arith, row told, from_low told, read.requires.0.numbers.room) }
 
 pub slice_copy_out-old : goal.slice_copy_out-old
-slice_copy_out-old read = omega (arith, row (goal.at.slice_copy_out-old read).After-struct_told-1, from_low (goal.at.slice_copy_out-old read).After-struct_told-1, read.requires.0.numbers.room)
+slice_copy_out-old read =
+    let told = (goal.at.slice_copy_out-old read).After-struct_told-1 in
+    omega (arith, row told, from_low told, read.requires.0.numbers.room)
 
 pub offset_bounds-work-at-then-z-old : goal.offset_bounds-work-at-then-z-old
-offset_bounds-work-at-then-z-old c = record { fits = omega (arith, row (goal.at.offset_bounds-work-at-then-z-old c).After-struct_told-1, from_low (goal.at.offset_bounds-work-at-then-z-old c).After-struct_told-1, c.requires.0.numbers.room) }
+offset_bounds-work-at-then-z-old c =
+    let told = (goal.at.offset_bounds-work-at-then-z-old c).After-struct_told-1 in
+    record { fits = omega (arith, row told, from_low told, c.requires.0.numbers.room) }
 
 pub bounds-work-at : goal.bounds-work-at
-bounds-work-at c = omega (arith, row (goal.at.bounds-work-at c).After-struct_told-1, from_low (goal.at.bounds-work-at c).After-struct_told-1, c.requires.0.numbers.room)
+bounds-work-at c =
+    let told = (goal.at.bounds-work-at c).After-struct_told-1 in
+    omega (arith, row told, from_low told, c.requires.0.numbers.room)
 
 -- what stands there
 module _ (c : After-old-1) where
-  old_is : to_z w64 (of_z w64 (entry_in (n (goal.at.After-old-1 c).After-struct_told-1) (w (goal.at.After-old-1 c).After-struct_told-1) (step (goal.at.After-old-1 c).After-struct_told-1).from (step (goal.at.After-old-1 c).After-struct_told-1).to)) ≡ entry_in (n (goal.at.After-old-1 c).After-struct_told-1) (w (goal.at.After-old-1 c).After-struct_told-1) (step (goal.at.After-old-1 c).After-struct_told-1).from (step (goal.at.After-old-1 c).After-struct_told-1).to
+  old_is : to_z w64 (of_z w64 (entry_in c.args.n c.args.work.now c.plain_step-step.result.from c.plain_step-step.result.to)) ≡ entry_in c.args.n c.args.work.now c.plain_step-step.result.from c.plain_step-step.result.to
   old_is = kept w64 _ c.old-1.given
 
 pub returns-then-z-old : goal.returns-then-z-old
 returns-then-z-old c =
-    rw (weight_is (goal.at.returns-then-z-old c).After-struct_told-1, to_z-of_z (twice (goal.at.returns-then-z-old c).After-other-1), own_is (goal.at.returns-then-z-old c).After-other-1, to_z-of_z (plus (goal.at.returns-then-z-old c).After-other-1), other_is (goal.at.returns-then-z-old c).After-other-1, to_z-of_z (whole (goal.at.returns-then-z-old c).After-other-1))
-    (line_put c.requires.0 (k (goal.at.returns-then-z-old c).After-struct_told-1) c.requires.1 (step (goal.at.returns-then-z-old c).After-struct_told-1) (is (goal.at.returns-then-z-old c).After-struct_told-1)
-    (test_yes _ _ (rw (weight_is (goal.at.returns-then-z-old c).After-struct_told-1, to_z-of_z (twice (goal.at.returns-then-z-old c).After-other-1), own_is (goal.at.returns-then-z-old c).After-other-1, to_z-of_z (plus (goal.at.returns-then-z-old c).After-other-1), other_is (goal.at.returns-then-z-old c).After-other-1, to_z-of_z (whole (goal.at.returns-then-z-old c).After-other-1), old_is (goal.at.returns-then-z-old c).After-old-1) at c.if-z-old.true)))
+    let told = (goal.at.returns-then-z-old c).After-struct_told-1 in
+    let read = (goal.at.returns-then-z-old c).After-other-1 in
+    rw (weight_is told, to_z-of_z (twice read), own_is read, to_z-of_z (plus read), other_is read, to_z-of_z (whole read))
+    (line_put c.requires.0 c.args.k c.requires.1 c.plain_step-step.result (is told)
+    (test_yes _ _ (rw (weight_is told, to_z-of_z (twice read), own_is read, to_z-of_z (plus read), other_is read, to_z-of_z (whole read), old_is (goal.at.returns-then-z-old c).After-old-1) at c.if-z-old.true)))
 
 pub returns-else-z-old : goal.returns-else-z-old
 returns-else-z-old c =
-    line_stays c.requires.0 (k (goal.at.returns-else-z-old c).After-struct_told-1) c.requires.1 (step (goal.at.returns-else-z-old c).After-struct_told-1) (is (goal.at.returns-else-z-old c).After-struct_told-1)
-    (test_no _ _ (rw (weight_is (goal.at.returns-else-z-old c).After-struct_told-1, to_z-of_z (twice (goal.at.returns-else-z-old c).After-other-1), own_is (goal.at.returns-else-z-old c).After-other-1, to_z-of_z (plus (goal.at.returns-else-z-old c).After-other-1), other_is (goal.at.returns-else-z-old c).After-other-1, to_z-of_z (whole (goal.at.returns-else-z-old c).After-other-1), old_is (goal.at.returns-else-z-old c).After-old-1) at c.if-z-old.false))
+    let told = (goal.at.returns-else-z-old c).After-struct_told-1 in
+    let read = (goal.at.returns-else-z-old c).After-other-1 in
+    line_stays c.requires.0 c.args.k c.requires.1 c.plain_step-step.result (is told)
+    (test_no _ _ (rw (weight_is told, to_z-of_z (twice read), own_is read, to_z-of_z (plus read), other_is read, to_z-of_z (whole read), old_is (goal.at.returns-else-z-old c).After-old-1) at c.if-z-old.false))

@@ -1,11 +1,7 @@
 -- What the loops of `differences_start::put_lines` keep.
-use Prim.Native.Nat.{◌-◌}
 use Rattle.differences_start.specs.Start.{LinesPut}
 use Rattle.differences_start.proofs.put_lines.Given as goal
 
--- `differences_start::put_lines` meets its contract. The invariant: the entries of the first k lines are put.
+-- The entries of the first k lines are put.
 abbrev pub invariant-loop-k : goal.invariant-loop-k
 invariant-loop-k l = LinesPut l.n l.list l.initial.work l.work l.k
-
-abbrev pub decreases-loop-k : goal.decreases-loop-k
-decreases-loop-k l = l.count - l.k

@@ -1,5 +1,5 @@
 -- `differences_yes::group_of` meets its contract. The invariant: no variable before r is found.
-use mathlib.Core.Path.{sym, ◌∙◌}
+use mathlib.Core.Path.{◌≡◌, sym, ◌∙◌}
 use mathlib.Core.Bool.{Bool}
 use Prim.Native.Nat.{ℕ}
 use native.Mathlib.Omega.{arith}
@@ -26,4 +26,5 @@ loop-r-preserved c =
 
 pub returns : goal.returns
 returns c =
-    searched_all (is_same (goal.at.returns c).Start) c.args.x c.loop-r.r (omega arith) c.loop-r.invariant.1
+    let e : c.args.x ≡ c.loop-r.r = omega arith in
+    e ∙ searched_all (is_same (goal.at.returns c).Start) c.args.x c.loop-r.r (omega arith) c.loop-r.invariant.1

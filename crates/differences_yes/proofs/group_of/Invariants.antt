@@ -5,9 +5,6 @@ use Rattle.theory_differences.specs.Doubled.{plain_same}
 use Rattle.decide_stored_table.specs.Table.{table_of}
 use Rattle.differences_yes.proofs.group_of.Given as goal
 
--- `differences_yes::group_of` meets its contract. The invariant: no variable before r is found.
+-- No variable before r is found.
 abbrev pub invariant-loop-r : goal.invariant-loop-r
 invariant-loop-r l = (l.r ≤ l.x) × Searched (plain_same (table_of l.n l.table) l.x) l.x l.r
-
-abbrev pub decreases-loop-r : goal.decreases-loop-r
-decreases-loop-r l = l.x - l.r

@@ -6,9 +6,6 @@ use Rattle.integers.specs.Fill.{filled}
 use Rattle.theory_differences.specs.Doubled.{absent_at}
 use Rattle.differences_yes.proofs.write_no_bounds.Given as goal
 
--- `differences_yes::write_no_bounds` meets its contract. The invariant: the bounds of the first x variables are written.
+-- The bounds of the first x variables are written.
 abbrev pub invariant-loop-x : goal.invariant-loop-x
 invariant-loop-x l = (l.x ≤ l.n) × (length l.bounds ≡ length l.initial.bounds) × (l.bounds ≡ filled absent_at l.initial.bounds (2 * l.x))
-
-abbrev pub decreases-loop-x : goal.decreases-loop-x
-decreases-loop-x l = l.n - l.x

@@ -8,9 +8,6 @@ use Rattle.theory_differences.specs.Distances.{doubled}
 use Rattle.decide_stored_table.specs.Table.{table_of}
 use Rattle.differences_yes.proofs.write_plain_groups.Given as goal
 
--- `differences_yes::write_plain_groups` meets its contract. The invariant: the groups of the first x variables are written.
+-- The groups of the first x variables are written.
 abbrev pub invariant-loop-x : goal.invariant-loop-x
 invariant-loop-x l = (l.x ≤ l.n) × (length l.groups ≡ length l.initial.groups) × (l.groups ≡ filled (group_at_lem (doubled (table_of l.n l.table))) l.initial.groups (2 * l.x))
-
-abbrev pub decreases-loop-x : goal.decreases-loop-x
-decreases-loop-x l = l.n - l.x

@@ -1,5 +1,5 @@
 -- `engine_closed_walk::far_back` meets its contract.
-use Prim.Native.Nat.{◌+◌, ◌-◌}
+use Prim.Native.Nat.{◌+◌}
 use mir.Syntax.{w64}
 use mir.Facts.{to_z-of_z}
 use Rattle.lines.specs.Line.{number}

@@ -1,4 +1,5 @@
 -- `engine_closed_walk::follow_back` meets its contract. The invariant: the numbers from the slot on name a walk from `at` to v.
+use Rattle.std.specs.Prelude.{Some}
 use mathlib.Core.Path.{◌≡◌, refl, sym, ◌∙◌}
 use Prim.Native.Nat.{ℕ, ◌*◌, ◌-◌, ◌<◌}
 use native.Mathlib.Omega.{arith}
@@ -11,12 +12,11 @@ use mir.Facts.{to_z-of_z, to_z_pos}
 use Rattle.lines.specs.Limits.{max_variables, work_lines}
 use Rattle.lines.specs.Valid.{lines_more}
 use Rattle.steps.specs.declared.Step.{Step}
-use Rattle.steps.specs.declared.NamedStep.TheVariants.{Found}
 use Rattle.steps.specs.Step.{step_numbered_lem}
 use Rattle.decide_rows.specs.Numbers.{numbered_ok}
 use Rattle.decide_rows.specs.Read.{weight_fits}
 use Rattle.engine_closed_walk.specs.Follow.{Following, following_start, following_fits, following_below, following_more, followed_nowhere, followed_to, slot_in}
-use Rattle.engine_closed_walk.proofs.follow_back.Goals.{In-Found}
+use Rattle.engine_closed_walk.proofs.follow_back.Goals.{In-Some}
 use Rattle.engine_closed_walk.proofs.follow_back.Goals as goal
 
 pub loop-slot-init : goal.loop-slot-init
@@ -31,23 +31,23 @@ pub step_numbered-requires : goal.step_numbered-requires
 step_numbered-requires call =
     lines_more call.args.n max_variables call.args.list.now call.requires.few call.requires.valid _
 
-pub returns-in-Nothing : goal.returns-in-Nothing
-returns-in-Nothing exit =
+pub returns-in_default : goal.returns-in_default
+returns-in_default exit =
     followed_nowhere _ _ _ _ _ exit.requires _ _ exit.loop-slot.invariant.1.scratch
 
 -- the step that was found
-module _ (found : In-Found) where
+module _ (found : In-Some) where
   abbrev number : ℕ
   number = found.number_back-number.result
 
   abbrev step : Step
-  step = found.in-Found.t
+  step = found.in-Some.t
 
   abbrev sum : ℤ
   sum = to_z w64 found.loop-slot.sum-bits
 
-  is : step_numbered_lem found.args.list.now number ≡ Found step
-  is = sym found.step_numbered.ensures ∙ found.in-Found.is
+  is : step_numbered_lem found.args.list.now number ≡ Some step
+  is = sym found.step_numbered.ensures ∙ found.in-Some.is
 
   low : found.args.end - 2 * found.args.n < found.loop-slot.slot
   low = found.loop-slot-test.true
@@ -80,15 +80,15 @@ pub bounds-work-slot : goal.bounds-work-slot
 bounds-work-slot stored = in_area stored
 
 pub overflow_add-sum : goal.overflow_add-sum
-overflow_add-sum stored = rw (weight_is (goal.at.overflow_add-sum stored).In-Found) (fits (goal.at.overflow_add-sum stored).In-Found)
+overflow_add-sum stored = rw (weight_is (goal.at.overflow_add-sum stored).In-Some) (fits (goal.at.overflow_add-sum stored).In-Some)
 
 pub returns-then-at-u : goal.returns-then-at-u
 returns-then-at-u exit =
-    rw (number_is (goal.at.returns-then-at-u exit).In-Found, sum_is (goal.at.returns-then-at-u exit).In-Found) (followed_to _ _ _ _ _ exit.requires _ _ _ _ (more (goal.at.returns-then-at-u exit).In-Found) _ exit.if-at-u.true)
+    rw (number_is (goal.at.returns-then-at-u exit).In-Some, sum_is (goal.at.returns-then-at-u exit).In-Some) (followed_to _ _ _ _ _ exit.requires _ _ _ _ (more (goal.at.returns-then-at-u exit).In-Some) _ exit.if-at-u.true)
 
 pub loop-slot-preserved : goal.loop-slot-preserved
 loop-slot-preserved again =
-    rw (number_is (goal.at.loop-slot-preserved again).In-Found, sum_is (goal.at.loop-slot-preserved again).In-Found) (length-set again.loop-slot.work (again.loop-slot.slot - 1) (pos (number (goal.at.loop-slot-preserved again).In-Found)) ∙ again.loop-slot.invariant.0, more (goal.at.loop-slot-preserved again).In-Found)
+    rw (number_is (goal.at.loop-slot-preserved again).In-Some, sum_is (goal.at.loop-slot-preserved again).In-Some) (length-set again.loop-slot.work (again.loop-slot.slot - 1) (pos (number (goal.at.loop-slot-preserved again).In-Some)) ∙ again.loop-slot.invariant.0, more (goal.at.loop-slot-preserved again).In-Some)
 
 pub returns : goal.returns
 returns exit = followed_nowhere _ _ _ _ _ exit.requires _ _ exit.loop-slot.invariant.1.scratch

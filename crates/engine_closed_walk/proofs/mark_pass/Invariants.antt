@@ -1,6 +1,5 @@
 -- What the loops of `engine_closed_walk::mark_pass` keep.
 use mathlib.Core.Path.{◌≡◌}
-use Prim.Native.Nat.{◌-◌}
 use lib.ListN.{length}
 use Rattle.engine_closed_walk.specs.Passes.{Passed}
 use Rattle.engine_closed_walk.proofs.mark_pass.Given as goal
@@ -8,6 +7,3 @@ use Rattle.engine_closed_walk.proofs.mark_pass.Given as goal
 -- `engine_closed_walk::mark_pass` meets its contract: each step keeps what a pass asks.
 abbrev pub invariant-loop-i : goal.invariant-loop-i
 invariant-loop-i l = (length l.work ≡ length l.initial.work) × Passed l.row l.size l.initial.work l.work l.last
-
-abbrev pub decreases-loop-i : goal.decreases-loop-i
-decreases-loop-i l = l.count - l.i

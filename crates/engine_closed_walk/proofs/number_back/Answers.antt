@@ -1,4 +1,5 @@
 -- `engine_closed_walk::number_back` meets its contract: the number is handed over where its step was seen to end there.
+use Rattle.std.specs.Prelude.{Some}
 use mathlib.Core.Path.{◌≡◌, sym, ap, ◌∙◌}
 use Prim.Native.Nat.{◌+◌}
 use mir.Syntax.{w64}
@@ -7,7 +8,6 @@ use Rattle.lines.specs.Limits.{max_variables}
 use Rattle.lines.specs.Line.{number}
 use Rattle.lines.specs.Valid.{lines_more}
 use Rattle.steps.specs.declared.Step.{Step}
-use Rattle.steps.specs.declared.NamedStep.TheVariants.{Found}
 use Rattle.engine_closed_walk.specs.Back.{not_below, ends_nowhere}
 use Rattle.engine_closed_walk.proofs.number_back.Goals as goal
 
@@ -23,12 +23,12 @@ number_in-number-requires c =
 pub step_numbered-requires : goal.step_numbered-requires
 step_numbered-requires c = lines_more c.args.n max_variables c.args.list.now c.requires.few c.requires.valid _
 
-same : {s t : Step} → Found s ≡ Found t → s ≡ t
+same : {s t : Step} → Some s ≡ Some t → s ≡ t
 same e = cc
 
 pub returns-then-t-at : goal.returns-then-t-at
 returns-then-t-at c =
-    record { ends = λ t e. ap (λ (x : Step). x.to) (same (sym e ∙ (sym c.step_numbered.ensures ∙ c.in-Found.is))) ∙ c.if-t-at.true }
+    record { ends = λ t e. ap (λ (x : Step). x.to) (same (sym e ∙ (sym c.step_numbered.ensures ∙ c.in-Some.is))) ∙ c.if-t-at.true }
 
 pub returns-else-t-at : goal.returns-else-t-at
 returns-else-t-at c = ends_nowhere c.args.list.now c.args.at

@@ -1,12 +1,12 @@
 -- `engine_closed_walk::refuted_by_passes` meets its contract. The invariant: the row is small, and nothing is written to the refutation.
 use mathlib.Core.Path.{◌≡◌, refl, ◌∙◌}
-use Prim.Native.Nat.{ℕ, ◌-◌}
+use Prim.Native.Nat.{ℕ}
 use native.Mathlib.Omega.{arith}
 use borrow.Author.Rules.{rules}
 use Rattle.engine_packed_steps.specs.Layout.{walks_at, row_at, places_at}
 use Rattle.engine_packed_steps.specs.Scratch.{scratch_none}
 use Rattle.engine_closed_walk.specs.AtOnce.{OnTheWay, way_ready, way_more, way_kept, way_none, way_refuted}
-use Rattle.engine_closed_walk.proofs.refuted_by_passes.Goals.{After-mark_turn-p, After-row_at-row}
+use Rattle.engine_closed_walk.proofs.refuted_by_passes.Goals.{After-mark_turn-p, After-row_at-row, Else-refuted_from}
 use Rattle.engine_closed_walk.proofs.refuted_by_passes.Goals as goal
 
 pub row_at-row-requires : goal.row_at-row-requires
@@ -48,11 +48,23 @@ returns-then-refuted_from c =
     let e = c.refuted_from.ensures in
     way_refuted (passed (goal.at.returns-then-refuted_from c).After-mark_turn-p) _ _ _ _ c.loop-turn.invariant.2 e.scratch (e.on_yes c.if-refuted_from.true)
 
+-- nothing was written after it
+module _ (c : Else-refuted_from) where
+  unwritten : c.refuted_from.new.refutation ≡ c.args.refutation.now
+  unwritten = c.refuted_from.ensures.on_no c.if-refuted_from.false ∙ c.loop-turn.invariant.2
+
+  kept : OnTheWay (n (goal.at.Else-refuted_from c).After-row_at-row) c.args.work.now c.refuted_from.new.work
+  kept = way_kept (passed (goal.at.Else-refuted_from c).After-mark_turn-p) c.refuted_from.ensures.scratch
+
 pub loop-turn-preserved : goal.loop-turn-preserved
 loop-turn-preserved c =
-    let e = c.refuted_from.ensures in
-    let kept = way_kept (passed (goal.at.loop-turn-preserved c).After-mark_turn-p) e.scratch in
-    (search rules, kept.scratch.same_length, e.on_no c.if-refuted_from.false ∙ c.loop-turn.invariant.2, kept)
+    let e = (goal.at.loop-turn-preserved c).Else-refuted_from in
+    (search rules, (kept e).scratch.same_length, unwritten e, kept e)
+
+pub returns-else-refuted_from : goal.returns-else-refuted_from
+returns-else-refuted_from c =
+    let e = (goal.at.returns-else-refuted_from c).Else-refuted_from in
+    way_none (kept e) _ _ _ (unwritten e)
 
 pub returns : goal.returns
 returns c = way_none c.loop-turn.invariant.3 _ _ _ c.loop-turn.invariant.2

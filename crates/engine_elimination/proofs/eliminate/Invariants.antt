@@ -8,6 +8,3 @@ use Rattle.engine_elimination.proofs.eliminate.Given as goal
 -- `engine_elimination::eliminate` meets its contract.
 abbrev pub invariant-loop-i : goal.invariant-loop-i
 invariant-loop-i l = (length l.work ≡ length l.initial.work) × Kept l.count l.pot l.size l.initial.work l.work
-
-abbrev pub decreases-loop-i : goal.decreases-loop-i
-decreases-loop-i l = l.size - l.i

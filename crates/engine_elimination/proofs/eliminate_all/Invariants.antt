@@ -8,6 +8,3 @@ use Rattle.engine_elimination.proofs.eliminate_all.Given as goal
 -- `engine_elimination::eliminate_all` meets its contract: the table is kept from turn to turn.
 abbrev pub invariant-loop-v : goal.invariant-loop-v
 invariant-loop-v l = (length l.work ≡ length l.initial.work) × Kept l.count l.pot l.size l.initial.work l.work
-
-abbrev pub decreases-loop-v : goal.decreases-loop-v
-decreases-loop-v l = l.n - l.v

@@ -1,6 +1,5 @@
 -- `engine_halves_walks::pass_all` meets its contract: each pass keeps what one asks.
 use mathlib.Core.Path.{refl}
-use Prim.Native.Nat.{◌-◌}
 use native.Mathlib.Omega.{arith}
 use Rattle.engine_closed_walk.specs.Passes.{Passed, passed_none, pass_ready}
 use Rattle.engine_halves_walks.specs.Between.{passed_after}

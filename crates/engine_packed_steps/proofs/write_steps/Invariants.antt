@@ -6,6 +6,3 @@ use Rattle.engine_packed_steps.proofs.write_steps.Given as goal
 -- `engine_packed_steps::write_steps` meets its contract. The invariant: the steps with the numbers gone through are written.
 abbrev pub invariant-loop-number : goal.invariant-loop-number
 invariant-loop-number l = Writing l.n l.list l.initial.work l.work l.number l.kept
-
-abbrev pub decreases-loop-number : goal.decreases-loop-number
-decreases-loop-number l = l.count - l.number

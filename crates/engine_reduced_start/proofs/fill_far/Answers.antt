@@ -1,6 +1,6 @@
 -- `engine_reduced_start::fill_far` meets its contract.
 use mathlib.Core.Path.{refl, subst}
-use Prim.Native.Nat.{ℕ, ◌-◌}
+use Prim.Native.Nat.{ℕ}
 use native.Mathlib.Omega.{arith}
 use Rattle.engine_reduced_start.specs.Start.{AllFar, filled_start, filled_more}
 use borrow.Author.Rules.{rules}

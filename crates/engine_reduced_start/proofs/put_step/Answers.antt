@@ -5,5 +5,5 @@ use Rattle.engine_reduced_start.proofs.put_step.Goals as goal
 
 pub lower_entry-requires : goal.lower_entry-requires
 lower_entry-requires call =
-    let on = reduced_found call.reduced_step.ensures call.in-Entry.is in
+    let on = reduced_found call.reduced_step.ensures call.in-Some.is in
     rw (to_z-of_z (reduced_fits on)) on.ready

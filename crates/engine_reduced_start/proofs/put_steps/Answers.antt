@@ -1,6 +1,5 @@
 -- `engine_reduced_start::put_steps` meets its contract.
 use mathlib.Core.Path.{refl, ◌∙◌}
-use Prim.Native.Nat.{◌-◌}
 use Rattle.engine_reduced_table.specs.Reduced.{kept_trans, kept_none}
 use Rattle.engine_reduced_start.proofs.put_steps.Goals as goal
 

@@ -1,6 +1,5 @@
 -- What the loops of `engine_reduced_start::put_steps` keep.
 use mathlib.Core.Path.{◌≡◌}
-use Prim.Native.Nat.{◌-◌}
 use lib.ListN.{length}
 use Rattle.engine_reduced_table.specs.Reduced.{Kept}
 use Rattle.engine_reduced_start.proofs.put_steps.Given as goal
@@ -8,6 +7,3 @@ use Rattle.engine_reduced_start.proofs.put_steps.Given as goal
 -- `engine_reduced_start::put_steps` meets its contract.
 abbrev pub invariant-loop-i : goal.invariant-loop-i
 invariant-loop-i l = (length l.work ≡ length l.initial.work) × Kept l.count l.pot l.size l.initial.work l.work
-
-abbrev pub decreases-loop-i : goal.decreases-loop-i
-decreases-loop-i l = l.count - l.i

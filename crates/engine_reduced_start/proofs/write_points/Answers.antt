@@ -1,6 +1,6 @@
 -- `engine_reduced_start::write_points` meets its contract.
 use mathlib.Core.Path.{◌≡◌, refl, subst}
-use Prim.Native.Nat.{ℕ, ◌-◌}
+use Prim.Native.Nat.{ℕ, ◌+◌, ◌*◌}
 use native.Mathlib.Omega.{arith}
 use lib.IntN.{ℤ, ◌-ℤ◌}
 use lib.ListN.{length-set}
@@ -37,15 +37,15 @@ module _ (c : After-not_large-other) where
   small : Within max_potential (x -ℤ y)
   small = difference_small x y c.not_large-own.ensures c.not_large-other.ensures
 
-pub loop-k-init : goal.loop-k-init
-loop-k-init c = (refl, pointed_start c.args.pot c.args.size c.args.work.now, c.requires.even)
+pub loop-place-init : goal.loop-place-init
+loop-place-init c = (refl, pointed_start c.args.pot c.args.size c.args.work.now, c.requires.even)
 
 pub variable_at-x-requires : goal.variable_at-x-requires
-variable_at-x-requires c = (omega (arith, c.loop-k.invariant.0, c.requires.order_room), omega (arith, c.loop-k.invariant.1.even, c.loop-k.invariant.2, c.loop-k-test.true))
+variable_at-x-requires c = (omega (arith, c.loop-place.invariant.0, c.requires.order_room), c.loop-place-test.true)
 
-pub slice_copy_out-not_large-in-loop-k : goal.slice_copy_out-not_large-in-loop-k
-slice_copy_out-not_large-in-loop-k c =
-    omega (arith, c.loop-k.invariant.0, c.loop-k.invariant.2, c.variable_at-x.ensures, c.requires.row_room)
+pub slice_copy_out-not_large-in-loop-place : goal.slice_copy_out-not_large-in-loop-place
+slice_copy_out-not_large-in-loop-place c =
+    omega (arith, c.loop-place.invariant.0, c.loop-place.invariant.2, c.variable_at-x.ensures, c.requires.row_room)
 
 pub overflow_sub-number : goal.overflow_sub-number
 overflow_sub-number c = rw (x_is c, y_is c) (fits c)
@@ -53,18 +53,19 @@ overflow_sub-number c = rw (x_is c, y_is c) (fits c)
 pub overflow_sub-work : goal.overflow_sub-work
 overflow_sub-work c = rw (x_is c, y_is c, d_is c) (negative_fits _ (small c))
 
-pub bounds-work-pot-in-loop-k : goal.bounds-work-pot-in-loop-k
-bounds-work-pot-in-loop-k c =
-    simp length-set (omega (arith, c.loop-k.invariant.0, c.loop-k.invariant.1.even, c.loop-k.invariant.2, c.loop-k-test.true, c.requires.room))
+pub bounds-work-pot-in-loop-place : goal.bounds-work-pot-in-loop-place
+bounds-work-pot-in-loop-place c =
+    simp length-set (omega (arith, c.loop-place.invariant.0, c.loop-place.invariant.1.even, c.loop-place.invariant.2, c.loop-place-test.true, c.requires.room))
 
-pub loop-k-preserved : goal.loop-k-preserved
-loop-k-preserved c = (
-  search rules,
-  rw (x_is c, y_is c, d_is c, to_z-of_z (negative_fits _ (small c)))
-      (pointed_more c.args.pot c.args.size c.args.work.now c.loop-k.work c.loop-k.k c.loop-k.invariant.1 c.loop-k.invariant.2 (omega (arith, c.requires.room, c.loop-k.invariant.0)) c.loop-k-test.true (x c -ℤ y c) (small c)),
-  c.loop-k.invariant.2,
-)
+pub loop-place-preserved : goal.loop-place-preserved
+loop-place-preserved c =
+    let next : 2 * (c.loop-place.place + 1) ≡ 2 * c.loop-place.place + 2 = omega arith in (
+      search rules,
+      rw (next, x_is c, y_is c, d_is c, to_z-of_z (negative_fits _ (small c)))
+          (pointed_more c.args.pot c.args.size c.args.work.now c.loop-place.work (2 * c.loop-place.place) c.loop-place.invariant.1 c.loop-place.invariant.2 (omega (arith, c.requires.room, c.loop-place.invariant.0)) (omega (arith, c.loop-place-test.true)) (x c -ℤ y c) (small c)),
+      c.loop-place.invariant.2,
+    )
 
 pub returns : goal.returns
 returns c =
-    subst (λ (k : ℕ). Pointed c.args.pot c.args.size c.args.work.now c.loop-k.work k) (omega (arith, c.loop-k.invariant.1.at_most, c.loop-k-test.false)) c.loop-k.invariant.1
+    subst (λ (k : ℕ). Pointed c.args.pot c.args.size c.args.work.now c.loop-place.work k) (omega (arith, c.loop-place.invariant.1.at_most, c.loop-place-test.false, c.loop-place.invariant.2)) c.loop-place.invariant.1

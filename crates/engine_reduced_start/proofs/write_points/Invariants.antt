@@ -1,13 +1,9 @@
--- What the loops of `engine_reduced_start::write_points` keep.
+-- What the loop of `engine_reduced_start::write_points` keeps: the points of the variables at the places before have their numbers.
 use mathlib.Core.Path.{◌≡◌}
-use Prim.Native.Nat.{◌-◌, ◌%◌}
+use Prim.Native.Nat.{◌*◌, ◌%◌}
 use lib.ListN.{length}
 use Rattle.engine_reduced_start.specs.Start.{Pointed}
 use Rattle.engine_reduced_start.proofs.write_points.Given as goal
 
--- `engine_reduced_start::write_points` meets its contract.
-abbrev pub invariant-loop-k : goal.invariant-loop-k
-invariant-loop-k l = (length l.work ≡ length l.initial.work) × Pointed l.pot l.size l.initial.work l.work l.k × (l.size % 2 ≡ 0)
-
-abbrev pub decreases-loop-k : goal.decreases-loop-k
-decreases-loop-k l = l.size - l.k
+abbrev pub invariant-loop-place : goal.invariant-loop-place
+invariant-loop-place l = (length l.work ≡ length l.initial.work) × Pointed l.pot l.size l.initial.work l.work (2 * l.place) × (l.size % 2 ≡ 0)

@@ -8,6 +8,3 @@ use Rattle.engine_reduced_table.proofs.lower.Given as goal
 -- `engine_reduced_table::lower` meets its contract: each number stored is an entry.
 abbrev pub invariant-loop-t : goal.invariant-loop-t
 invariant-loop-t l = (length l.work ≡ length l.initial.work) × Kept l.count l.pot l.size l.initial.work l.work
-
-abbrev pub decreases-loop-t : goal.decreases-loop-t
-decreases-loop-t l = l.size - l.t

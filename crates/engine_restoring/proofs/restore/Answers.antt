@@ -1,6 +1,5 @@
 -- `engine_restoring::restore` meets its contract.
 use mathlib.Core.Path.{refl, ◌∙◌}
-use Prim.Native.Nat.{◌-◌}
 use native.Mathlib.Omega.{arith}
 use Rattle.engine_reduced_table.specs.Reduced.{asked, kept_trans, kept_none}
 use Rattle.engine_restoring.proofs.restore.Goals as goal

@@ -1,13 +1,9 @@
 -- What the loops of `engine_restoring::restore_all` keep.
 use mathlib.Core.Path.{◌≡◌}
-use Prim.Native.Nat.{◌/◌, ◌≤◌}
 use lib.ListN.{length}
 use Rattle.engine_reduced_table.specs.Reduced.{Kept}
 use Rattle.engine_restoring.proofs.restore_all.Given as goal
 
 -- `engine_restoring::restore_all` meets its contract: the table is kept from turn to turn.
-abbrev pub invariant-loop-left : goal.invariant-loop-left
-invariant-loop-left l = (length l.work ≡ length l.initial.work) × Kept l.count l.pot l.size l.initial.work l.work × (l.left ≤ l.size / 2)
-
-abbrev pub decreases-loop-left : goal.decreases-loop-left
-decreases-loop-left l = l.left
+abbrev pub invariant-loop-v : goal.invariant-loop-v
+invariant-loop-v l = (length l.work ≡ length l.initial.work) × Kept l.count l.pot l.size l.initial.work l.work

@@ -1,7 +1,7 @@
 -- `engine_restoring::restore_row` meets its contract.
 use mathlib.Core.Path.{refl, ◌∙◌}
 use mathlib.Core.Logic.{inr}
-use Prim.Native.Nat.{◌+◌, ◌*◌, ◌-◌}
+use Prim.Native.Nat.{◌+◌, ◌*◌}
 use native.Mathlib.Omega.{arith}
 use Rattle.engine_packed_steps.specs.Layout.{row_width}
 use Rattle.engine_reduced_table.specs.Reduced.{Kept, kept_none, asked, kept_trans, copied_kept}

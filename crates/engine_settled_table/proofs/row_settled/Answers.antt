@@ -1,7 +1,6 @@
 -- `engine_settled_table::row_settled` meets its contract. The invariant: what the sum says of the columns gone through.
 use mathlib.Core.Path.{◌≡◌, ap}
 use mathlib.Core.List.{List}
-use Prim.Native.Nat.{◌-◌}
 use native.Mathlib.Omega.{arith}
 use borrow.Author.Tests.{eqb-true}
 use lib.IntN.{ℤ, ◌+ℤ◌, ◌-ℤ◌}

@@ -1,8 +1,6 @@
--- `file_list::file_size` meets its contract. The invariant: the records of the first k lines end at `size`.
+-- `file_list::file_size` meets its contract.
 use mathlib.Core.Path.{◌≡◌, sym, ap, ◌∙◌}
-use mathlib.Core.List.{List}
 use native.Mathlib.Omega.{arith}
-use lib.IntN.{ℤ}
 use Rattle.lines.specs.Line.{line_at}
 use Rattle.file_records.specs.Table.{record_size_lem}
 use Rattle.file_records.specs.Places.{variables_record, end_record}
@@ -12,30 +10,25 @@ use Rattle.file_list.proofs.file_size.Goals.{After-loop-k, After-record_size-siz
 use Rattle.file_list.proofs.file_size.Goals as goal
 
 pub loop-k-init : goal.loop-k-init
-loop-k-init c = (omega arith, ended_none c.args.list.now _ (sym variables_record))
+loop-k-init c = ended_none c.args.list.now _ (sym variables_record)
 
 -- one line
 module _ (c : After-record_size-size) where
-  abbrev L : List ℤ
-  L = c.args.list.now
-
-  size_is : c.record_size-size.result ≡ record_size_lem (kind_of (line_at L c.loop-k.k))
+  size_is : c.record_size-size.result ≡ record_size_lem (kind_of (line_at c.args.list.now c.loop-k.k))
   size_is = c.record_size-size.ensures ∙ ap record_size_lem (c.line_kind.ensures ∙ ap kind_of c.line_at.ensures)
 
 pub overflow_add-size : goal.overflow_add-size
 overflow_add-size c =
-    let k = c.loop-k.k in
-    omega (arith, size_is c, ended_within (L c) k c.loop-k.size (omega arith) c.loop-k.invariant.1, ends_before (L c), c.well_formed)
+    let L = c.args.list.now in
+    omega (arith, size_is c, ended_within L c.loop-k.k c.loop-k.size (omega arith) c.loop-k.invariant, ends_before L, c.well_formed)
 
 pub loop-k-preserved : goal.loop-k-preserved
-loop-k-preserved c =
-    let k = c.loop-k.k in
-    (omega arith, rw (size_is c) (ended_more (L c) k c.loop-k.size (omega arith) c.loop-k.invariant.1))
+loop-k-preserved c = rw (size_is c) (ended_more c.args.list.now c.loop-k.k c.loop-k.size (omega arith) c.loop-k.invariant)
 
 -- all lines
 module _ (c : After-loop-k) where
   end_is : c.loop-k.size ≡ lines_end c.args.list.now
-  end_is = ended_all _ c.loop-k.k c.loop-k.size (omega arith) c.loop-k.invariant.1
+  end_is = ended_all _ c.loop-k.k c.loop-k.size (omega arith) c.loop-k.invariant
 
 pub overflow_add-result : goal.overflow_add-result
 overflow_add-result c = omega (arith, end_is c, ends_before c.args.list.now, c.well_formed)

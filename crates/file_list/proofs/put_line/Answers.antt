@@ -1,10 +1,8 @@
 -- `file_list::put_line` meets its contract: the record is as long as its kind's, and has that many of the line's numbers.
 use mathlib.Core.Path.{◌≡◌, ap, ◌∙◌}
-use mathlib.Core.List.{List, ◌++◌}
+use mathlib.Core.List.{◌++◌}
 use Prim.Native.Nat.{ℕ, ◌+◌, ◌*◌, ◌-◌, ◌/◌}
 use native.Mathlib.Omega.{arith}
-use lib.IntN.{ℤ}
-use lib.ListN.{drop, length-take}
 use Rattle.lines.specs.declared.Line.{Line}
 use Rattle.lines.specs.Limits.{line_size}
 use Rattle.lines.specs.Line.{line_at}
@@ -19,11 +17,8 @@ use Rattle.file_list.proofs.put_line.Goals as goal
 
 -- the line's kind, and its record's size
 module _ (c : After-record_size-size) where
-  abbrev L : List ℤ
-  L = c.args.list.now
-
   abbrev l : Line
-  l = line_at L c.args.k
+  l = line_at c.args.list.now c.args.k
 
   kind_is : c.line_kind-kind.result ≡ kind_of l
   kind_is = c.line_kind-kind.ensures ∙ ap kind_of c.line_at.ensures
@@ -31,34 +26,23 @@ module _ (c : After-record_size-size) where
   size_is : c.record_size-size.result ≡ record_size_lem (kind_of l)
   size_is = c.record_size-size.ensures ∙ ap record_size_lem kind_is
 
-  -- how many numbers, as the code has it
-  abbrev count : ℕ
-  count = line_size * c.args.k + (c.record_size-size.result - header_size) / 4 - line_size * c.args.k
-
-pub overflow_sub-body : goal.overflow_sub-body
-overflow_sub-body c = omega (arith, size_is c)
-
 pub put_header-requires : goal.put_header-requires
 put_header-requires c =
-    omega (arith, kind_is (goal.at.put_header-requires c).After-record_size-size, size_is (goal.at.put_header-requires c).After-record_size-size, kind_small (l (goal.at.put_header-requires c).After-record_size-size), longest (kind_of (l (goal.at.put_header-requires c).After-record_size-size)), c.requires.1)
+    let s = (goal.at.put_header-requires c).After-record_size-size in
+    omega (arith, kind_is s, size_is s, kind_small (l s), longest (kind_of (l s)), c.requires.1)
 
 pub slice_bounds-put_numbers-end : goal.slice_bounds-put_numbers-end
 slice_bounds-put_numbers-end c =
-    omega (arith, size_is (goal.at.slice_bounds-put_numbers-end c).After-record_size-size, longest (kind_of (l (goal.at.slice_bounds-put_numbers-end c).After-record_size-size)), c.requires.0)
-
-pub put_numbers-requires : goal.put_numbers-requires
-put_numbers-requires c =
-    omega (arith, size_is (goal.at.put_numbers-requires c).After-record_size-size, c.requires.1, c.put_header.auto.out, length-take (count (goal.at.put_numbers-requires c).After-record_size-size) (drop (line_size * c.args.k) (L (goal.at.put_numbers-requires c).After-record_size-size)))
-
-pub overflow_add-result : goal.overflow_add-result
-overflow_add-result c =
-    omega (arith, size_is (goal.at.overflow_add-result c).After-record_size-size, c.requires.1, c.well_formed)
+    let s = (goal.at.slice_bounds-put_numbers-end c).After-record_size-size in
+    omega (arith, size_is s, longest (kind_of (l s)), c.requires.0)
 
 pub returns : goal.returns
 returns c =
     let a = c.args in
-    let body : c.record_size-size.result - header_size ≡ size_of (body_size_lem (kind_of (l (goal.at.returns c).After-record_size-size))) = omega (arith, size_is (goal.at.returns c).After-record_size-size) in
-    let header = c.put_header.ensures ∙ ap (λ (k : ℕ). put a.out.now a.at (bytes16 (c.record_size-size.result - header_size) ++ bytes16 k)) (kind_is (goal.at.returns c).After-record_size-size) in (
-      omega (arith, size_is (goal.at.returns c).After-record_size-size),
-      put_record a.out.now a.at (L (goal.at.returns c).After-record_size-size) a.k (c.record_size-size.result - header_size) (count (goal.at.returns c).After-record_size-size) c.requires.0 body (omega arith) header c.put_numbers.ensures,
-    )
+    let s = (goal.at.returns c).After-record_size-size in
+    let size = c.record_size-size.result in
+    -- how many numbers, as the code has it
+    let count = line_size * a.k + (size - header_size) / 4 - line_size * a.k in
+    let body : size - header_size ≡ size_of (body_size_lem (kind_of (l s))) = omega (arith, size_is s) in
+    let header = c.put_header.ensures ∙ ap (λ (k : ℕ). put a.out.now a.at (bytes16 (size - header_size) ++ bytes16 k)) (kind_is s) in
+    (omega (arith, size_is s), put_record a.out.now a.at a.list.now a.k (size - header_size) count c.requires.0 body (omega arith) header c.put_numbers.ensures)

@@ -1,5 +1,7 @@
 -- `file_records::scan` meets its contract. The invariant: reading on from the cursor leads where all of the reading leads.
-use mathlib.Core.Path.{refl, sym, ◌∙◌}
+use Rattle.std.proofs.lemmas.Result.{err_from_is_err_and}
+use Rattle.std.specs.Prelude.{Ok}
+use mathlib.Core.Path.{refl, sym, ap, ◌∙◌}
 use Prim.Native.Nat.{◌<◌}
 use native.Mathlib.Omega.{arith}
 use Rattle.file_records.specs.declared.Cursor.{Cursor}
@@ -20,7 +22,7 @@ module _ (c : In-More) where
   next = c.in-More.c
 
   more : Running c.args.bytes.now c.args.room next × (c.loop-c.cursor.at < next.at)
-  more = goes_on _ _ _ _ c.loop-c.invariant (sym c.next_record.ensures ∙ c.in-More.is)
+  more = goes_on _ _ _ _ c.loop-c.invariant (sym c.next_record.ensures ∙ c.in_ok-c.was ∙ ap Ok c.in-More.is)
 
 pub loop-c-smaller : goal.loop-c-smaller
 loop-c-smaller c = omega (arith, (more c).0.reached.within, (more c).1)
@@ -30,8 +32,9 @@ loop-c-preserved c = (more c).0
 
 pub returns-in-End : goal.returns-in-End
 returns-in-End c =
-    c.whole_file.ensures ∙ stops _ _ _ c.loop-c.invariant _ (sym c.next_record.ensures ∙ c.in-End.is) (λ _. refl)
+    c.whole_file.ensures ∙ stops _ _ _ c.loop-c.invariant _ _ (sym c.next_record.ensures ∙ c.in_ok-c.was ∙ ap Ok c.in-End.is) (λ _. refl)
 
-pub returns-in-Refused : goal.returns-in-Refused
-returns-in-Refused c =
-    stops _ _ _ c.loop-c.invariant _ (sym c.next_record.ensures ∙ c.in-Refused.is) (λ _. refl)
+pub returns-in_err-c : goal.returns-in_err-c
+returns-in_err-c c =
+    let p = err_from_is_err_and c.from_residual.result c.from_residual.ensures.1 in
+    rw (p.1, p.2) (stops _ _ _ c.loop-c.invariant _ _ (sym c.next_record.ensures ∙ c.in_err-c.was) (λ _. refl))

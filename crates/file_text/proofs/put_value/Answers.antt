@@ -4,14 +4,10 @@ use Prim.Native.Nat.{◌≤◌}
 use native.Mathlib.Omega.{arith}
 use lib.ListN.{length}
 use mir.Syntax.{w32}
-use Rattle.integers.proofs.Bits.{widens, widened}
+use Rattle.integers.proofs.Bits.{widened}
 use Rattle.file_text.specs.Text.{signed_text}
 use Rattle.file_text.specs.Put.{then, wider, same}
 use Rattle.file_text.proofs.put_value.Goals as goal
-
-pub overflow_cast-value : goal.overflow_cast-value
-overflow_cast-value c =
-    widens {w = w32} tt c.ranges.value
 
 pub returns : goal.returns
 returns c =

@@ -2,6 +2,7 @@
 use mathlib.Core.Path.{ap}
 use Prim.Native.Nat.{◌+◌, ◌*◌, ◌≤◌}
 use native.Mathlib.Omega.{arith}
+use borrow.Author.Rules.{rules}
 use lib.IntN.{pos}
 use lib.ListN.{length, get_or}
 use mir.Syntax.{w32, w64}
@@ -15,9 +16,9 @@ returns c =
     let h : c.args.at ≤ length c.args.out.now = omega arith in
     let x = c.args.x in
     let bounds = c.args.bounds.now in
-    let value = kept w32 (get_or c.args.model.now x (pos 0)) c.put_value-arg-2-1.given in
-    let least = kept w64 (get_or bounds (2 * x) (pos 0)) c.put_bounds-arg-2-1.given in
-    let greatest = kept w64 (get_or bounds (2 * x + 1) (pos 0)) c.put_bounds-arg-3-1.given in
+    let value = kept w32 (get_or c.args.model.now x (pos 0)) (search rules) in
+    let least = kept w64 (get_or bounds (2 * x) (pos 0)) (search rules) in
+    let greatest = kept w64 (get_or bounds (2 * x + 1) (pos 0)) (search rules) in
     let q1 = same (ap (value_text x) value) c.put_value-next.ensures in
     let q2 = same (bounds_same least greatest) c.put_bounds-next.ensures in
     same

@@ -1,4 +1,4 @@
--- `file_text::write_yes` meets its contract. The invariant: the lines of the first x variables are put.
+-- `file_text::write_yes` meets its contract.
 use mathlib.Core.Path.{◌≡◌, ap}
 use Prim.Native.Nat.{ℕ, ◌≤◌}
 use native.Mathlib.Omega.{arith}
@@ -10,21 +10,18 @@ use Rattle.file_text.proofs.write_yes.Goals as goal
 
 pub loop-x-init : goal.loop-x-init
 unfolding lines_text
-loop-x-init c = (omega arith, wider (omega arith) (nothing (omega arith)))
+loop-x-init c = wider (omega arith) (nothing (omega arith))
 
 pub loop-x-preserved : goal.loop-x-preserved
 loop-x-preserved c =
-    let x = c.loop-x.x in (
-      omega arith,
-      same
-          (lines_more x c.args.model.now c.args.bounds.now c.args.groups.now)
-          (wider (omega arith) (then (omega arith) c.loop-x.invariant.1 c.put_variable_line-at.ensures)),
-    )
+    same
+    (lines_more c.loop-x.x c.args.model.now c.args.bounds.now c.args.groups.now)
+    (wider (omega arith) (then (omega arith) c.loop-x.invariant c.put_variable_line-at.ensures))
 
 pub returns : goal.returns
 unfolding yes_text
 returns c =
     let h : 0 ≤ length c.args.out.now = omega arith in
     let e : c.loop-x.x ≡ c.args.n = omega arith in
-    let lines = same (ap (λ (x : ℕ). lines_text x c.args.model.now c.args.bounds.now c.args.groups.now) e) c.loop-x.invariant.1 in
+    let lines = same (ap (λ (x : ℕ). lines_text x c.args.model.now c.args.bounds.now c.args.groups.now) e) c.loop-x.invariant in
     wrote (omega arith) (then h c.put_text-at.ensures lines)

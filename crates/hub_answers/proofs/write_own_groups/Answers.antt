@@ -1,7 +1,7 @@
 -- `hub_answers::write_own_groups` meets its contract. The invariant: the groups of the first x variables are written.
 use mathlib.Core.Path.{◌≡◌, refl, ap, ◌∙◌}
 use mathlib.Core.List.{List}
-use Prim.Native.Nat.{ℕ, ◌+◌, ◌*◌, ◌-◌}
+use Prim.Native.Nat.{ℕ, ◌+◌, ◌*◌}
 use native.Mathlib.Omega.{arith}
 use lib.ListN.{set, length-set}
 use Rattle.integers.specs.Fill.{filled, filled_none}

@@ -1,7 +1,7 @@
 -- What the loops of `hub_limits::all_sound` keep.
 use mathlib.Core.Path.{◌≡◌}
 use mathlib.Core.Bool.{true}
-use Prim.Native.Nat.{◌-◌, ◌≤◌}
+use Prim.Native.Nat.{◌≤◌}
 use Rattle.integers.specs.Table.{all_below}
 use Rattle.theory_hub.specs.Hub.{hub_points, others, sound}
 use Rattle.hub_weights.specs.Weights.{weights_in}
@@ -11,6 +11,3 @@ use Rattle.hub_limits.proofs.all_sound.Given as goal
 -- `hub_limits::all_sound` meets its contract. The invariant: the points before p pass.
 abbrev pub invariant-loop-p : goal.invariant-loop-p
 invariant-loop-p l = (hub_points ≤ l.p) × (others_before l.p ≤ others l.n) × (all_below (others_before l.p) (from_hub (sound (weights_in l.n l.weights))) ≡ true)
-
-abbrev pub decreases-loop-p : goal.decreases-loop-p
-decreases-loop-p l = l.count - l.p

@@ -1,5 +1,5 @@
 -- `hub_weights::put_steps` meets its contract. The invariant: the steps with the numbers gone through are put.
-use Prim.Native.Nat.{ℕ, ◌-◌}
+use Prim.Native.Nat.{ℕ}
 use native.Mathlib.Omega.{arith}
 use borrow.Author.Tests.{not-false}
 use Rattle.engine_packed_steps.specs.Scratch.{Scratch, scratch_trans}

@@ -9,6 +9,3 @@ use Rattle.lines.proofs.lines_validity.Given as goal
 -- `lines::lines_validity` meets its contract. The invariant: what is found from line k on is what is found from the first.
 abbrev pub invariant-loop-k : goal.invariant-loop-k
 invariant-loop-k l = (l.k ≤ l.count) × (lines_validity_lem l.n 0 (lines_of l.list) ≡ lines_validity_lem l.n l.k (drop l.k (lines_of l.list)))
-
-abbrev pub decreases-loop-k : goal.decreases-loop-k
-decreases-loop-k l = l.count - l.k

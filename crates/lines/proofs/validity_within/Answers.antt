@@ -1,8 +1,8 @@
 -- `lines::validity_within` meets its contract: what is found goes from rule to rule.
+use Rattle.std.specs.Prelude.{Ok}
 use mathlib.Core.Path.{◌≡◌, ap, ◌∙◌}
 use lib.IntN.{ℤ}
 use mir.Facts.{to_z-of_z}
-use Rattle.lines.specs.declared.Validity.TheVariants.{Valid}
 use Rattle.lines.specs.Refusal.{constant_ok_lem, rules_within}
 use Rattle.lines.specs.Laws.{found_from_law}
 use Rattle.lines.proofs.validity_within.Goals.{After-or_unless-found-5}
@@ -17,4 +17,4 @@ module _ (c : After-or_unless-found-5) where
 pub returns : goal.returns
 returns c =
     let a = c.args in
-    cc (found_from_law Valid (rules_within a.most) a.n a.k a.line, constant-is c)
+    cc (found_from_law (Ok tt) (rules_within a.most) a.n a.k a.line, constant-is c)

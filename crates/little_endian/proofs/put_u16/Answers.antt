@@ -1,12 +1,10 @@
--- `put_u16` stores the bytes of v one behind the other.
-use Prim.Native.Nat.{◌/◌, ◌%◌}
+-- `little_endian::put_u16` meets its contract.
+use mathlib.Core.Path.{◌∙◌}
 use native.Mathlib.Omega.{arith}
-use lib.ListN.{length-set}
-use Rattle.little_endian.specs.Writing.{put_two}
+use Prim.Native.Nat.{◌+◌}
+use Rattle.little_endian.specs.Writing.{bytes16}
+use Rattle.little_endian.proofs.Stores.{put_part}
 use Rattle.little_endian.proofs.put_u16.Goals as goal
 
-pub bounds-out-at-2 : goal.bounds-out-at-2
-bounds-out-at-2 c = omega (arith, length-set c.args.out.now c.args.at (c.args.v % 256), c.requires.0)
-
 pub returns : goal.returns
-returns c = put_two c.args.out.now c.args.at (c.args.v % 256) (c.args.v / 256 % 256)
+returns c = let a = c.args in put_part a.out.now a.at (a.at + 2) _ (bytes16 a.v) (c.copy_from_slice.ensures.after ∙ c.to_le_bytes.ensures) (omega arith) c.requires.0

@@ -1,4 +1,6 @@
 -- `session_add::add_to` meets its contract: the list has the lines of the state and the new one; it is refused, or answered with its last line learnt.
+use Rattle.std.proofs.lemmas.Result.{err_from_is_err_and}
+use Rattle.std.specs.Prelude.{Ok}
 use mathlib.Core.Path.{◌≡◌, sym, ap, ◌∙◌}
 use mathlib.Core.List.{List}
 use Prim.Native.Nat.{ℕ, ◌+◌, ◌*◌, ◌≤◌}
@@ -6,7 +8,6 @@ use native.Mathlib.Omega.{arith}
 use lib.IntN.{ℤ}
 use lib.ListN.{length, take}
 use Rattle.lines.specs.declared.Line.{Line}
-use Rattle.lines.specs.declared.Validity.TheVariants.{Valid}
 use Rattle.lines.specs.Limits.{line_size, max_lines}
 use Rattle.decide_buffers.specs.Room.{Lent}
 use Rattle.decide.specs.Decided.{validity_for}
@@ -17,7 +18,7 @@ use Rattle.session_state.specs.Laws.{state_head, state_head_ok}
 use Rattle.session_promise.specs.Standing.{length_with, decide_refuses}
 use Rattle.session_answer.specs.Answers.{Answers}
 use Rattle.session_add.specs.Added.{answer_ready, head_kept, room_kept, adds, ready_same, answers_same}
-use Rattle.session_add.proofs.add_to.Goals.{After-answer_learnt-answer, After-decide_validity-found, After-read_head-head, In_default, Start}
+use Rattle.session_add.proofs.add_to.Goals.{After-answer_learnt-answer, After-decide_validity, After-read_head-head, In_ok-decide_validity, Start}
 use Rattle.session_add.proofs.add_to.Goals as goal
 
 -- what was lent
@@ -79,21 +80,22 @@ pub slice_bounds-decide_validity-end : goal.slice_bounds-decide_validity-end
 slice_bounds-decide_validity-end c = sym (ap length (list_is (goal.at.slice_bounds-decide_validity-end c).After-read_head-head) ∙ end_is (goal.at.slice_bounds-decide_validity-end c).After-read_head-head)
 
 -- refusals were looked for
-module _ (v : After-decide_validity-found) where
-  found : v.decide_validity-found.result ≡ validity_for (variables_in (state (goal.at.After-decide_validity-found v).Start)) (numbers_with (state (goal.at.After-decide_validity-found v).Start) (line (goal.at.After-decide_validity-found v).Start)) (lent (goal.at.After-decide_validity-found v).Start)
+module _ (v : After-decide_validity) where
+  found : v.decide_validity.result ≡ validity_for (variables_in (state (goal.at.After-decide_validity v).Start)) (numbers_with (state (goal.at.After-decide_validity v).Start) (line (goal.at.After-decide_validity v).Start)) (lent (goal.at.After-decide_validity v).Start)
   found =
-      v.decide_validity-found.ensures
-      ∙ ap (λ (m : ℕ). validity_for m (take (end (goal.at.After-decide_validity-found v).After-read_head-head) (list (goal.at.After-decide_validity-found v).After-read_head-head)) (lent (goal.at.After-decide_validity-found v).Start)) (variables_is (goal.at.After-decide_validity-found v).After-read_head-head)
-      ∙ ap (λ (L : List ℤ). validity_for (variables_in (state (goal.at.After-decide_validity-found v).Start)) L (lent (goal.at.After-decide_validity-found v).Start)) (list_is (goal.at.After-decide_validity-found v).After-read_head-head)
+      v.decide_validity.ensures
+      ∙ ap (λ (m : ℕ). validity_for m (take (end (goal.at.After-decide_validity v).After-read_head-head) (list (goal.at.After-decide_validity v).After-read_head-head)) (lent (goal.at.After-decide_validity v).Start)) (variables_is (goal.at.After-decide_validity v).After-read_head-head)
+      ∙ ap (λ (L : List ℤ). validity_for (variables_in (state (goal.at.After-decide_validity v).Start)) L (lent (goal.at.After-decide_validity v).Start)) (list_is (goal.at.After-decide_validity v).After-read_head-head)
 
-pub returns-in-Refused : goal.returns-in-Refused
-returns-in-Refused c =
-    decide_refuses (state (goal.at.returns-in-Refused c).Start) (line (goal.at.returns-in-Refused c).Start) (lent (goal.at.returns-in-Refused c).Start) c.requires.0 c.requires.1 _ (sym (found (goal.at.returns-in-Refused c).After-decide_validity-found) ∙ c.in-Refused.is)
+pub returns-in_err-decide_validity : goal.returns-in_err-decide_validity
+returns-in_err-decide_validity c =
+    let p = err_from_is_err_and c.from_residual.result c.from_residual.ensures.1 in
+    rw (p.1, p.2) (decide_refuses (state (goal.at.returns-in_err-decide_validity c).Start) (line (goal.at.returns-in_err-decide_validity c).Start) (lent (goal.at.returns-in_err-decide_validity c).Start) c.requires.0 c.requires.1 _ (sym (found (goal.at.returns-in_err-decide_validity c).After-decide_validity) ∙ c.in_err-decide_validity.was))
 
 -- there is none
-module _ (e : In_default) where
-  valid : validity_for (variables_in (state (goal.at.In_default e).Start)) (numbers_with (state (goal.at.In_default e).Start) (line (goal.at.In_default e).Start)) (lent (goal.at.In_default e).Start) ≡ Valid
-  valid = sym (found (goal.at.In_default e).After-decide_validity-found) ∙ e.in_default.is
+module _ (e : In_ok-decide_validity) where
+  valid : validity_for (variables_in (state (goal.at.In_ok-decide_validity e).Start)) (numbers_with (state (goal.at.In_ok-decide_validity e).Start) (line (goal.at.In_ok-decide_validity e).Start)) (lent (goal.at.In_ok-decide_validity e).Start) ≡ Ok tt
+  valid = sym (found (goal.at.In_ok-decide_validity e).After-decide_validity) ∙ e.in_ok-decide_validity.was
 
 pub slice_bounds-list-end-2 : goal.slice_bounds-list-end-2
 slice_bounds-list-end-2 c = omega (arith, small (goal.at.slice_bounds-list-end-2 c).After-read_head-head)
@@ -103,7 +105,7 @@ slice_bounds-answer_learnt-end c = sym (ap length (list_is (goal.at.slice_bounds
 
 pub answer_learnt-answer-requires : goal.answer_learnt-answer-requires
 answer_learnt-answer-requires c =
-    ready_same (variables_is (goal.at.answer_learnt-answer-requires c).After-read_head-head) (list_is (goal.at.answer_learnt-answer-requires c).After-read_head-head) (count_is (goal.at.answer_learnt-answer-requires c).After-read_head-head) (answer_ready (state (goal.at.answer_learnt-answer-requires c).Start) (line (goal.at.answer_learnt-answer-requires c).Start) (lent (goal.at.answer_learnt-answer-requires c).Start) c.requires.0 c.requires.1 (valid (goal.at.answer_learnt-answer-requires c).In_default))
+    ready_same (variables_is (goal.at.answer_learnt-answer-requires c).After-read_head-head) (list_is (goal.at.answer_learnt-answer-requires c).After-read_head-head) (count_is (goal.at.answer_learnt-answer-requires c).After-read_head-head) (answer_ready (state (goal.at.answer_learnt-answer-requires c).Start) (line (goal.at.answer_learnt-answer-requires c).Start) (lent (goal.at.answer_learnt-answer-requires c).Start) c.requires.0 c.requires.1 (valid (goal.at.answer_learnt-answer-requires c).In_ok-decide_validity))
 
 -- all lines were answered
 module _ (d : After-answer_learnt-answer) where
@@ -120,10 +122,10 @@ module _ (d : After-answer_learnt-answer) where
 
 pub take_in-requires : goal.take_in-requires
 take_in-requires c = (
-  head_kept (state (goal.at.take_in-requires c).Start) (line (goal.at.take_in-requires c).Start) (lent (goal.at.take_in-requires c).Start) c.requires.0 c.requires.1 (valid (goal.at.take_in-requires c).In_default) c.answer_learnt-answer.result (after (goal.at.take_in-requires c).After-answer_learnt-answer) (left (goal.at.take_in-requires c).After-answer_learnt-answer) (answered (goal.at.take_in-requires c).After-answer_learnt-answer),
-  room_kept (state (goal.at.take_in-requires c).Start) (line (goal.at.take_in-requires c).Start) (lent (goal.at.take_in-requires c).Start) c.requires.0 c.requires.1 (valid (goal.at.take_in-requires c).In_default) c.answer_learnt-answer.result (after (goal.at.take_in-requires c).After-answer_learnt-answer) (left (goal.at.take_in-requires c).After-answer_learnt-answer) (answered (goal.at.take_in-requires c).After-answer_learnt-answer),
+  head_kept (state (goal.at.take_in-requires c).Start) (line (goal.at.take_in-requires c).Start) (lent (goal.at.take_in-requires c).Start) c.requires.0 c.requires.1 (valid (goal.at.take_in-requires c).In_ok-decide_validity) c.answer_learnt-answer.result (after (goal.at.take_in-requires c).After-answer_learnt-answer) (left (goal.at.take_in-requires c).After-answer_learnt-answer) (answered (goal.at.take_in-requires c).After-answer_learnt-answer),
+  room_kept (state (goal.at.take_in-requires c).Start) (line (goal.at.take_in-requires c).Start) (lent (goal.at.take_in-requires c).Start) c.requires.0 c.requires.1 (valid (goal.at.take_in-requires c).In_ok-decide_validity) c.answer_learnt-answer.result (after (goal.at.take_in-requires c).After-answer_learnt-answer) (left (goal.at.take_in-requires c).After-answer_learnt-answer) (answered (goal.at.take_in-requires c).After-answer_learnt-answer),
 )
 
 pub returns : goal.returns
 returns c =
-    adds (state (goal.at.returns c).Start) (line (goal.at.returns c).Start) (lent (goal.at.returns c).Start) c.requires.0 c.requires.1 (valid (goal.at.returns c).In_default) c.answer_learnt-answer.result (after (goal.at.returns c).After-answer_learnt-answer) (left (goal.at.returns c).After-answer_learnt-answer) (answered (goal.at.returns c).After-answer_learnt-answer) c.take_in.result c.take_in.new.state c.take_in.ensures
+    adds (state (goal.at.returns c).Start) (line (goal.at.returns c).Start) (lent (goal.at.returns c).Start) c.requires.0 c.requires.1 (valid (goal.at.returns c).In_ok-decide_validity) c.answer_learnt-answer.result (after (goal.at.returns c).After-answer_learnt-answer) (left (goal.at.returns c).After-answer_learnt-answer) (answered (goal.at.returns c).After-answer_learnt-answer) c.take_in.result c.take_in.new.state c.take_in.ensures

@@ -1,6 +1,7 @@
 -- `session_asked::pair_from_table` meets its contract: the part that is lent is the state's table.
+use Rattle.std.specs.Prelude.{Some}
 use mathlib.Core.Path.{◌≡◌, sym, ap, ap₂, subst, ◌∙◌}
-use mathlib.Core.Bool.{Bool, false, not}
+use mathlib.Core.Bool.{false}
 use mathlib.Core.List.{List}
 use lib.IntN.{ℤ}
 use Rattle.session_state.specs.declared.Head.{Head}
@@ -10,10 +11,7 @@ use lib.ListN.{length, take, drop}
 use Rattle.session_step.specs.Read.{small_table, SizedTable}
 use Rattle.session_state.specs.State.{front_room, table_end, variables_in, refused_in}
 use Rattle.session_state.specs.Laws.{HeadOk, head_ok, end_is, end_room, length_table_in}
-use Rattle.implied_pair.specs.declared.Pair.{Pair}
-use Rattle.implied_pair.specs.declared.PairAnswer.{PairAnswer}
-use Rattle.implied_pair.specs.declared.PairOutcome.TheVariants as pair
-use Rattle.implied_pair.specs.Pair.{pair_in_lem, judged}
+use Rattle.implied_pair.specs.Pair.{pair_in_lem}
 use Rattle.session_asked.proofs.pair_from_table.Goals.{After-read_head-head, After-table_end-end}
 use Rattle.session_asked.proofs.pair_from_table.Goals as goal
 
@@ -60,24 +58,19 @@ slice_bounds-pair_asked-start c = omega (arith, ends c, end_is (n c))
 pub slice_bounds-pair_asked-end : goal.slice_bounds-pair_asked-end
 slice_bounds-pair_asked-end c = omega (arith, ends c, (ok (goal.at.slice_bounds-pair_asked-end c).After-read_head-head).room, end_room (n c))
 
-pub pair_asked-pair-requires : goal.pair_asked-pair-requires
-pair_asked-pair-requires c =
+pub pair_asked-requires : goal.pair_asked-requires
+pair_asked-requires c =
     let p = c.requires in
-    (subst (λ (j : ℕ). SizedTable j (part (goal.at.pair_asked-pair-requires c).After-table_end-end c.table_end-end.result)) (sym (variables_is (goal.at.pair_asked-pair-requires c).After-read_head-head)) (sized (goal.at.pair_asked-pair-requires c).After-table_end-end), omega (arith, variables_is (goal.at.pair_asked-pair-requires c).After-read_head-head, p.1), omega (arith, variables_is (goal.at.pair_asked-pair-requires c).After-read_head-head, p.2))
+    (subst (λ (j : ℕ). SizedTable j (part (goal.at.pair_asked-requires c).After-table_end-end c.table_end-end.result)) (sym (variables_is (goal.at.pair_asked-requires c).After-read_head-head)) (sized (goal.at.pair_asked-requires c).After-table_end-end), omega (arith, variables_is (goal.at.pair_asked-requires c).After-read_head-head, p.1), omega (arith, variables_is (goal.at.pair_asked-requires c).After-read_head-head, p.2))
 
--- after a no, and else
-abbrev answer : Bool → Pair → PairAnswer
-answer b p = judged (not b) p
-
+-- after a no
 pub returns-then-head : goal.returns-then-head
-returns-then-head c =
-    ap (λ (p : Pair). record { outcome = pair.Unsolvable; pair = p }) c.no_pair-pair.ensures
-    ∙ ap (λ (b : Bool). answer b (pair_in_lem (small_table (2 * variables_in (state (goal.at.returns-then-head c).After-read_head-head)) (take (table_end (variables_in (state (goal.at.returns-then-head c).After-read_head-head)) - front_room) (drop front_room (state (goal.at.returns-then-head c).After-read_head-head)))) c.args.x c.args.y)) (sym (sym (refused_is (goal.at.returns-then-head c).After-read_head-head) ∙ c.if-head.true))
+returns-then-head c = rw (sym (refused_is (goal.at.returns-then-head c).After-read_head-head) ∙ c.if-head.true)
 
 pub returns : goal.returns
 returns c =
     let a = c.args in
-    let not_refused : refused_in (state (goal.at.returns c).After-read_head-head) ≡ false = sym (refused_is (goal.at.returns c).After-read_head-head) ∙ c.if-head.false in
-    ap (λ (p : Pair). record { outcome = pair.Implied; pair = p })
-    (c.pair_asked-pair.ensures ∙ ap₂ (λ (m j : ℕ). pair_in_lem (small_table (2 * m) (part (goal.at.returns c).After-table_end-end j)) a.x a.y) (variables_is (goal.at.returns c).After-read_head-head) (ends (goal.at.returns c).After-table_end-end))
-    ∙ ap (λ (b : Bool). answer b (pair_in_lem (small_table (2 * n (goal.at.returns c).After-table_end-end) (part (goal.at.returns c).After-table_end-end (table_end (n (goal.at.returns c).After-table_end-end)))) a.x a.y)) (sym not_refused)
+    let e = (goal.at.returns c).After-table_end-end in
+    let r = (goal.at.returns c).After-read_head-head in
+    let not_refused : refused_in (state r) ≡ false = sym (refused_is r) ∙ c.if-head.false in
+    rw not_refused (ap Some (c.pair_asked.ensures ∙ ap₂ (λ (m j : ℕ). pair_in_lem (small_table (2 * m) (part e j)) a.x a.y) (variables_is r) (ends e)))

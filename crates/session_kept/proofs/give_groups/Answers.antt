@@ -1,4 +1,4 @@
--- `session_kept::give_groups` meets its contract. The invariant: the first i numbers are written.
+-- `session_kept::give_groups` meets its contract.
 use mathlib.Core.Path.{◌≡◌, refl, ap, ◌∙◌}
 use mathlib.Core.List.{List}
 use Prim.Native.Nat.{ℕ, ◌+◌, ◌*◌, ◌-◌}
@@ -12,21 +12,15 @@ use Rattle.lines.specs.Line.{number}
 use Rattle.session_kept.specs.Kept.{small_group_lem, group_number}
 use Rattle.session_kept.proofs.give_groups.Goals as goal
 
-pub loop-i-init : goal.loop-i-init
-loop-i-init c = (omega arith, refl, refl)
-
 pub loop-i-preserved : goal.loop-i-preserved
 loop-i-preserved c =
     let q = c.args.kept.now in
     let v = c.small_group.result in
     let at = c.args.n + c.loop-i.i in
-    let e : v ≡ group_number c.args.n q c.loop-i.i = c.small_group.ensures ∙ ap small_group_lem (kept w64 (number q at) c.small_group-arg-1.given) in (
-      omega arith,
-      search rules,
-      ap (λ (x : List ℕ). set x c.loop-i.i v) c.loop-i.invariant.2 ∙ filled_more (group_number c.args.n q) c.args.groups.now c.loop-i.i v (omega arith) e,
-    )
+    let e : v ≡ group_number c.args.n q c.loop-i.i = c.small_group.ensures ∙ ap small_group_lem (kept w64 (number q at) c.small_group-arg-1.given) in
+    ap (λ (x : List ℕ). set x c.loop-i.i v) c.loop-i.invariant ∙ filled_more (group_number c.args.n q) c.args.groups.now c.loop-i.i v (omega arith) e
 
 pub returns : goal.returns
 returns c =
     let e : c.loop-i.i ≡ 2 * c.args.n = omega arith in
-    c.loop-i.invariant.2 ∙ ap (filled (group_number c.args.n c.args.kept.now) c.args.groups.now) e
+    c.loop-i.invariant ∙ ap (filled (group_number c.args.n c.args.kept.now) c.args.groups.now) e

@@ -1,4 +1,4 @@
--- `session_kept::give_model` meets its contract. The invariant: the first i values are written, and the rest is as it was.
+-- `session_kept::give_model` meets its contract.
 use mathlib.Core.Path.{◌≡◌, refl, ap, ◌∙◌}
 use mathlib.Core.List.{List}
 use Prim.Native.Nat.{◌-◌}
@@ -18,9 +18,6 @@ use Rattle.session_kept.specs.Kept.{value_at}
 use Rattle.session_kept.proofs.give_model.Goals.{After-small_value}
 use Rattle.session_kept.proofs.give_model.Goals as goal
 
-pub loop-i-init : goal.loop-i-init
-loop-i-init c = (omega arith, refl, refl)
-
 -- value i
 module _ (c : After-small_value) where
   abbrev z : ℤ
@@ -39,14 +36,11 @@ pub overflow_cast-model : goal.overflow_cast-model
 overflow_cast-model c = fits c
 
 pub loop-i-preserved : goal.loop-i-preserved
-loop-i-preserved c = (
-  omega arith,
-  search rules,
-  ap (λ (x : List ℤ). set x c.loop-i.i (to_z w32 (of_z w32 (v c)))) c.loop-i.invariant.2
-      ∙ filled_more (value_at c.args.kept.now) c.args.model.now c.loop-i.i (to_z w32 (of_z w32 (v c))) (omega arith) (to_z-of_z (fits c) ∙ is c),
-)
+loop-i-preserved c =
+    ap (λ (x : List ℤ). set x c.loop-i.i (to_z w32 (of_z w32 (v c)))) c.loop-i.invariant
+    ∙ filled_more (value_at c.args.kept.now) c.args.model.now c.loop-i.i (to_z w32 (of_z w32 (v c))) (omega arith) (to_z-of_z (fits c) ∙ is c)
 
 pub returns : goal.returns
 returns c =
     let e : c.loop-i.i ≡ c.args.n = omega arith in
-    c.loop-i.invariant.2 ∙ ap (filled (value_at c.args.kept.now) c.args.model.now) e
+    c.loop-i.invariant ∙ ap (filled (value_at c.args.kept.now) c.args.model.now) e

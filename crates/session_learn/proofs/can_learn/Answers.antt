@@ -1,4 +1,6 @@
 -- `session_learn::can_learn` meets its contract, in each of its four ways.
+use Rattle.steps.specs.declared.Step.{Step}
+use Rattle.std.specs.Prelude.{Option}
 use mathlib.Core.Path.{◌≡◌, sym, ap, ap₂, ◌∙◌}
 use mathlib.Core.Bool.{Bool, true, false, ◌||◌}
 use mathlib.Core.List.{List}
@@ -9,7 +11,6 @@ use Rattle.integers.specs.Table.{all_below}
 use Rattle.lines.specs.Limits.{max_variables}
 use Rattle.lines.specs.Line.{line_at, is_false_lem}
 use Rattle.lines.specs.Valid.{lines_more}
-use Rattle.steps.specs.declared.NamedStep.{NamedStep}
 use Rattle.steps.specs.Step.{step_numbered_lem}
 use Rattle.theory_bounds.specs.Verdict.{halves_ok_lem}
 use Rattle.theory_inserting.specs.Two.{insert_named}
@@ -60,10 +61,10 @@ step_numbered-y-requires c = lines_more c.args.n max_variables c.args.list.now c
 
 -- the two steps
 module _ (c : After-step_numbered-y) where
-  abbrev x : NamedStep
+  abbrev x : Option Step
   x = c.step_numbered-x.result
 
-  abbrev y : NamedStep
+  abbrev y : Option Step
   y = c.step_numbered-y.result
 
   x_is : x ≡ step_numbered_lem (L (goal.at.After-step_numbered-y c).After-is_false) (2 * c.args.k)
@@ -95,8 +96,8 @@ module _ (w : After-both_wide) where
   D = line_inserted (2 * n) (L (goal.at.After-both_wide w).After-is_false) w.args.k table
 
   -- with the steps as they were found
-  with : {A : Type 0} (g : Table → NamedStep → NamedStep → A) → g (insert_named (insert_named (small_table (2 * n) table) (x (goal.at.After-both_wide w).After-step_numbered-y)) (y (goal.at.After-both_wide w).After-step_numbered-y)) (x (goal.at.After-both_wide w).After-step_numbered-y) (y (goal.at.After-both_wide w).After-step_numbered-y) ≡ g D (step_numbered_lem (L (goal.at.After-both_wide w).After-is_false) (2 * w.args.k)) (step_numbered_lem (L (goal.at.After-both_wide w).After-is_false) (2 * w.args.k + 1))
-  with g = ap₂ (λ (p q : NamedStep). g (insert_named (insert_named (small_table (2 * n) table) p) q) p q) (x_is (goal.at.After-both_wide w).After-step_numbered-y) (y_is (goal.at.After-both_wide w).After-step_numbered-y)
+  with : {A : Type 0} (g : Table → Option Step → Option Step → A) → g (insert_named (insert_named (small_table (2 * n) table) (x (goal.at.After-both_wide w).After-step_numbered-y)) (y (goal.at.After-both_wide w).After-step_numbered-y)) (x (goal.at.After-both_wide w).After-step_numbered-y) (y (goal.at.After-both_wide w).After-step_numbered-y) ≡ g D (step_numbered_lem (L (goal.at.After-both_wide w).After-is_false) (2 * w.args.k)) (step_numbered_lem (L (goal.at.After-both_wide w).After-is_false) (2 * w.args.k + 1))
+  with g = ap₂ (λ (p q : Option Step). g (insert_named (insert_named (small_table (2 * n) table) p) q) p q) (x_is (goal.at.After-both_wide w).After-step_numbered-y) (y_is (goal.at.After-both_wide w).After-step_numbered-y)
 
   wide_is : w.both_wide.result ≡ both_wide_lem D (step_numbered_lem (L (goal.at.After-both_wide w).After-is_false) (2 * w.args.k)) (step_numbered_lem (L (goal.at.After-both_wide w).After-is_false) (2 * w.args.k + 1))
   wide_is = w.both_wide.ensures ∙ with both_wide_lem

@@ -1,4 +1,5 @@
 -- `session_learn::is_wide` meets its contract: the way back is tested against the slack without the weight.
+use Rattle.std.specs.Prelude.{Some}
 use mathlib.Core.Path.{◌≡◌, sym, ap, ap₂, subst, ◌∙◌}
 use Prim.Native.Nat.{◌*◌}
 use lib.IntN.{◌-ℤ◌}
@@ -8,7 +9,6 @@ use mir.Val.{to_z, of_z}
 use mir.Facts.{to_z-of_z}
 use Rattle.integers.proofs.Bits.{kept}
 use Rattle.steps.specs.declared.Step.{Step}
-use Rattle.steps.specs.declared.NamedStep.TheVariants.{Found}
 use Rattle.theory_bounds.specs.Tight.{Table}
 use Rattle.theory_inserting.specs.Two.{insert_named}
 use Rattle.theory_kept.specs.Slack.{equal_slack, wide_step}
@@ -16,16 +16,16 @@ use Rattle.decide_rows.specs.Read.{weight_fits}
 use Rattle.decide_rows.specs.Numbers.{StepOk}
 use Rattle.session_step.specs.Read.{small_table}
 use Rattle.session_learn.specs.With.{NamedStepOk, wide_stored, slack_fits}
-use Rattle.session_learn.proofs.is_wide.Goals.{In-Found}
+use Rattle.session_learn.proofs.is_wide.Goals.{In-Some}
 use Rattle.session_learn.proofs.is_wide.Goals as goal
 
 -- the step that is there
-module _ (c : In-Found) where
+module _ (c : In-Some) where
   abbrev found : Step
-  found = c.in-Found.s
+  found = c.in-Some.s
 
-  is : c.args.step ≡ Found found
-  is = c.in-Found.is
+  is : c.args.step ≡ Some found
+  is = c.in-Some.is
 
   ok : StepOk c.args.n found
   ok = subst (NamedStepOk c.args.n) is c.requires.1
@@ -47,11 +47,11 @@ entry_with_both-back-requires c =
     )
 
 pub overflow_sub-result : goal.overflow_sub-result
-overflow_sub-result c = rw (weight_is (goal.at.overflow_sub-result c).In-Found) (slack_fits (found (goal.at.overflow_sub-result c).In-Found).weight (ok (goal.at.overflow_sub-result c).In-Found).small)
+overflow_sub-result c = rw (weight_is (goal.at.overflow_sub-result c).In-Some) (slack_fits (found (goal.at.overflow_sub-result c).In-Some).weight (ok (goal.at.overflow_sub-result c).In-Some).small)
 
-pub returns-in-Found : goal.returns-in-Found
-returns-in-Found c =
+pub returns-in-Some : goal.returns-in-Some
+returns-in-Some c =
     let z = c.entry_with_both-back.result in
-    ap₂ lt_z (slack_is (goal.at.returns-in-Found c).In-Found) (kept w64 z c.entry_with_both-back.type_inv ∙ c.entry_with_both-back.ensures)
-    ∙ wide_stored (D (goal.at.returns-in-Found c).In-Found (found (goal.at.returns-in-Found c).In-Found).to (found (goal.at.returns-in-Found c).In-Found).from) (found (goal.at.returns-in-Found c).In-Found).weight (ok (goal.at.returns-in-Found c).In-Found).small
-    ∙ sym (ap (wide_step (D (goal.at.returns-in-Found c).In-Found)) (is (goal.at.returns-in-Found c).In-Found))
+    ap₂ lt_z (slack_is (goal.at.returns-in-Some c).In-Some) (kept w64 z c.entry_with_both-back.type_inv ∙ c.entry_with_both-back.ensures)
+    ∙ wide_stored (D (goal.at.returns-in-Some c).In-Some (found (goal.at.returns-in-Some c).In-Some).to (found (goal.at.returns-in-Some c).In-Some).from) (found (goal.at.returns-in-Some c).In-Some).weight (ok (goal.at.returns-in-Some c).In-Some).small
+    ∙ sym (ap (wide_step (D (goal.at.returns-in-Some c).In-Some)) (is (goal.at.returns-in-Some c).In-Some))

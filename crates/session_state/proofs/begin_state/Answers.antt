@@ -11,9 +11,6 @@ use Rattle.session_state.specs.State.{front_room, zeros, started}
 use Rattle.session_state.specs.Laws.{room_is}
 use Rattle.session_state.proofs.begin_state.Goals as goal
 
-pub clear-requires : goal.clear-requires
-clear-requires c = omega (arith, c.requires.1, room_is c.args.n)
-
 pub bounds-state-0 : goal.bounds-state-0
 bounds-state-0 c = omega (arith, c.requires.1, room_is c.args.n)
 

@@ -1,44 +1,40 @@
--- `session_state::fit_all` meets its contract. The invariant: all fit if those from i on do.
+-- `session_state::fit_all` meets its contract.
 use mathlib.Core.Path.{◌≡◌, refl, sym, ap, ◌∙◌}
-use mathlib.Core.Bool.{Bool, ◌&&◌}
-use mathlib.Core.List.{List}
-use Prim.Native.Nat.{ℕ, ◌+◌}
+use mathlib.Core.Bool.{Bool, true, false, ◌&&◌}
+use mathlib.Core.List.{List, [], ◌∷◌}
+use Prim.Native.Nat.{ℕ, zero, suc, ◌<◌}
 use native.Mathlib.Omega.{arith}
-use borrow.Author.Tests.{not-true, not-false}
-use lib.IntN.{ℤ}
-use lib.ListN.{drop}
-use mir.Syntax.{w64}
-use Rattle.integers.proofs.Bits.{kept}
-use Rattle.lines.specs.Line.{number}
+use borrow.Author.Rules.{rules}
+use lib.IntN.{ℤ, pos}
+use lib.ListN.{length}
+use Rattle.std.specs.Bool.{MatchBool}
+use Rattle.std.specs.List.{AllWithin, HoldsAt}
+use Rattle.std.proofs.lemmas.Iterator.{cases_from_all, YieldsList-from_slice}
+use Rattle.integers.specs.Laws.{both_true}
 use Rattle.session_state.specs.State.{fits32, fit_all_lem}
-use Rattle.session_state.specs.Laws.{fit_from, fit_past}
-use mathlib.Core.Bool.{not}
-use Rattle.session_state.proofs.fit_all.Goals.{After-between}
 use Rattle.session_state.proofs.fit_all.Goals as goal
 
-pub loop-i-init : goal.loop-i-init
-loop-i-init c = (omega arith, refl)
+all_true : (zs : List ℤ) → AllWithin (λ z. fits32 z ≡ true) zs 0 (length zs) → fit_all_lem zs ≡ true
+unfolding fit_all_lem
+all_true [] h = refl
+all_true (z ∷ zs) h = both_true (fits32 z) (fit_all_lem zs) (h 0 (pos 0) (omega arith) (omega arith)) (all_true zs (λ k d l m. h (suc k) d (omega arith) (omega arith)))
 
--- what is found of number i
-module _ (b : After-between) where
-  abbrev numbers : List ℤ
-  numbers = b.args.numbers.now
+one_false : (zs : List ℤ) (k : ℕ) → k < length zs → HoldsAt (λ z. fits32 z ≡ false) zs k → fit_all_lem zs ≡ false
+unfolding fit_all_lem
+one_false [] k l h = absurd (omega arith)
+one_false (z ∷ zs) zero l h = ap (λ (t : Bool). t && fit_all_lem zs) (h (pos 0))
+one_false (z ∷ zs) (suc k) l h = ap (λ (t : Bool). fits32 z && t) (one_false zs k (omega arith) h) ∙ none (fits32 z)
+  where
+    none : (t : Bool) → (t && false) ≡ false
+    none true = refl
+    none false = refl
 
-  abbrev i : ℕ
-  i = b.loop-i.i
-
-  found : fit_all_lem numbers ≡ (b.between.result && fit_all_lem (drop (i + 1) numbers))
-  found =
-      let r : b.between.result ≡ fits32 (number numbers i) = b.between.ensures ∙ ap fits32 (kept w64 (number numbers i) b.between-arg-1.given) in
-      b.loop-i.invariant.1
-      ∙ fit_from numbers i b.loop-i-test.true
-      ∙ ap (λ (t : Bool). t && fit_all_lem (drop (i + 1) numbers)) (sym r)
-
-pub returns-then-not-between : goal.returns-then-not-between
-returns-then-not-between c = sym (found (goal.at.returns-then-not-between c).After-between ∙ ap (λ (t : Bool). t && fit_all_lem (drop (i (goal.at.returns-then-not-between c).After-between + 1) (numbers (goal.at.returns-then-not-between c).After-between))) (not-true c.between.result (ap not c.if-not-between.true)))
-
-pub loop-i-preserved : goal.loop-i-preserved
-loop-i-preserved c = (omega arith, found (goal.at.loop-i-preserved c).After-between ∙ ap (λ (t : Bool). t && fit_all_lem (drop (i (goal.at.loop-i-preserved c).After-between + 1) (numbers (goal.at.loop-i-preserved c).After-between))) (not-false c.between.result (ap not c.if-not-between.false)))
+decided : (zs : List ℤ) (r : Bool) → MatchBool r (AllWithin (λ z. fits32 z ≡ true) zs 0 (length zs)) ((k : ℕ) × (k < length zs) × HoldsAt (λ z. fits32 z ≡ false) zs k) → r ≡ fit_all_lem zs
+decided zs true h = sym (all_true zs h)
+decided zs false h = sym (one_false zs h.0 h.1 h.2)
 
 pub returns : goal.returns
-returns c = sym (c.loop-i.invariant.1 ∙ fit_past c.args.numbers.now c.loop-i.i c.loop-i-test.false)
+returns c =
+    let numbers = c.args.numbers.now in
+    decided numbers c.all.result
+    (cases_from_all _ _ _ (λ z. fits32 z ≡ true) (λ z. fits32 z ≡ false) c.all.ensures.ran (YieldsList-from_slice numbers (cc)) (λ x q k. search rules) (λ x q k. search rules))

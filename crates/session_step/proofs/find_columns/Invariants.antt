@@ -1,6 +1,6 @@
 -- What the loops of `session_step::find_columns` keep.
 use mathlib.Core.Path.{◌≡◌}
-use Prim.Native.Nat.{◌*◌, ◌-◌, ◌≤◌}
+use Prim.Native.Nat.{◌*◌, ◌≤◌}
 use lib.ListN.{length}
 use Rattle.session_step.specs.Read.{small_table}
 use Rattle.session_step.specs.Columns.{Collected}
@@ -14,6 +14,3 @@ invariant-loop-u l =
     × (length l.columns ≡ length l.initial.columns)
     × (length l.sums ≡ length l.initial.sums)
     × Collected (small_table (2 * l.n) l.table) l.step l.initial.columns l.initial.sums l.u l.columns l.sums l.found
-
-abbrev pub decreases-loop-u : goal.decreases-loop-u
-decreases-loop-u l = l.count - l.u

@@ -1,6 +1,6 @@
 -- What the loops of `session_step::lower_row` keep.
 use mathlib.Core.Path.{◌≡◌}
-use Prim.Native.Nat.{◌-◌, ◌≤◌}
+use Prim.Native.Nat.{◌≤◌}
 use lib.ListN.{length, drop}
 use Rattle.session_step.specs.Lower.{lower_all}
 use Rattle.session_step.proofs.lower_row.Given as goal
@@ -11,6 +11,3 @@ invariant-loop-k l =
     (l.k ≤ l.count)
     × (length l.row ≡ length l.initial.row)
     × (lower_all l.rest (drop l.k l.columns) (drop l.k l.sums) l.row ≡ lower_all l.rest l.columns l.sums l.initial.row)
-
-abbrev pub decreases-loop-k : goal.decreases-loop-k
-decreases-loop-k l = l.count - l.k

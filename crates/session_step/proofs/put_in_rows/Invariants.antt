@@ -1,13 +1,8 @@
 -- What the loops of `session_step::put_in_rows` keep.
-use mathlib.Core.Path.{◌≡◌}
-use Prim.Native.Nat.{◌*◌, ◌-◌}
-use lib.ListN.{length}
+use Prim.Native.Nat.{◌*◌}
 use Rattle.session_step.specs.Rows.{Rows}
 use Rattle.session_step.proofs.put_in_rows.Given as goal
 
--- `session_step::put_in_rows` meets its contract. The invariant: the rows 0 to v - 1 have the step, and `at` is where row v begins.
+-- The rows 0 to v - 1 have the step.
 abbrev pub invariant-loop-v : goal.invariant-loop-v
-invariant-loop-v l = (length l.table ≡ length l.initial.table) × Rows (2 * l.n) l.step l.initial.table l.table l.v l.at
-
-abbrev pub decreases-loop-v : goal.decreases-loop-v
-decreases-loop-v l = l.size - l.v
+invariant-loop-v l = Rows (2 * l.n) l.step l.initial.table l.table l.v

@@ -8,6 +8,3 @@ use Rattle.session_table.proofs.table_anew.Given as goal
 -- `session_table::table_anew` meets its contract. The invariant: the lines 0 to k - 1 stand, and the table is theirs.
 abbrev pub invariant-loop-k : goal.invariant-loop-k
 invariant-loop-k l = (length l.table ≡ length l.initial.table) × Anew l.n l.list l.table l.k
-
-abbrev pub decreases-loop-k : goal.decreases-loop-k
-decreases-loop-k l = l.count - l.k

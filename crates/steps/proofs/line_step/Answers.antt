@@ -1,4 +1,5 @@
 -- `steps::line_step` meets its contract.
+use Rattle.std.specs.Prelude.{Some}
 use mathlib.Core.Path.{◌≡◌, sym, ap, ap₂, ◌∙◌}
 use Prim.Native.Nat.{ℕ, ◌+◌}
 use lib.IntN.{ℤ, pos, ◌*ℤ◌}
@@ -9,7 +10,6 @@ use Rattle.lines.specs.declared.Line.{Line}
 use Rattle.lines.specs.Limits.{max_variables}
 use Rattle.lines.specs.Valid.{LineWorks}
 use Rattle.steps.specs.declared.Side.{Side}
-use Rattle.steps.specs.declared.NamedStep.TheVariants.{Found}
 use Rattle.steps.specs.Table.{entry, cell, digit, CellRule}
 use Rattle.steps.specs.Sides.{side_at}
 use Rattle.steps.specs.Step.{end_point_lem}
@@ -78,4 +78,4 @@ returns c =
     let t : c.end_point-to.result ≡ end_point_lem x (entry (at (goal.at.returns c).After-side_of-entries + 1)) = c.end_point-to.ensures ∙ ap (end_point_lem x) (to_is (goal.at.returns c).After-side_of-entries) in
     let w : to_z w64 (of_z w64 c.weight_of-weight.result) ≡ pos (entry (at (goal.at.returns c).After-side_of-entries + 2)) *ℤ x.d =
     kept w64 c.weight_of-weight.result c.weight_of-weight.type_inv ∙ c.weight_of-weight.ensures ∙ ap₂ (λ (k : ℕ) (z : ℤ). pos k *ℤ z) (factor_is (goal.at.returns c).After-side_of-entries) (d_is (goal.at.returns c).After-struct_told-3-1) in
-    ap Found (λ i. record { from = f i; to = t i; weight = w i }) ∙ step_found x _ (some_factor (goal.at.returns c).Else-factor-eq0)
+    ap Some (λ i. record { from = f i; to = t i; weight = w i }) ∙ step_found x _ (some_factor (goal.at.returns c).Else-factor-eq0)

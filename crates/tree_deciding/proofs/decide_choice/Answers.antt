@@ -1,34 +1,23 @@
 -- `tree_deciding::decide_choice` meets its contract: a refusal of the list or of the tree, or what deciding the choice's list leaves.
-use mathlib.Core.Path.{◌≡◌, sym, ◌∙◌}
-use Rattle.lines.specs.declared.Validity.TheVariants.{Valid}
-use Rattle.lines.specs.Refusal.{validity_of}
+use Rattle.std.proofs.Common.{sym}
+use Rattle.std.proofs.lemmas.Result.{err_from_is_err_and}
 use Rattle.lines.specs.Valid.{valid_list}
-use Rattle.decide_buffers.specs.Room.{Lent}
 use Rattle.tree_deciding.specs.Choice.{list_refused, tree_refused, decides}
-use Rattle.tree_deciding.proofs.decide_choice.Goals.{After-list_validity-found, In_default}
 use Rattle.tree_deciding.proofs.decide_choice.Goals as goal
 
--- the list was looked at: the start, and what the buffers held
-module _ (looked : After-list_validity-found) where
-  abbrev lent : Lent
-  lent = record { model = looked.args.model.now; bounds = looked.args.bounds.now; groups = looked.args.groups.now; refutation = looked.args.refutation.now; identifiers = looked.args.identifiers.now; work = looked.args.work.now }
+pub returns-in_err-list_validity : goal.returns-in_err-list_validity
+returns-in_err-list_validity c =
+    let p = err_from_is_err_and c.from_residual.result c.from_residual.ensures.1 in
+    rw (p.1, p.2) (list_refused _ _ _ _ _ _ (sym c.in_err-list_validity.ensures))
 
-pub returns-in-Refused : goal.returns-in-Refused
-returns-in-Refused c =
-    list_refused _ _ _ _ (lent (goal.at.returns-in-Refused c).After-list_validity-found) _ (sym c.list_validity-found.ensures ∙ c.in-Refused.is)
-
--- the list is valid
-module _ (told : In_default) where
-  valid : validity_of told.args.n told.args.list.now ≡ Valid
-  valid = sym told.list_validity-found.ensures ∙ told.in_default.is
+pub returns-in_err-root : goal.returns-in_err-root
+returns-in_err-root c =
+    let result = c.from_residual-in_err-root in
+    let p = err_from_is_err_and result.result result.ensures.1 in
+    rw (p.1, p.2) (tree_refused _ _ _ _ _ (sym c.in_ok-list_validity.ensures) _ (sym c.in_err-root.ensures))
 
 pub decide_listed-requires : goal.decide_listed-requires
-decide_listed-requires c = valid_list _ _ (valid (goal.at.decide_listed-requires c).In_default)
+decide_listed-requires c = valid_list _ _ (sym c.in_ok-list_validity.ensures)
 
-pub returns-in-Refused-choice_in_tree : goal.returns-in-Refused-choice_in_tree
-returns-in-Refused-choice_in_tree c =
-    tree_refused _ _ _ _ (lent (goal.at.returns-in-Refused-choice_in_tree c).After-list_validity-found) (valid (goal.at.returns-in-Refused-choice_in_tree c).In_default) _ (sym c.choice_in_tree.ensures ∙ c.in-Refused-choice_in_tree.is)
-
-pub returns-in-Read : goal.returns-in-Read
-returns-in-Read c =
-    decides _ _ _ _ (lent (goal.at.returns-in-Read c).After-list_validity-found) (valid (goal.at.returns-in-Read c).In_default) _ (sym c.choice_in_tree.ensures ∙ c.in-Read.is) c.decide_listed.ensures
+pub returns : goal.returns
+returns c = decides _ _ _ _ _ (sym c.in_ok-list_validity.ensures) _ (sym c.in_ok-root.ensures) c.decide_listed.ensures
