@@ -30,6 +30,7 @@ pub const LINE_BYTES: usize = NUMBER_BYTES * LINE_SIZE;
 pub const MOST_NUMBERS: usize = LINE_SIZE * MAX_LINES;
 
 // The number that a refusal is returned as.
+#[tactic(auto, using(lines::specs::Numbers::number_small), unfolding(crate::specs::Codes::refusal_code_lem))]
 pub fn refusal_code(r: Refusal) -> i64
     requires { place_of r < refusal_unit }
     ensures { result ≡ refusal_code_lem r }
@@ -52,6 +53,7 @@ pub fn check_code(a: Result<CheckAnswer, Refusal>) -> i64
 }
 
 // The refusals of a list in bytes. Where none applies, its numbers are written.
+#[tactic(auto, using(crate::specs::ListBytes::too_many_lines, crate::specs::ListBytes::bytes_as_numbers), unfolding(crate::specs::ListBytes::bytes_validity))]
 pub fn decode_list(n: usize, list: &[u8], numbers: &mut [i32]) -> Result<(), Refusal>
     requires { line_size * max_lines ≤ length numbers.old }
     ensures { Decoded n list.now numbers.new result }
@@ -66,6 +68,5 @@ pub fn decode_list(n: usize, list: &[u8], numbers: &mut [i32]) -> Result<(), Ref
         return Err(Refusal::TooManyLines);
     }
     decode_i32(list, numbers);
-    let count = list.len() / NUMBER_BYTES;
-    list_validity(n, &numbers[0..count])
+    list_validity(n, &numbers[..list.len() / NUMBER_BYTES])
 }

@@ -10,8 +10,8 @@ use Rattle.lines.specs.Line.{line_at, line_numbers_lem, numbers_of}
 use Rattle.lines.specs.Refusal.{line_tests, lines_validity_lem, validity_of}
 use Rattle.file_records.specs.declared.FileRefusal.TheVariants.{Cut, UnknownKind, WrongLength, OutOfPlace, Trailing, NoRoom, NoIdentifier, List as OfList}
 use Rattle.file_records.specs.declared.Cursor.{Cursor}
-use Rattle.file_records.specs.Table.{body_size_lem, is_line, record_place}
-use Rattle.file_records.specs.Scan.{start, taken, next_record_lem, scan_from, scan}
+use Rattle.file_records.specs.Table.{kind_numbered, record_place}
+use Rattle.file_records.specs.Scan.{start, next_record_lem, scan_from, scan}
 use Rattle.file_list.specs.File.{line_in, file_list_lem}
 use Rattle.file_list.specs.Read.{list_validity_lem, after_scan, read_answer}
 
@@ -81,7 +81,7 @@ infixr 20 ◌then◌
 a then b = (a, b)
 
 pub all_read : AllRead file_cases
-unfolding file_cases body_size_lem is_line record_place taken next_record_lem scan_from scan line_in file_list_lem line_numbers_lem numbers_of list_validity_lem read_answer
+unfolding file_cases kind_numbered record_place next_record_lem scan_from scan line_in file_list_lem line_numbers_lem numbers_of list_validity_lem read_answer
     line_at line_tests lines_validity_lem validity_of
 all_read =
     refl then refl then refl then refl
@@ -108,5 +108,5 @@ pub trailing_as_cut : ℕ → List ℕ → ℕ → Result Listed FileRefusal
 trailing_as_cut most b room = after_scan most b (cut_at_end b (scan_from (suc (length b)) b room start))
 
 pub trailing_as_cut_breaks : KeepsRead trailing_as_cut → ⊥
-unfolding trailing_as_cut body_size_lem is_line taken next_record_lem scan_from scan read_answer
+unfolding trailing_as_cut kind_numbered next_record_lem scan_from scan read_answer
 trailing_as_cut_breaks k = let e : ◌≡◌ {A = Result Listed FileRefusal} (Err (Cut 12)) (Err (Trailing 12)) = k max_variables (variable ++ end ++ 0 ∷ []) 0 in never (cc)

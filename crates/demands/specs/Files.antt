@@ -9,7 +9,6 @@ use Rattle.little_endian.specs.Bytes.{AreBytes}
 use Rattle.little_endian.specs.Writing.{bytes_of}
 use Rattle.theory_answers.specs.Semantics.{Written}
 use Rattle.file_list.specs.declared.Listed.{Listed}
-use Rattle.file_records.specs.Table.{body_size_lem}
 use Rattle.file_list.specs.File.{file_of, file_list_lem, line_records, line_body}
 use Rattle.file_list.specs.Read.{read_answer, ReadDone}
 use Rattle.file_list.specs.Write.{WriteDone}
@@ -92,7 +91,7 @@ pub the_file_of_x_at_most_5 : file_of 1 (pos 1 ∷ pos 0 ∷ pos 0 ∷ pos 0 ∷
     ≡ 4 ∷ 0 ∷ 1 ∷ 0 ∷ 1 ∷ 0 ∷ 0 ∷ 0
     ∷ 20 ∷ 0 ∷ 2 ∷ 0 ∷ 1 ∷ 0 ∷ 0 ∷ 0 ∷ 0 ∷ 0 ∷ 0 ∷ 0 ∷ 0 ∷ 0 ∷ 0 ∷ 0 ∷ 0 ∷ 0 ∷ 0 ∷ 0 ∷ 5 ∷ 0 ∷ 0 ∷ 0
     ∷ 0 ∷ 0 ∷ 3 ∷ 0 ∷ []
-unfolding file_of line_records line_body line_numbers_lem bytes_of line_at body_size_lem
+unfolding file_of line_records line_body line_numbers_lem bytes_of line_at
 the_file_of_x_at_most_5 = refl
 
 -- And of a message with identifier 0x18DA10F1 these 40.
@@ -100,7 +99,7 @@ pub the_file_with_an_identifier : file_of 1 (pos 1 ∷ pos 0 ∷ pos 0 ∷ pos 0
     ≡ 4 ∷ 0 ∷ 1 ∷ 0 ∷ 1 ∷ 0 ∷ 0 ∷ 0
     ∷ 24 ∷ 0 ∷ 4 ∷ 0 ∷ 1 ∷ 0 ∷ 0 ∷ 0 ∷ 0 ∷ 0 ∷ 0 ∷ 0 ∷ 0 ∷ 0 ∷ 0 ∷ 0 ∷ 0 ∷ 0 ∷ 0 ∷ 0 ∷ 5 ∷ 0 ∷ 0 ∷ 0 ∷ 241 ∷ 16 ∷ 218 ∷ 24
     ∷ 0 ∷ 0 ∷ 3 ∷ 0 ∷ []
-unfolding file_of line_records line_body line_numbers_lem bytes_of line_at body_size_lem
+unfolding file_of line_records line_body line_numbers_lem bytes_of line_at
 the_file_with_an_identifier = refl
 
 -- ---- the program

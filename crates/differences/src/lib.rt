@@ -33,7 +33,7 @@ fn refuted_or_answered(
         return true;
     }
     write_plain_table(list, n, work);
-    write_plain_answers(&work[0..n * n], n, model, bounds, groups);
+    write_plain_answers(&work[..n * n], n, model, bounds, groups);
     false
 }
 

@@ -41,6 +41,7 @@ fn same_value(table: &[i64], n: usize, x: usize, r: usize) -> bool
 }
 
 // The lowest variable that has the value of x in every solution: x itself at the latest.
+#[tactic(auto, using(integers::proofs::Searching::searching))]
 fn group_of(table: &[i64], n: usize, x: usize) -> usize
     requires { PlainTable n table.now × (x < n) }
     ensures { result ≡ plain_group (table_of n table.now) x }

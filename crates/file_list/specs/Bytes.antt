@@ -2,7 +2,7 @@
 --
 -- The place of a line goes by the kinds before it. From its place on a file holds the line's record, so that the kind read there is the line's,
 -- and behind that record, as long as the table says, lies the next line's place.
-use Rattle.std.specs.Prelude.{◌≡◌, ℕ, zero, suc, ◌+◌, ◌*◌, ◌/◌, ◌%◌, ◌^◌, ◌<◌, ◌≤◌, ℤ, pos, length, get_or}
+use Rattle.std.specs.Prelude.{◌≡◌, ℕ, zero, suc, ◌+◌, ◌*◌, ◌/◌, ◌%◌, ◌^◌, ◌<◌, ◌≤◌, ℤ, pos, length, get_or, Option, Some}
 use Rattle.std.proofs.Math.Path.{refl, sym, ap}
 use Rattle.std.proofs.Common.{subst, ◌∙◌, add-zero, add_assoc, mod-eq_of_lt, add-one, arith, length-drop, get_or-drop, drop-cons, drop-drop, drop_at, SFits, to_z}
 use Rattle.std.proofs.Math.Bool.{false}
@@ -23,12 +23,14 @@ use Rattle.lines.specs.Laws.{lines_from, lines_past}
 use Rattle.little_endian.specs.Bytes.{AreBytes, le32, int32}
 use Rattle.little_endian.specs.Writing.{bytes16, bytes32, signed_bytes, int32_bytes}
 use Rattle.little_endian.specs.Back.{le32_bytes, le32_at, int32_back, Small, small_none, small_append, small16, small32, int32_bytes_small}
-use Rattle.file_records.specs.Table.{header_size, variables_kind, end_kind, body_size_lem, size_of, record_size_lem, le16, kind_at_lem, record_place}
-use Rattle.file_records.specs.Places.{longest, variables_record, end_record, place_first, place_suc}
+use Rattle.file_records.specs.declared.Kind.{Kind}
+use Rattle.file_records.specs.declared.Kind.TheVariants as kinds
+use Rattle.file_records.specs.Table.{header_size, number_of_kind, kind_numbered, body_size_lem, size_of, record_size_lem, le16, kind_at_lem, record_size_at_lem, record_place}
+use Rattle.file_records.specs.Places.{numbered_kind, number_small, longest, place_first, place_suc}
 use Rattle.file_records.specs.Scan.{no_identifier_lem}
 use Rattle.file_records.specs.Record.{Whole, LineAt}
 use Rattle.file_list.specs.File.{numbers_in, record_of, kind_of, line_body, line_record, line_records, file_of, file_size_lem, line_in}
-use Rattle.file_list.specs.LineRecord.{Kind, unwritten, written, kind_of_law, line_kind_of, kind_small, numbers_few, numbers_identified, written_numbers, length_written, length_body, length_record, length_records, line_back}
+use Rattle.file_list.specs.LineRecord.{KindOf, unwritten, written, kind_of_law, line_kind_of, numbers_few, written_numbers, length_written, length_body, length_record, length_records, line_back}
 
 -- ---- at a place, by what stands there
 module _ (b c : List ℕ) (p : ℕ) (e : drop p b ≡ c) where
@@ -76,8 +78,8 @@ module _ (b : List ℕ) (bytes : AreBytes b) where
   drop_signed p h = drop_bytes32 p h ∙ ap (λ (v : ℕ). bytes32 v ++ drop (p + 4) b) (sym (of_z-to_z {w = w32} (record { fits = le32_small p })))
 
 -- ---- what is written is bytes
-small_record : (kind : ℕ) {body : List ℕ} → Small body → Small (record_of kind body)
-small_record kind {body} h = small_append (small16 (length body)) (small_append (small16 kind) h)
+small_record : (kind : Kind) {body : List ℕ} → Small body → Small (record_of kind body)
+small_record kind {body} h = small_append (small16 (length body)) (small_append (small16 (number_of_kind kind)) h)
 
 small_body : (l : Line) → Small (line_body l)
 unfolding line_body
@@ -90,7 +92,7 @@ small_lines (l ∷ ls) = small_append (small_record (kind_of l) (small_body l)) 
 
 pub file_bytes : (n : ℕ) (L : List ℤ) → AreBytes (file_of n L)
 unfolding file_of
-file_bytes n L = (small_append (small_record variables_kind (small32 n)) (small_append (small_lines (lines_of L)) (small_record end_kind small_none))).small
+file_bytes n L = (small_append (small_record kinds.Variables (small32 n)) (small_append (small_lines (lines_of L)) (small_record kinds.End small_none))).small
 
 -- ---- a record that stands at p
 -- two bytes say what was written
@@ -98,20 +100,22 @@ two_bytes : (v : ℕ) → v < 65536 → v % 256 + v / 256 % 256 * 256 ≡ v
 two_bytes v h = omega arith
 
 module _ (b : List ℕ) (p : ℕ) (l : Line) (r : List ℕ) (e : drop p b ≡ line_record l ++ r) where
-  kind_there : kind_at_lem b p ≡ kind_of l
-  kind_there = le16_at b _ p e 2 ∙ two_bytes (kind_of l) (kind_small l)
+  kind_there : kind_at_lem b p ≡ Some (kind_of l)
+  kind_there =
+      let number = number_of_kind (kind_of l) in
+      ap kind_numbered (le16_at b _ p e 2 ∙ two_bytes number (number_small (kind_of l))) ∙ numbered_kind (kind_of l)
 
   whole_there : Whole b p (kind_of l)
   whole_there =
       record {
         named = kind_there;
-        sized = le16_first b _ p e ∙ ap (λ (m : ℕ). m % 256 + m / 256 % 256 * 256) (length_body l) ∙ two_bytes (size_of (body_size_lem (kind_of l))) (omega (arith, longest (kind_of l)));
+        sized = le16_first b _ p e ∙ ap (λ (m : ℕ). m % 256 + m / 256 % 256 * 256) (length_body l) ∙ two_bytes (body_size_lem (kind_of l)) (omega (arith, longest (kind_of l)));
         whole = omega (arith, length-drop p b, ap length e, length-append (line_record l) r, length_record l, longest (kind_of l));
       }
 
-  behind_there : drop (p + record_size_lem (kind_at_lem b p)) b ≡ r
+  behind_there : drop (p + record_size_at_lem b p) b ≡ r
   behind_there =
-      ap (λ (k : ℕ). drop (p + record_size_lem k) b) kind_there
+      ap (λ (o : Option Kind). drop (p + (header_size + size_of o)) b) kind_there
       ∙ sym (drop-drop (record_size_lem (kind_of l)) p b)
       ∙ ap (drop (record_size_lem (kind_of l))) e
       ∙ drop_at (line_record l) r (record_size_lem (kind_of l)) (length_record l)
@@ -131,7 +135,7 @@ module _ (b : List ℕ) (p : ℕ) (l : Line) (r : List ℕ) (e : drop p b ≡ li
     unfolding line_in
     line_there =
         let m = numbers_in (kind_of l) in
-        ap (λ (k : ℕ). line_of (tabulate (numbers_in k) (λ j. int32 b (p + header_size + 4 * j)))) kind_there
+        ap (λ (o : Option Kind). line_of (tabulate (size_of o / 4) (λ j. int32 b (p + header_size + 4 * j)))) kind_there
         ∙ ap line_of (tabulate_cong m _ _ number_there ∙ tabulate_get_d m (line_numbers_lem l) (pos 0) (omega (arith, numbers_few (kind_of l), length_numbers l)))
         ∙ line_back l
 
@@ -139,9 +143,9 @@ module _ (b : List ℕ) (p : ℕ) (l : Line) (r : List ℕ) (e : drop p b ≡ li
     unfolding line_numbers_lem
     identified_there = go (kind_of l) (kind_of_law l) refl
       where
-        go : (k : ℕ) → Kind l k → kind_of l ≡ k → no_identifier_lem b p k ≡ false
+        go : (k : Kind) → KindOf l k → kind_of l ≡ k → no_identifier_lem b p k ≡ false
         go _ (unwritten z) q = refl
-        go _ (written z) q = ap (λ (y : ℤ). eq_z y (pos 0)) (number_there bare_size (omega (arith, ap numbers_in q, numbers_identified))) ∙ z
+        go _ (written z) q = ap (λ (y : ℤ). eq_z y (pos 0)) (number_there bare_size (omega (arith, ap numbers_in q))) ∙ z
 
     line_at_law : LineAt b p
     line_at_law = record { kind = kind_of l; is_line_law = line_kind_of l; whole = whole_there; identified = identified_there }
@@ -150,13 +154,13 @@ module _ (b : List ℕ) (p : ℕ) (l : Line) (r : List ℕ) (e : drop p b ≡ li
 module _ (n : ℕ) (L : List ℤ) where
   -- the records from line k on
   abbrev from : ℕ → List ℕ
-  from k = line_records (drop k (lines_of L)) ++ record_of end_kind []
+  from k = line_records (drop k (lines_of L)) ++ record_of kinds.End []
 
   from_line : (k : ℕ) → k < line_count L → from k ≡ line_record (line_at L k) ++ from (k + 1)
   unfolding line_records
   from_line k h =
-      ap (λ (ls : List Line). line_records ls ++ record_of end_kind []) (lines_from L k h)
-      ∙ append_assoc (line_record (line_at L k)) (line_records (drop (k + 1) (lines_of L))) (record_of end_kind [])
+      ap (λ (ls : List Line). line_records ls ++ record_of kinds.End []) (lines_from L k h)
+      ∙ append_assoc (line_record (line_at L k)) (line_records (drop (k + 1) (lines_of L))) (record_of kinds.End [])
 
   from_first : drop (header_size + 4) (file_of n L) ≡ from 0
   unfolding file_of
@@ -172,29 +176,29 @@ module _ (n : ℕ) (L : List ℤ) where
   line_of_file : (k : ℕ) → k < line_count L → drop (record_place (file_of n L) k) (file_of n L) ≡ line_record (line_at L k) ++ from (k + 1)
   line_of_file k h = drop_file k (omega arith) ∙ from_line k h
 
-  end_of_file : drop (record_place (file_of n L) (line_count L)) (file_of n L) ≡ record_of end_kind []
+  end_of_file : drop (record_place (file_of n L) (line_count L)) (file_of n L) ≡ record_of kinds.End []
   unfolding line_records
-  end_of_file = drop_file (line_count L) (omega arith) ∙ ap (λ (ls : List Line). line_records ls ++ record_of end_kind []) (lines_past L (line_count L) (omega arith))
+  end_of_file = drop_file (line_count L) (omega arith) ∙ ap (λ (ls : List Line). line_records ls ++ record_of kinds.End []) (lines_past L (line_count L) (omega arith))
 
   pub length_file : length (file_of n L) ≡ file_size_lem L
   unfolding file_of
   length_file =
-      length-append (record_of variables_kind (bytes32 n)) (from 0)
-      ∙ omega (arith, length-append (line_records (lines_of L)) (record_of end_kind []), length_records (lines_of L), variables_record, end_record)
+      length-append (record_of kinds.Variables (bytes32 n)) (from 0)
+      ∙ omega (arith, length-append (line_records (lines_of L)) (record_of kinds.End []), length_records (lines_of L))
 
-  pub end_place : record_place (file_of n L) (line_count L) + record_size_lem end_kind ≡ length (file_of n L)
-  end_place = omega (arith, length-drop (record_place (file_of n L) (line_count L)) (file_of n L), ap length end_of_file, end_record)
+  pub end_place : record_place (file_of n L) (line_count L) + record_size_lem kinds.End ≡ length (file_of n L)
+  end_place = omega (arith, length-drop (record_place (file_of n L) (line_count L)) (file_of n L), ap length end_of_file)
 
   -- the record of n, and that of the end
-  pub first_whole : Whole (file_of n L) 0 variables_kind
-  unfolding file_of body_size_lem
-  first_whole = record { named = refl; sized = refl; whole = omega (arith, length_file, variables_record) }
+  pub first_whole : Whole (file_of n L) 0 kinds.Variables
+  unfolding file_of kind_numbered
+  first_whole = record { named = refl; sized = refl; whole = omega (arith, length_file) }
 
-  pub end_whole : Whole (file_of n L) (record_place (file_of n L) (line_count L)) end_kind
-  unfolding body_size_lem
+  pub end_whole : Whole (file_of n L) (record_place (file_of n L) (line_count L)) kinds.End
+  unfolding kind_numbered
   end_whole =
       record {
-        named = le16_at (file_of n L) _ (record_place (file_of n L) (line_count L)) end_of_file 2;
+        named = ap kind_numbered (le16_at (file_of n L) _ (record_place (file_of n L) (line_count L)) end_of_file 2);
         sized = le16_first (file_of n L) _ (record_place (file_of n L) (line_count L)) end_of_file;
         whole = omega (arith, end_place);
       }

@@ -1,5 +1,5 @@
 -- The numbers of a file's lines decoded into the front of a buffer, one line behind the other.
-use Rattle.std.specs.Prelude.{◌≡◌, List, [], ◌∷◌, ◌++◌, ℕ, ◌+◌, ◌*◌, ◌/◌, ◌<◌, ◌≤◌, ℤ, pos, length, get_or, set, take, drop}
+use Rattle.std.specs.Prelude.{◌≡◌, List, [], ◌∷◌, ◌++◌, ℕ, ◌+◌, ◌*◌, ◌/◌, ◌<◌, ◌≤◌, ℤ, pos, length, get_or, set, take, drop, Option}
 use Rattle.std.proofs.Math.Path.{refl}
 use Rattle.std.proofs.Common.{sym, ap, ap₂, subst, ◌∙◌, append_assoc, append-nil, add-zero, add_assoc, arith, length-append, length-set, length-drop, drop_of_length-le, length-take-le, get_or-take, get_or-drop, drop-drop, take_at, drop_at, to_z}
 use Rattle.std.proofs.lemmas.List.{set_split}
@@ -9,7 +9,8 @@ use Rattle.lines.specs.Limits.{line_size, bare_size}
 use Rattle.lines.specs.Line.{line_numbers_lem, line_of, numbers_of}
 use Rattle.lines.specs.LineNumbers.{numbers_append}
 use Rattle.little_endian.specs.Bytes.{le32, int32, first_of, int32s}
-use Rattle.file_records.specs.Table.{header_size, body_size_lem, size_of, record_size_lem, kind_at_lem, record_place}
+use Rattle.file_records.specs.declared.Kind.{Kind}
+use Rattle.file_records.specs.Table.{header_size, size_of, kind_at_lem, record_place}
 use Rattle.file_records.specs.Places.{LineKind, bare, identified}
 use Rattle.file_records.specs.Record.{LineAt}
 use Rattle.file_list.specs.File.{numbers_in, line_in, file_lines, file_list_lem}
@@ -23,9 +24,9 @@ last_zero line e =
     ∙ drop_at (take bare_size line) (pos 0 ∷ drop line_size line) bare_size (length-take-le bare_size line (omega arith))
     ∙ ap (λ (r : List ℤ). pos 0 ∷ r) (drop_of_length-le line {i = line_size} (omega arith))
 
-filled : (f : ℕ → ℤ) {k : ℕ} → LineKind k → (line : List ℤ) → length line ≡ line_size
-    → tabulate (numbers_in k) f ++ drop (numbers_in k) (set line bare_size (pos 0)) ≡ line_numbers_lem (line_of (tabulate (numbers_in k) f))
-unfolding body_size_lem line_numbers_lem
+filled : (f : ℕ → ℤ) {kind : Kind} → LineKind kind → (line : List ℤ) → length line ≡ line_size
+    → tabulate (numbers_in kind) f ++ drop (numbers_in kind) (set line bare_size (pos 0)) ≡ line_numbers_lem (line_of (tabulate (numbers_in kind) f))
+unfolding line_numbers_lem
 filled f bare line e = ap (λ (r : List ℤ). tabulate bare_size f ++ r) (last_zero line e)
 filled f identified line e =
     ap (λ (r : List ℤ). tabulate line_size f ++ r) (drop_of_length-le (set line bare_size (pos 0)) {i = line_size} (omega (arith, length-set line bare_size (pos 0))))
@@ -37,7 +38,7 @@ part_word b p m i h = rw (byte i (omega arith), byte (i + 1) (omega arith), byte
     byte : (j : ℕ) → j < m → get_or (take m (drop p b)) j 0 ≡ get_or b (p + j) 0
     byte j l = get_or-take m (drop p b) j 0 l ∙ get_or-drop p b j 0
 
-pub line_decoded : (b : List ℕ) (at m : ℕ) (line : List ℤ) {o : List ℤ} (h : LineAt b at) → length line ≡ line_size → m ≡ size_of (body_size_lem (kind_at_lem b at))
+pub line_decoded : (b : List ℕ) (at m : ℕ) (line : List ℤ) {o : List ℤ} (h : LineAt b at) → length line ≡ line_size → m ≡ size_of (kind_at_lem b at)
     → o ≡ int32s (take m (drop (at + header_size) b)) ++ drop (length (take m (drop (at + header_size) b)) / 4) (set line bare_size (pos 0))
     → o ≡ line_numbers_lem (line_in b at)
 unfolding line_in first_of
@@ -45,14 +46,14 @@ line_decoded b at m line {o} h e s q =
     let p = at + header_size in
     let part = take m (drop p b) in
     let numbers : ℕ → ℤ = λ j. int32 b (p + 4 * j) in
-    let n = numbers_in (kind_at_lem b at) in
-    let size : length part ≡ m = length-take-le m (drop p b) (omega (arith, length-drop p b, h.whole.whole, ap record_size_lem h.whole.named)) in
+    let n = size_of (kind_at_lem b at) / 4 in
+    let size : length part ≡ m = length-take-le m (drop p b) (omega (arith, length-drop p b, h.whole.whole, ap size_of h.whole.named)) in
     let count : length part / 4 ≡ n = ap (λ (i : ℕ). i / 4) (size ∙ s) in
     let same : tabulate n (λ j. int32 part (4 * j)) ≡ tabulate n numbers = tabulate_cong n _ _ (λ j l. ap (to_z w32) (part_word b p m (4 * j) (omega arith))) in
     q
     ∙ ap (λ (i : ℕ). tabulate i (λ j. int32 part (4 * j)) ++ drop i (set line bare_size (pos 0))) count
     ∙ ap (λ (l : List ℤ). l ++ drop n (set line bare_size (pos 0))) same
-    ∙ subst (λ (k : ℕ). tabulate (numbers_in k) numbers ++ drop (numbers_in k) (set line bare_size (pos 0)) ≡ line_numbers_lem (line_of (tabulate (numbers_in k) numbers))) (sym h.whole.named)
+    ∙ subst (λ (o : Option Kind). tabulate (size_of o / 4) numbers ++ drop (size_of o / 4) (set line bare_size (pos 0)) ≡ line_numbers_lem (line_of (tabulate (size_of o / 4) numbers))) (sym h.whole.named)
     (filled numbers h.is_line_law line e)
 
 -- ---- all lines

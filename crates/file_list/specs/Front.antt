@@ -3,7 +3,7 @@
 -- A record is judged by its own bytes and by whether the file has that many. Since no more lines are taken than there is room for, the record that
 -- comes next always lies in the front, and so does the byte after the end. How many turns reading has does not matter: each file has enough of its own.
 use Rattle.file_records.specs.declared.FileRefusal.{FileRefusal}
-use Rattle.std.specs.Prelude.{◌≡◌, Bool, true, false, cond, List, ltb, get_or, take, Err, None, Ok, Option, Result, Some}
+use Rattle.std.specs.Prelude.{◌≡◌, Bool, true, false, List, ltb, get_or, take, Err, None, Ok, Option, Result, Some}
 use Rattle.std.proofs.Math.Path.{refl, ap}
 use Rattle.std.proofs.Common.{sym, ◌∙◌, arith, ltb-true, ltb-false, lt-ltb, le-ltb, length-take, get_or-take, to_z}
 use Prim.Native.Nat.{ℕ, zero, suc, ◌+◌, ◌*◌, ◌/◌, ◌<◌, ◌≤◌, min}
@@ -14,24 +14,21 @@ use Rattle.lines.specs.Limits.{line_size}
 use Rattle.lines.specs.Line.{line_of, numbers_of}
 use Rattle.little_endian.specs.Bytes.{le32, int32}
 use Rattle.file_records.specs.declared.Cursor.{Cursor}
-use Rattle.file_records.specs.declared.FileRefusal.TheVariants.{Cut}
 use Rattle.file_records.specs.declared.Next.{Next}
 use Rattle.file_records.specs.declared.Next.TheVariants.{More, End}
-use Rattle.file_records.specs.Table.{header_size, variables_kind, identified_kind, body_size_lem, size_of, record_size_lem, le16, kind_at_lem, record_place, identifier_place}
-use Rattle.file_records.specs.Places.{longest, variables_record, identified_record, end_record, place_first, place_suc, place_most}
-use Rattle.file_records.specs.Scan.{start, taken, sized, next_record_lem, onward, scan_from, whole_file_lem, scan}
+use Rattle.file_records.specs.declared.Kind.{Kind}
+use Rattle.file_records.specs.declared.Kind.TheVariants as kinds
+use Rattle.file_records.specs.Table.{header_size, kind_numbered, size_of, record_size_lem, le16, kind_at_lem, record_size_at_lem, record_place, identifier_place}
+use Rattle.file_records.specs.Places.{longest, longest_at, place_first, place_suc, place_most}
+use Rattle.file_records.specs.Scan.{start, behind, no_identifier_lem, taken, placed, next_record_lem, onward, scan_from, whole_file_lem, scan}
 use Rattle.file_records.specs.Laid.{Placed, Reached, Left, Scanned, start_reached}
 use Rattle.file_records.proofs.Reading.{next_left, scanned, scan_laid}
-use Rattle.file_list.specs.File.{numbers_in, line_in, file_list_lem}
-use Rattle.file_list.specs.LineRecord.{numbers_few}
+use Rattle.file_list.specs.File.{line_in, file_list_lem}
 use Rattle.file_list.specs.Read.{after_scan, read_answer}
 
 -- so many bytes of a file are looked at, where the list's buffer has this room: as if each line's record were the longest
 abbrev pub front_size : ℕ → ℕ
-front_size room = record_size_lem variables_kind + record_size_lem identified_kind * (room / line_size + 1)
-
-pub front_is : (room : ℕ) → front_size room ≡ header_size + 4 + (header_size + 4 * line_size) * (room / line_size + 1)
-front_is room = rw (variables_record, identified_record)
+front_size room = record_size_lem kinds.Variables + record_size_lem kinds.Identified * (room / line_size + 1)
 
 module _ (k : ℕ) (b d : List ℕ) (same : take k b ≡ take k d) where
   -- ---- what stands in the front
@@ -62,24 +59,25 @@ module _ (k : ℕ) (b d : List ℕ) (same : take k b ≡ take k d) where
   word i h = rw (byte i (omega arith), byte (i + 1) (omega arith), byte (i + 2) (omega arith), byte (i + 3) (omega arith))
 
   -- ---- one record
-  same_sized : (room : ℕ) (c : Cursor) → c.at + (header_size + 4 * line_size) ≤ k → (kind : ℕ) (s : Option ℕ) → ((size : ℕ) → s ≡ Some size → size ≤ 4 * line_size)
-      → sized b room c kind s ≡ sized d room c kind s
-  unfolding taken
-  same_sized room c h kind None l = refl
-  same_sized room c h kind (Some size) l =
-      let z = l size refl in
-      rw (half c.at (omega arith), ends_before (c.at + header_size + size) (omega arith), word (c.at + header_size) (omega arith), word (identifier_place c.at) (omega arith))
+  same_placed : (room : ℕ) (c : Cursor) → c.at + (header_size + 4 * line_size) ≤ k → (o : Option Kind) → placed b room c o ≡ placed d room c o
+  same_placed room c h None = refl
+  same_placed room c h (Some kind) =
+      rw (half c.at (omega arith), ends_before (behind c kind) (omega (arith, longest kind)), identifier kind, next kind)
+    where
+      identifier : (kind : Kind) → no_identifier_lem b c.at kind ≡ no_identifier_lem d c.at kind
+      identifier kinds.Identified = rw (word (identifier_place c.at) (omega arith))
+      identifier _ = refl
+
+      next : (kind : Kind) → taken b c kind ≡ taken d c kind
+      next kinds.Variables = rw (word (c.at + header_size) (omega arith))
+      next _ = refl
 
   same_kind : (p : ℕ) → p + header_size ≤ k → kind_at_lem b p ≡ kind_at_lem d p
-  same_kind p h = half (p + 2) (omega arith)
+  same_kind p h = ap kind_numbered (half (p + 2) (omega arith))
 
   same_next : (room : ℕ) (c : Cursor) → c.at + (header_size + 4 * line_size) ≤ k → next_record_lem b room c ≡ next_record_lem d room c
   unfolding next_record_lem
-  same_next room c h =
-      let kind = kind_at_lem d c.at in
-      rw (ends_before (c.at + header_size) (omega arith), same_kind c.at (omega arith))
-      (ap (cond (ltb (length d) (c.at + header_size)) (Err (Cut c.at)))
-      (same_sized room c h kind (body_size_lem kind) (λ size e. omega (arith, ap size_of e, longest kind))))
+  same_next room c h = rw (ends_before (c.at + header_size) (omega arith), same_kind c.at (omega arith), same_placed room c h (kind_at_lem d c.at))
 
   -- ---- all records
   module _ (room : ℕ) (fits : front_size room ≤ k) where
@@ -88,8 +86,8 @@ module _ (k : ℕ) (b d : List ℕ) (same : take k b ≡ take k d) where
     in_front c h = go c.begun h.placed
       where
         go : (t : Bool) → Placed b t c → c.at + (header_size + 4 * line_size) ≤ k
-        go false p = omega (arith, front_is room)
-        go true p = omega (arith, h.fits, place_most b c.lines, front_is room)
+        go false p = omega arith
+        go true p = omega (arith, h.fits, place_most b c.lines)
 
     -- in as many turns as each has bytes
     same_from : (i j : ℕ) (c : Cursor) → Reached b room c → Reached d room c → length b < c.at + i → length d < c.at + j → scan_from i b room c ≡ scan_from j d room c
@@ -114,27 +112,27 @@ module _ (k : ℕ) (b d : List ℕ) (same : take k b ≡ take k d) where
         ∙ go (scan_from (suc (length d)) d room start) (scanned d room)
       where
         go : (m : Result Cursor FileRefusal) → Scanned d room m → whole_file_lem b m ≡ whole_file_lem d m
-        go (Ok c) s = rw (goes_past c.at (omega (arith, s.size, s.fits, end_record, place_most d c.lines, front_is room)))
+        go (Ok c) s = rw (goes_past c.at (omega (arith, s.size, s.fits, place_most d c.lines)))
         go (Err r) s = refl
 
     -- ---- the list
     place_in_front : (j : ℕ) → line_size * j ≤ room → record_place b j + (header_size + 4 * line_size) ≤ k
-    place_in_front j h = omega (arith, place_most b j, front_is room)
+    place_in_front j h = omega (arith, place_most b j)
 
     same_place : (j : ℕ) → line_size * j ≤ room → record_place b j ≡ record_place d j
     same_place zero h = place_first b ∙ sym (place_first d)
     same_place (suc j) h =
         let p = place_in_front j (omega arith) in
         place_suc b j
-        ∙ ap (λ (i : ℕ). record_place b j + record_size_lem i) (same_kind (record_place b j) (omega arith))
-        ∙ ap (λ (i : ℕ). i + record_size_lem (kind_at_lem d i)) (same_place j (omega arith))
+        ∙ ap (λ (o : Option Kind). record_place b j + (header_size + size_of o)) (same_kind (record_place b j) (omega arith))
+        ∙ ap (λ (i : ℕ). i + record_size_at_lem d i) (same_place j (omega arith))
         ∙ sym (place_suc d j)
 
     same_line : (p : ℕ) → p + (header_size + 4 * line_size) ≤ k → line_in b p ≡ line_in d p
     unfolding line_in
     same_line p h =
-        ap (λ (i : ℕ). line_of (tabulate (numbers_in i) (λ j. int32 b (p + header_size + 4 * j)))) (same_kind p (omega arith))
-        ∙ ap line_of (tabulate_cong (numbers_in (kind_at_lem d p)) _ _ (λ j l. ap (to_z w32) (word (p + header_size + 4 * j) (omega (arith, numbers_few (kind_at_lem d p))))))
+        ap (λ (o : Option Kind). line_of (tabulate (size_of o / 4) (λ j. int32 b (p + header_size + 4 * j)))) (same_kind p (omega arith))
+        ∙ ap line_of (tabulate_cong (size_of (kind_at_lem d p) / 4) _ _ (λ j l. ap (to_z w32) (word (p + header_size + 4 * j) (omega (arith, longest_at d p)))))
 
     pub same_list : (lines : ℕ) → line_size * lines ≤ room → file_list_lem b lines ≡ file_list_lem d lines
     unfolding file_list_lem

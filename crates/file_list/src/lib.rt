@@ -5,17 +5,19 @@
 ghost use Rattle.std.specs.Prelude.{◌≡◌, ◌++◌, ◌+◌, ◌*◌, ◌<◌, ◌≤◌, length, drop, Ok};
 ghost use Rattle.lines.specs.Limits.{line_size, max_variables};
 ghost use Rattle.lines.specs.Line.{line_numbers_lem, line_at, line_count, lines_of};
-ghost use Rattle.little_endian.specs.Writing.{bytes16, int32_bytes, put};
-ghost use Rattle.file_records.specs.Table.{header_size, variables_kind, record_size_lem, kind_at_lem};
+ghost use Rattle.little_endian.specs.Writing.{int32_bytes, put};
+ghost use Rattle.file_records.specs.Table.{header_size, record_size_lem, record_size_at_lem};
+ghost use Rattle.file_records.specs.declared.Kind.TheVariants.{Variables};
 ghost use Rattle.file_records.specs.Record.{LineAt};
 ghost use Rattle.file_records.specs.Laid.{Lines};
 ghost use Rattle.file_list.specs.File.{kind_of, line_record, line_records, file_of, lines_end, file_size_lem, line_in, file_list_lem};
+ghost use Rattle.file_list.specs.Putting.{header};
 ghost use Rattle.file_list.specs.Read.{list_validity_lem, after_scan, Leaves, ReadDone};
 ghost use Rattle.file_list.specs.Write.{WriteDone};
 
 use file_records::{
-    BARE_SIZE, Cursor, END_KIND, FileRefusal, HEADER_SIZE, IDENTIFIED_KIND, LINE_KIND,
-    NUMBER_BYTES, VARIABLES_KIND, kind_at, record_size, scan,
+    BARE_SIZE, Cursor, FileRefusal, HEADER_SIZE, Kind, NUMBER_BYTES, record_size, record_size_at,
+    scan,
 };
 use lines::limits::{LINE_SIZE, MAX_LINES, MAX_VARIABLES};
 use lines::{Line, Refusal, line_at, list_validity};
@@ -36,12 +38,12 @@ pub struct Listed {
 }
 
 // A header: the length of the body and the kind, each in one half.
-fn put_header(out: &mut [u8], at: usize, size: usize, kind: usize)
-    requires { (at + header_size ≤ length out.old) × (size < 65536) × (kind < 65536) }
-    ensures { out.new ≡ put out.old at (bytes16 size ++ bytes16 kind) }
+fn put_header(out: &mut [u8], at: usize, kind: Kind)
+    requires { at + header_size ≤ length out.old }
+    ensures { out.new ≡ put out.old at (header kind) }
 {
-    put_u16(out, at, size);
-    put_u16(out, at + HEADER_SIZE / 2, kind);
+    put_u16(out, at, kind.body_size());
+    put_u16(out, at + HEADER_SIZE / 2, kind.number());
 }
 
 // Numbers, one behind the other.
@@ -55,13 +57,13 @@ fn put_numbers(out: &mut [u8], at: usize, numbers: &[i32])
 }
 
 // The kind of a line's record: an identifier of 0 is not written.
-fn line_kind(line: Line) -> usize
+fn line_kind(line: Line) -> Kind
     ensures { result ≡ kind_of line }
 {
     if line.identifier == 0 {
-        return LINE_KIND;
+        return Kind::Line;
     }
-    IDENTIFIED_KIND
+    Kind::Identified
 }
 
 // The record of line k, and where it ends.
@@ -70,22 +72,17 @@ fn put_line(list: &[i32], k: usize, out: &mut [u8], at: usize) -> usize
     ensures { (result ≡ at + record_size_lem (kind_of (line_at list.now k))) × (out.new ≡ put out.old at (line_record (line_at list.now k))) }
 {
     let kind = line_kind(line_at(list, k));
-    let size = record_size(kind);
-    let body = size - HEADER_SIZE;
     let first = LINE_SIZE * k;
-    put_header(out, at, body, kind);
-    put_numbers(
-        out,
-        at + HEADER_SIZE,
-        &list[first..first + body / NUMBER_BYTES],
-    );
-    at + size
+    let count = kind.body_size() / NUMBER_BYTES;
+    put_header(out, at, kind);
+    put_numbers(out, at + HEADER_SIZE, &list[first..first + count]);
+    at + record_size(kind)
 }
 
 // The records of all lines, behind that of n, and where they end.
 fn put_lines(list: &[i32], out: &mut [u8]) -> usize
     requires { lines_end list.now ≤ length out.old }
-    ensures { (result ≡ lines_end list.now) × (out.new ≡ put out.old (record_size_lem variables_kind) (line_records (lines_of list.now))) }
+    ensures { (result ≡ lines_end list.now) × (out.new ≡ put out.old (record_size_lem Variables) (line_records (lines_of list.now))) }
 {
     let count = list.len() / LINE_SIZE;
     let mut at = VARIABLES_RECORD;
@@ -100,10 +97,10 @@ fn put_file(n: usize, list: &[i32], out: &mut [u8])
     requires { (n ≤ max_variables) × (file_size_lem list.now ≤ length out.old) }
     ensures { out.new ≡ put out.old 0 (file_of n list.now) }
 {
-    put_header(out, 0, NUMBER_BYTES, VARIABLES_KIND);
+    put_header(out, 0, Kind::Variables);
     put_u32(out, HEADER_SIZE, n as u32);
     let end = put_lines(list, out);
-    put_header(out, end, 0, END_KIND);
+    put_header(out, end, Kind::End);
 }
 
 // The bytes of a list's file.
@@ -134,10 +131,10 @@ pub fn write_list(n: usize, list: &[i32], out: &mut [u8]) -> Result<usize, FileR
 // The numbers of the line at `at`, and where its record ends. An identifier that does not stand there is 0.
 fn decode_line(bytes: &[u8], at: usize, line: &mut [i32]) -> usize
     requires { LineAt bytes.now at × (length line.old ≡ line_size) }
-    ensures { (result ≡ at + record_size_lem (kind_at_lem bytes.now at)) × (line.new ≡ line_numbers_lem (line_in bytes.now at)) }
+    ensures { (result ≡ at + record_size_at_lem bytes.now at) × (line.new ≡ line_numbers_lem (line_in bytes.now at)) }
 {
     let body = at + HEADER_SIZE;
-    let end = at + record_size(kind_at(bytes, at));
+    let end = at + record_size_at(bytes, at);
     line[BARE_SIZE] = 0;
     decode_i32(&bytes[body..end], line);
     end

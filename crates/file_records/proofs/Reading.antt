@@ -4,6 +4,7 @@ use Rattle.std.specs.Prelude.{◌≡◌, Bool, true, false, List, ltb, Err, Ok, 
 use Rattle.std.proofs.Math.Path.{refl, ap}
 use Rattle.std.proofs.Common.{sym, subst, ◌∙◌, zero-add, below_more, ltb-false, le-ltb}
 use Rattle.std.proofs.Math.Bool.{cond}
+use borrow.Author.Tests.{not-false}
 use Prim.Native.Nat.{ℕ, zero, suc, ◌+◌, ◌*◌, ◌<◌, ◌≤◌}
 use native.Mathlib.Omega.{arith}
 use Rattle.std.proofs.Math.ListN.{length}
@@ -14,43 +15,48 @@ use Rattle.file_records.specs.declared.FileRefusal.TheVariants.{Trailing}
 use Rattle.file_records.specs.declared.Cursor.{Cursor}
 use Rattle.file_records.specs.declared.Next.{Next}
 use Rattle.file_records.specs.declared.Next.TheVariants.{More, End}
-use Rattle.file_records.specs.Table.{header_size, variables_kind, end_kind, is_line, record_size_lem, kind_at_lem, record_place}
-use Rattle.file_records.specs.Places.{variables, line, end, line_is, variables_record, end_record, place_first, place_next}
-use Rattle.file_records.specs.Scan.{start, taken, next_record_lem, onward, scan_from, whole_file_lem, scan}
-use Rattle.file_records.specs.Record.{Whole, LineAt, behind, Outcome, of_variables, of_line, of_end, refused}
+use Rattle.file_records.specs.declared.Kind.{Kind}
+use Rattle.file_records.specs.declared.Kind.TheVariants as kinds
+use Rattle.file_records.specs.Table.{header_size, record_place}
+use Rattle.file_records.specs.Places.{LineKind, bare, identified, place_first}
+use Rattle.file_records.specs.Scan.{no_identifier_lem, start, behind, line_taken, next_record_lem, onward, scan_from, whole_file_lem, scan}
+use Rattle.file_records.specs.Record.{Whole, LineAt, Outcome, of_taken, refused}
 use Rattle.file_records.specs.Laid.{Begun, Laid, behind_line, place_least, Reached, Ended, Left, start_reached, Scanned, Found}
 use Rattle.file_records.specs.Laws.{Running}
 use Rattle.file_records.proofs.Outcomes.{outcome, next_taken}
 
 module _ (b : List ℕ) (room : ℕ) where
-  after_variables : (c : Cursor) → Whole b c.at variables_kind → c.at ≡ 0 → c.lines ≡ 0 → line_size * c.lines ≤ room
-      → Reached b room (record { at = behind c variables_kind; n = le32 b (c.at + header_size); begun = true; lines = c.lines })
+  after_variables : (c : Cursor) → Whole b c.at kinds.Variables → c.at ≡ 0 → c.lines ≡ 0 → line_size * c.lines ≤ room
+      → Reached b room (record { at = behind c kinds.Variables; n = le32 b (c.at + header_size); begun = true; lines = c.lines })
   after_variables c w z k fits =
-      let next : behind c variables_kind ≡ record_place b c.lines = omega (arith, ap (record_place b) k, place_first b, variables_record) in
+      let next : behind c kinds.Variables ≡ record_place b c.lines = omega (arith, ap (record_place b) k, place_first b) in
       let body : header_size ≡ c.at + header_size = omega arith in
       record {
         within = omega (arith, w.whole);
-        placed = (next, record { first = subst (λ (i : ℕ). Whole b i variables_kind) z w; variables = ap (λ (i : ℕ). le32 b i) body; lines = λ j l. absurd (omega arith) });
+        placed = (next, record { first = subst (λ (i : ℕ). Whole b i kinds.Variables) z w; variables = ap (λ (i : ℕ). le32 b i) body; lines = λ j l. absurd (omega arith) });
         fits = fits;
       }
 
-  after_line : (c : Cursor) (h : LineAt b c.at) → c.begun ≡ true → c.at ≡ record_place b c.lines → Begun b c.n c.lines → line_size * (c.lines + 1) ≤ room
-      → Reached b room (record { at = behind c h.kind; n = c.n; begun = c.begun; lines = c.lines + 1 })
-  after_line c h t z g fits =
-      let size : record_size_lem (kind_at_lem b (record_place b c.lines)) ≡ record_size_lem h.kind = ap record_size_lem (ap (kind_at_lem b) (sym z) ∙ h.whole.named) in
-      let next : behind c h.kind ≡ record_place b (c.lines + 1) = omega (arith, place_next b c.lines) in
-      let lines = below_more (λ j. LineAt b (record_place b j)) c.lines g.lines (subst (LineAt b) z h) in
-      record { within = omega (arith, h.whole.whole); placed = rw t (next, record { first = g.first; variables = g.variables; lines = lines }); fits = fits }
+  after_line : (c : Cursor) (h : LineAt b c.at) → c.begun ≡ true → line_size * (c.lines + 1) ≤ room → Reached b room c → Left b room c (Ok (line_taken c h.kind))
+  after_line c h t fits g =
+      let p = rw t at g.placed in
+      let l = subst (LineAt b) p.0 h in
+      let next : behind c h.kind ≡ record_place b (c.lines + 1) = omega (arith, p.0, behind_line b c.lines l) in
+      let lines = below_more (λ j. LineAt b (record_place b j)) c.lines p.1.lines l in (
+        record { within = h.whole.whole; placed = rw t (next, record { first = p.1.first; variables = p.1.variables; lines = lines }); fits = fits },
+        omega arith,
+      )
 
-  after_end : (c : Cursor) → Whole b c.at end_kind → c.at ≡ record_place b c.lines → Begun b c.n c.lines → line_size * c.lines ≤ room
-      → Ended b room (record { at = behind c end_kind; n = c.n; begun = c.begun; lines = c.lines })
+  after_end : (c : Cursor) → Whole b c.at kinds.End → c.at ≡ record_place b c.lines → Begun b c.n c.lines → line_size * c.lines ≤ room
+      → Ended b room (record { at = behind c kinds.End; n = c.n; begun = c.begun; lines = c.lines })
   after_end c w z g fits =
-      record { within = omega (arith, w.whole); size = omega arith; begun = g; end = subst (λ (i : ℕ). Whole b i end_kind) z w; fits = fits }
+      record { within = omega (arith, w.whole); size = omega arith; begun = g; end = subst (λ (i : ℕ). Whole b i kinds.End) z w; fits = fits }
 
   left : (c : Cursor) (m : Result Next FileRefusal) → Outcome b room c m → Reached b room c → Left b room c m
-  left c _ (of_variables w e) h = let p = rw e at h.placed in (after_variables c w p.0 p.1 h.fits, omega arith)
-  left c _ (of_line l e r) h = let p = rw e at h.placed in (after_line c l e p.0 p.1 r, omega arith)
-  left c _ (of_end w e) h = let p = rw e at h.placed in after_end c w p.0 p.1 h.fits
+  left c _ (of_taken kinds.Variables w e i r) h = let p = rw e at h.placed in (after_variables c w p.0 p.1 h.fits, omega arith)
+  left c _ (of_taken kinds.Line w e i r) h = after_line c (record { kind = kinds.Line; is_line_law = bare; whole = w; identified = i }) (not-false _ e) (ltb-false _ _ r) h
+  left c _ (of_taken kinds.Identified w e i r) h = after_line c (record { kind = kinds.Identified; is_line_law = identified; whole = w; identified = i }) (not-false _ e) (ltb-false _ _ r) h
+  left c _ (of_taken kinds.End w e i r) h = let p = rw (not-false _ e) at h.placed in after_end c w p.0 p.1 h.fits
   left c _ (refused r) h = tt
 
   pub next_left : (c : Cursor) → Reached b room c → Left b room c (next_record_lem b room c)
@@ -94,27 +100,27 @@ module _ (b : List ℕ) (room n k : ℕ) (h : Laid b n k) (r : line_size * k ≤
   ended = record { at = length b; n = n; begun = true; lines = k }
 
   next_variables : next_record_lem b room start ≡ Ok (More (cursor 0))
-  unfolding taken is_line
   next_variables =
-      let at : behind start variables_kind ≡ record_place b 0 = omega (arith, place_first b, variables_record) in
-      next_taken b room start variables_kind variables h.begun.first refl refl refl
+      let at : behind start kinds.Variables ≡ record_place b 0 = omega (arith, place_first b) in
+      next_taken b room start kinds.Variables h.begun.first refl refl refl
       ∙ ap (λ (i : ℕ). Ok (More (record { at = i; n = le32 b header_size; begun = true; lines = 0 }))) at
       ∙ ap (λ (i : ℕ). Ok (More (record { at = record_place b 0; n = i; begun = true; lines = 0 }))) h.begun.variables
 
   next_line : (j : ℕ) → j < k → next_record_lem b room (cursor j) ≡ Ok (More (cursor (j + 1)))
-  unfolding taken
   next_line j m =
       let l = h.begun.lines j m in
-      let is = line_is l.is_line_law in
       let at : behind (cursor j) l.kind ≡ record_place b (j + 1) = omega (arith, behind_line b j l) in
-      next_taken b room (cursor j) l.kind (line l.is_line_law) l.whole is.0 l.identified (rw is.1 (le-ltb room (line_size * (j + 1)) (omega (arith, r))))
-      ∙ rw (is.0, is.1) (ap (λ (i : ℕ). Ok (More (record { at = i; n = n; begun = true; lines = j + 1 }))) at)
+      go l.is_line_law l.whole l.identified (le-ltb room (line_size * (j + 1)) (omega (arith, r))) ∙ ap (λ (i : ℕ). Ok (More (record { at = i; n = n; begun = true; lines = j + 1 }))) at
+    where
+      go : {kind : Kind} → LineKind kind → Whole b (record_place b j) kind → no_identifier_lem b (record_place b j) kind ≡ false → ltb room (line_size * (j + 1)) ≡ false
+          → next_record_lem b room (cursor j) ≡ Ok (line_taken (cursor j) kind)
+      go bare w i r = next_taken b room (cursor j) kinds.Line w refl i r
+      go identified w i r = next_taken b room (cursor j) kinds.Identified w refl i r
 
   next_end : next_record_lem b room (cursor k) ≡ Ok (End ended)
-  unfolding taken is_line
   next_end =
-      let at : behind (cursor k) end_kind ≡ length b = omega (arith, h.size) in
-      next_taken b room (cursor k) end_kind end h.end refl refl refl ∙ ap (λ (i : ℕ). Ok (End (record { at = i; n = n; begun = true; lines = k }))) at
+      let at : behind (cursor k) kinds.End ≡ length b = omega (arith, h.size) in
+      next_taken b room (cursor k) kinds.End h.end refl refl refl ∙ ap (λ (i : ℕ). Ok (End (record { at = i; n = n; begun = true; lines = k }))) at
 
   laid_lines : (f m j : ℕ) → j + m ≡ k → m < f → scan_from f b room (cursor j) ≡ Ok ended
   unfolding scan_from
@@ -126,7 +132,7 @@ module _ (b : List ℕ) (room n k : ℕ) (h : Laid b n k) (r : line_size * k ≤
   unfolding scan scan_from
   laid_scan =
       rw next_variables
-      (ap (whole_file_lem b) (laid_lines (length b) k 0 (zero-add k) (omega (arith, h.size, end_record, place_least b k h.begun.lines)))
+      (ap (whole_file_lem b) (laid_lines (length b) k 0 (zero-add k) (omega (arith, h.size, place_least b k h.begun.lines)))
       ∙ ap (λ (t : Bool). cond t (Err (Trailing (length b))) (Ok ended)) (le-ltb (length b) (length b) (omega arith)))
 
 -- ---- one turn of the reader

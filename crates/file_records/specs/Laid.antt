@@ -3,7 +3,7 @@
 -- One way: what is known of the records before the cursor grows with each record, and at the end it is the layout. The other way: in bytes that are laid
 -- out so, each record passes its tests. Where a line begins goes by the bytes before it, and so both ways go from the first line to the last.
 use Rattle.file_records.specs.declared.FileRefusal.{FileRefusal}
-use Rattle.std.specs.Prelude.{◌≡◌, Bool, true, false, List, Err, Ok, Result}
+use Rattle.std.specs.Prelude.{◌≡◌, Bool, true, false, List, Err, Ok, Option, Result}
 use Rattle.std.proofs.Math.Path.{refl, ap}
 use Rattle.std.proofs.Common.{◌∙◌, add-one}
 use Prim.Native.Nat.{ℕ, zero, suc, ◌+◌, ◌*◌, ◌<◌, ◌≤◌}
@@ -14,7 +14,9 @@ use Rattle.little_endian.specs.Bytes.{le32}
 use Rattle.file_records.specs.declared.Cursor.{Cursor}
 use Rattle.file_records.specs.declared.Next.{Next}
 use Rattle.file_records.specs.declared.Next.TheVariants.{More, End}
-use Rattle.file_records.specs.Table.{header_size, variables_kind, end_kind, record_size_lem, record_place}
+use Rattle.file_records.specs.declared.Kind.{Kind}
+use Rattle.file_records.specs.declared.Kind.TheVariants as kinds
+use Rattle.file_records.specs.Table.{header_size, size_of, record_size_lem, record_place}
 use Rattle.file_records.specs.Places.{line_is, place_next}
 use Rattle.file_records.specs.Scan.{start}
 use Rattle.file_records.specs.Record.{Whole, LineAt}
@@ -25,20 +27,20 @@ Lines b k = (j : ℕ) → j < k → LineAt b (record_place b j)
 
 -- n, then k lines
 pub record Begun (b : List ℕ) (n k : ℕ) : Type 0 where
-  pub first : Whole b 0 variables_kind
+  pub first : Whole b 0 kinds.Variables
   pub variables : le32 b header_size ≡ n
   pub lines : Lines b k
 
 -- then the end, then nothing
 pub record Laid (b : List ℕ) (n k : ℕ) : Type 0 where
   pub begun : Begun b n k
-  pub end : Whole b (record_place b k) end_kind
-  pub size : record_place b k + record_size_lem end_kind ≡ length b
+  pub end : Whole b (record_place b k) kinds.End
+  pub size : record_place b k + record_size_lem kinds.End ≡ length b
 
 module _ (b : List ℕ) where
   -- behind a line the next record begins
   pub behind_line : (k : ℕ) (h : LineAt b (record_place b k)) → record_place b (k + 1) ≡ record_place b k + record_size_lem h.kind
-  behind_line k h = place_next b k ∙ ap (λ (i : ℕ). record_place b k + record_size_lem i) h.whole.named
+  behind_line k h = place_next b k ∙ ap (λ (o : Option Kind). record_place b k + (header_size + size_of o)) h.whole.named
 
   -- each line takes more bytes than a line has numbers
   pub place_least : (k : ℕ) → Lines b k → line_size * k ≤ record_place b k
@@ -46,7 +48,7 @@ module _ (b : List ℕ) where
   place_least (suc k) h =
       let l = h k (omega arith) in
       let next = rw (add-one k) at (behind_line k l) in
-      omega (arith, next, (line_is l.is_line_law).2, place_least k (λ j m. h j (omega arith)))
+      omega (arith, next, (line_is l.is_line_law).1, place_least k (λ j m. h j (omega arith)))
 
 -- ---- read to the end
 -- nothing was read; or n, and the lines one behind the other
@@ -62,9 +64,9 @@ pub record Reached (b : List ℕ) (room : ℕ) (c : Cursor) : Type 0 where
 -- the record of the end was read too
 pub record Ended (b : List ℕ) (room : ℕ) (c : Cursor) : Type 0 where
   pub within : c.at ≤ length b
-  pub size : record_place b c.lines + record_size_lem end_kind ≡ c.at
+  pub size : record_place b c.lines + record_size_lem kinds.End ≡ c.at
   pub begun : Begun b c.n c.lines
-  pub end : Whole b (record_place b c.lines) end_kind
+  pub end : Whole b (record_place b c.lines) kinds.End
   pub fits : line_size * c.lines ≤ room
 
 module _ (b : List ℕ) (room : ℕ) where

@@ -1,11 +1,10 @@
 -- What the code keeps while it reads records.
-use Rattle.std.specs.Prelude.{◌≡◌, Bool, true, false, List, Some}
+use Rattle.std.specs.Prelude.{◌≡◌, Bool, true, false, List}
 use Rattle.std.proofs.Common.{arith}
 use Prim.Native.Nat.{ℕ, suc, ◌+◌, ◌*◌, ◌<◌, ◌≤◌}
 use Rattle.std.proofs.Math.ListN.{length}
 use Rattle.lines.specs.Limits.{line_size}
 use Rattle.file_records.specs.declared.Cursor.{Cursor}
-use Rattle.file_records.specs.Table.{variables_kind, body_size_lem}
 use Rattle.file_records.specs.Scan.{start, scan_from}
 use Rattle.file_records.specs.Laid.{place_least, Placed, Reached}
 
@@ -20,11 +19,6 @@ reached_in b room c h = record { at = h.within; lines = go c.begun h.placed }
     go : (t : Bool) → Placed b t c → line_size * c.lines ≤ c.at
     go false p = omega arith
     go true p = omega (arith, place_least b c.lines p.1.lines)
-
--- the table's size for the record of n
-pub variables_size : (size : ℕ) → body_size_lem variables_kind ≡ Some size → size ≡ 4
-unfolding body_size_lem
-variables_size size e = cc
 
 -- ---- reading on
 -- what is kept between two records: enough turns are left, and they lead where all of them lead

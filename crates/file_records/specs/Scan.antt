@@ -8,45 +8,54 @@ use Rattle.file_records.specs.declared.FileRefusal.TheVariants.{Cut, UnknownKind
 use Rattle.file_records.specs.declared.Cursor.{Cursor}
 use Rattle.file_records.specs.declared.Next.{Next}
 use Rattle.file_records.specs.declared.Next.TheVariants.{More, End}
-use Rattle.file_records.specs.Table.{header_size, variables_kind, identified_kind, body_size_lem, is_line, le16, kind_at_lem, identifier_place}
+use Rattle.file_records.specs.declared.Kind.{Kind}
+use Rattle.file_records.specs.declared.Kind.TheVariants as kinds
+use Rattle.file_records.specs.Table.{header_size, body_size_lem, is_line, record_size_lem, le16, kind_at_lem, identifier_place}
 
 -- nothing was read
 abbrev pub start : Cursor
 start = record { at = 0; n = 0; begun = false; lines = 0 }
 
 -- one record of n comes first, and none later
-abbrev pub out_of_place_lem : Cursor → ℕ → Bool
-out_of_place_lem c kind = cond c.begun (eqb kind variables_kind) (not (eqb kind variables_kind))
+abbrev pub out_of_place_lem : Cursor → Kind → Bool
+out_of_place_lem c kinds.Variables = c.begun
+out_of_place_lem c _ = not c.begun
 
 -- 26: a line with its identifier, which is 0
-abbrev pub no_identifier_lem : List ℕ → ℕ → ℕ → Bool
-no_identifier_lem b at kind = eqb kind identified_kind && eq_z (int32 b (identifier_place at)) (pos 0)
+abbrev pub no_identifier_lem : List ℕ → ℕ → Kind → Bool
+no_identifier_lem b at kinds.Identified = eq_z (int32 b (identifier_place at)) (pos 0)
+no_identifier_lem b at _ = false
 
 -- 25: a line for which the list's buffer has no room
-abbrev pub no_room_lem : ℕ → Cursor → ℕ → Bool
+abbrev pub no_room_lem : ℕ → Cursor → Kind → Bool
 no_room_lem room c kind = is_line kind && ltb room (line_size * (c.lines + 1))
 
--- a whole record in its place
-unfoldable pub taken : List ℕ → Cursor → ℕ → ℕ → Result Next FileRefusal
-taken b c kind size =
-    cond (eqb kind variables_kind) (Ok (More (record { at = c.at + header_size + size; n = le32 b (c.at + header_size); begun = true; lines = c.lines })))
-    (cond (is_line kind) (Ok (More (record { at = c.at + header_size + size; n = c.n; begun = c.begun; lines = c.lines + 1 })))
-    (Ok (End (record { at = c.at + header_size + size; n = c.n; begun = c.begun; lines = c.lines }))))
+-- a whole record in its place: n is kept, a line is counted
+abbrev pub behind : Cursor → Kind → ℕ
+behind c kind = c.at + record_size_lem kind
 
--- 22, 20 for a cut body, 23, 26, 25; or the record is taken
-abbrev pub sized : List ℕ → ℕ → Cursor → ℕ → Option ℕ → Result Next FileRefusal
-sized b room c kind None = Err (UnknownKind c.at)
-sized b room c kind (Some size) =
-    cond (not (eqb (le16 b c.at) size)) (Err (WrongLength c.at))
-    (cond (ltb (length b) (c.at + header_size + size)) (Err (Cut c.at))
+abbrev pub line_taken : Cursor → Kind → Next
+line_taken c kind = More (record { at = behind c kind; n = c.n; begun = c.begun; lines = c.lines + 1 })
+
+abbrev pub taken : List ℕ → Cursor → Kind → Next
+taken b c kinds.Variables = More (record { at = behind c kinds.Variables; n = le32 b (c.at + header_size); begun = true; lines = c.lines })
+taken b c kinds.Line = line_taken c kinds.Line
+taken b c kinds.End = End (record { at = behind c kinds.End; n = c.n; begun = c.begun; lines = c.lines })
+taken b c kinds.Identified = line_taken c kinds.Identified
+
+-- 21; 22, 20 for a cut body, 23, 26, 25; or the record is taken
+abbrev pub placed : List ℕ → ℕ → Cursor → Option Kind → Result Next FileRefusal
+placed b room c None = Err (UnknownKind c.at)
+placed b room c (Some kind) =
+    cond (not (eqb (le16 b c.at) (body_size_lem kind))) (Err (WrongLength c.at))
+    (cond (ltb (length b) (behind c kind)) (Err (Cut c.at))
     (cond (out_of_place_lem c kind) (Err (OutOfPlace c.at))
     (cond (no_identifier_lem b c.at kind) (Err (NoIdentifier c.at))
-    (cond (no_room_lem room c kind) (Err (NoRoom c.at)) (taken b c kind size)))))
+    (cond (no_room_lem room c kind) (Err (NoRoom c.at)) (Ok (taken b c kind))))))
 
--- the record at the cursor: 20 for a cut header and 21 go first
+-- the record at the cursor: 20 for a cut header goes first
 unfoldable pub next_record_lem : List ℕ → ℕ → Cursor → Result Next FileRefusal
-next_record_lem b room c =
-    cond (ltb (length b) (c.at + header_size)) (Err (Cut c.at)) (sized b room c (kind_at_lem b c.at) (body_size_lem (kind_at_lem b c.at)))
+next_record_lem b room c = cond (ltb (length b) (c.at + header_size)) (Err (Cut c.at)) (placed b room c (kind_at_lem b c.at))
 
 -- records until the end or a refusal; each takes bytes, so that there are no more of them than bytes
 abbrev pub onward : (Cursor → Result Cursor FileRefusal) → Result Next FileRefusal → Result Cursor FileRefusal

@@ -1,10 +1,10 @@
-// The records of a file for lists: a two-byte length of the body, a two-byte kind, the body, all little-endian.
+// The records of a file for lists: a two-byte length of the body, the two-byte number of its kind, the body, all little-endian.
 
 #![tactic(auto)]
 
 ghost use Rattle.std.specs.Prelude.{◌≡◌, ◌+◌, ◌*◌, ◌^◌, ◌<◌, ◌≤◌, length, Ok, Some};
 ghost use Rattle.lines.specs.Limits.{line_size};
-ghost use Rattle.file_records.specs.Table.{header_size, record_size_lem, le16, kind_at_lem};
+ghost use Rattle.file_records.specs.Table.{header_size, number_of_kind, kind_numbered, record_size_lem, le16, kind_at_lem, record_size_at_lem};
 ghost use Rattle.file_records.specs.Refusal.{file_number, file_place};
 ghost use Rattle.file_records.specs.Table as table;
 ghost use Rattle.file_records.specs.declared.FileRefusal.TheVariants.{List};
@@ -15,20 +15,58 @@ use lines::limits::LINE_SIZE;
 use lines::{Numbered, Refusal, number_and_place, numbered_at};
 use little_endian::{i32_at, u32_at};
 
-// The bytes before a body: its length and the kind.
+// The bytes before a body: its length and its kind's number.
 pub const HEADER_SIZE: usize = 4;
-// n; one line, whose identifier is 0; the end; one line with its identifier, which is not 0.
-pub const VARIABLES_KIND: usize = 1;
-
-pub const LINE_KIND: usize = 2;
-
-pub const END_KIND: usize = 3;
-
-pub const IDENTIFIED_KIND: usize = 4;
 // The bytes of a number.
 pub const NUMBER_BYTES: usize = 4;
 // The numbers of a line but the last, its identifier.
 pub const BARE_SIZE: usize = LINE_SIZE - 1;
+
+// What a record holds: n; one line, whose identifier is 0; the end; one line with its identifier, which is not 0. Each has
+// its number in a file.
+#[derive(Clone, Copy, PartialEq, Eq)]
+pub enum Kind {
+    Variables = 1,
+    Line = 2,
+    End = 3,
+    Identified = 4,
+}
+
+impl Kind {
+    const ALL: [Kind; 4] = [Kind::Variables, Kind::Line, Kind::End, Kind::Identified];
+
+    pub fn number(self) -> usize
+        ensures { result ≡ number_of_kind self }
+    {
+        self as usize
+    }
+
+    #[tactic(auto, unfolding(crate::specs::Table::kind_numbered))]
+    fn numbered(number: usize) -> Option<Kind>
+        ensures { result ≡ kind_numbered number }
+    {
+        Kind::ALL.into_iter().find(|kind| kind.number() == number)
+    }
+
+    // The length of the body, by the table in specs/.
+    pub fn body_size(self) -> usize
+        ensures { result ≡ table.body_size_lem self }
+    {
+        match self {
+            Kind::Variables => NUMBER_BYTES,
+            Kind::Line => NUMBER_BYTES * BARE_SIZE,
+            Kind::End => 0,
+            Kind::Identified => NUMBER_BYTES * LINE_SIZE,
+        }
+    }
+
+    // Whether the record is a line.
+    pub fn is_line(self) -> bool
+        ensures { result ≡ table.is_line self }
+    {
+        matches!(self, Kind::Line | Kind::Identified)
+    }
+}
 
 // What is wrong with a file, each with the byte offset of its record, or with its list.
 #[derive(Clone, Copy)]
@@ -92,113 +130,82 @@ fn u16_at(bytes: &[u8], at: usize) -> usize
 }
 
 // The kind of the record that begins at `at`.
-pub fn kind_at(bytes: &[u8], at: usize) -> usize
+pub fn kind_at(bytes: &[u8], at: usize) -> Option<Kind>
     requires { at + header_size ≤ length bytes.now }
     ensures { result ≡ kind_at_lem bytes.now at }
 {
-    u16_at(bytes, at + HEADER_SIZE / 2)
-}
-
-// The length of a kind's body, by the table in specs/.
-#[tactic(auto, unfolding(crate::specs::Table::body_size_lem))]
-pub fn body_size(kind: usize) -> Option<usize>
-    ensures { result ≡ table.body_size_lem kind }
-{
-    match kind {
-        VARIABLES_KIND => Some(NUMBER_BYTES),
-        LINE_KIND => Some(NUMBER_BYTES * BARE_SIZE),
-        END_KIND => Some(0),
-        IDENTIFIED_KIND => Some(NUMBER_BYTES * LINE_SIZE),
-        _ => None,
-    }
+    Kind::numbered(u16_at(bytes, at + HEADER_SIZE / 2))
 }
 
 // The bytes of a record of this kind.
-#[tactic(auto, using(crate::specs::Places::longest))]
-pub fn record_size(kind: usize) -> usize
+pub fn record_size(kind: Kind) -> usize
     ensures { result ≡ record_size_lem kind }
 {
-    HEADER_SIZE + body_size(kind).unwrap_or(0)
+    HEADER_SIZE + kind.body_size()
 }
 
-// Whether a record of this kind is a line.
-#[tactic(auto, unfolding(crate::specs::Table::is_line))]
-fn is_line(kind: usize) -> bool
-    ensures { result ≡ table.is_line kind }
+// The bytes of the record at `at`, by its kind.
+pub fn record_size_at(bytes: &[u8], at: usize) -> usize
+    requires { at + header_size ≤ length bytes.now }
+    ensures { result ≡ record_size_at_lem bytes.now at }
 {
-    matches!(kind, LINE_KIND | IDENTIFIED_KIND)
+    kind_at(bytes, at).map_or(HEADER_SIZE, record_size)
 }
 
 // Whether a record of n comes later than first, or another record comes first.
-fn out_of_place(cursor: Cursor, kind: usize) -> bool
+fn out_of_place(cursor: Cursor, kind: Kind) -> bool
     ensures { result ≡ scanned.out_of_place_lem cursor kind }
 {
-    if cursor.begun {
-        return kind == VARIABLES_KIND;
-    }
-    kind != VARIABLES_KIND
+    cursor.begun == (kind == Kind::Variables)
 }
 
 // Whether the record at `at` is a line with its identifier, which is 0.
-#[tactic(auto, using(crate::specs::Places::identified_record))]
-fn no_identifier(bytes: &[u8], at: usize, kind: usize) -> bool
+fn no_identifier(bytes: &[u8], at: usize, kind: Kind) -> bool
     requires { at + record_size_lem kind ≤ length bytes.now }
     ensures { result ≡ scanned.no_identifier_lem bytes.now at kind }
 {
-    kind == IDENTIFIED_KIND && i32_at(bytes, at + HEADER_SIZE + NUMBER_BYTES * BARE_SIZE) == 0
+    kind == Kind::Identified && i32_at(bytes, at + HEADER_SIZE + NUMBER_BYTES * BARE_SIZE) == 0
 }
 
 // Whether the record is a line for which the list's buffer has no room.
-fn no_room(room: usize, cursor: Cursor, kind: usize) -> bool
+fn no_room(room: usize, cursor: Cursor, kind: Kind) -> bool
     requires { line_size * (cursor.lines + 1) < 2 ^ 64 }
     ensures { result ≡ scanned.no_room_lem room cursor kind }
 {
-    is_line(kind) && room < LINE_SIZE * (cursor.lines + 1)
+    kind.is_line() && room < LINE_SIZE * (cursor.lines + 1)
 }
 
 // A whole record in its place: n is kept, a line is counted.
-#[tactic(auto, using(crate::specs::Laws::variables_size), unfolding(crate::specs::Scan::taken))]
-fn taken(bytes: &[u8], cursor: Cursor, kind: usize, size: usize) -> Result<Next, FileRefusal>
-    requires { InFile bytes.now cursor × (table.body_size_lem kind ≡ Some size) × (cursor.at + header_size + size ≤ length bytes.now) }
-    ensures { result ≡ scanned.taken bytes.now cursor kind size }
+fn taken(bytes: &[u8], cursor: Cursor, kind: Kind) -> Next
+    requires { InFile bytes.now cursor × (cursor.at + record_size_lem kind ≤ length bytes.now) }
+    ensures { result ≡ scanned.taken bytes.now cursor kind }
 {
-    let body = cursor.at + HEADER_SIZE;
-    let at = body + size;
-    if kind == VARIABLES_KIND {
-        let n = u32_at(bytes, body) as usize;
-        return Ok(Next::More(Cursor {
+    let at = cursor.at + record_size(kind);
+    match kind {
+        Kind::Variables => Next::More(Cursor {
             at,
-            n,
+            n: u32_at(bytes, cursor.at + HEADER_SIZE) as usize,
             begun: true,
             ..cursor
-        }));
-    }
-    if is_line(kind) {
-        let lines = cursor.lines + 1;
-        return Ok(Next::More(Cursor {
+        }),
+        Kind::Line | Kind::Identified => Next::More(Cursor {
             at,
-            lines,
+            lines: cursor.lines + 1,
             ..cursor
-        }));
+        }),
+        Kind::End => Next::End(Cursor { at, ..cursor }),
     }
-    Ok(Next::End(Cursor { at, ..cursor }))
 }
 
 // A record of a known kind: 22, 20 for a cut body, 23, 26, 25; or it is taken.
-fn placed(
-    bytes: &[u8],
-    room: usize,
-    cursor: Cursor,
-    kind: usize,
-    size: usize,
-) -> Result<Next, FileRefusal>
-    requires { InFile bytes.now cursor × (table.body_size_lem kind ≡ Some size) × (cursor.at + header_size ≤ length bytes.now) }
-    ensures { result ≡ scanned.sized bytes.now room cursor kind (Some size) }
+fn placed(bytes: &[u8], room: usize, cursor: Cursor, kind: Kind) -> Result<Next, FileRefusal>
+    requires { InFile bytes.now cursor × (cursor.at + header_size ≤ length bytes.now) }
+    ensures { result ≡ scanned.placed bytes.now room cursor (Some kind) }
 {
-    if u16_at(bytes, cursor.at) != size {
+    if u16_at(bytes, cursor.at) != kind.body_size() {
         return Err(FileRefusal::WrongLength(cursor.at));
     }
-    if bytes.len() < cursor.at + HEADER_SIZE + size {
+    if bytes.len() < cursor.at + record_size(kind) {
         return Err(FileRefusal::Cut(cursor.at));
     }
     if out_of_place(cursor, kind) {
@@ -210,7 +217,7 @@ fn placed(
     if no_room(room, cursor, kind) {
         return Err(FileRefusal::NoRoom(cursor.at));
     }
-    taken(bytes, cursor, kind, size)
+    Ok(taken(bytes, cursor, kind))
 }
 
 // The record at the cursor: 20 for a cut header and 21 go first.
@@ -222,9 +229,8 @@ fn next_record(bytes: &[u8], room: usize, cursor: Cursor) -> Result<Next, FileRe
     if bytes.len() < cursor.at + HEADER_SIZE {
         return Err(FileRefusal::Cut(cursor.at));
     }
-    let kind = kind_at(bytes, cursor.at);
-    match body_size(kind) {
-        Some(size) => placed(bytes, room, cursor, kind, size),
+    match kind_at(bytes, cursor.at) {
+        Some(kind) => placed(bytes, room, cursor, kind),
         None => Err(FileRefusal::UnknownKind(cursor.at)),
     }
 }

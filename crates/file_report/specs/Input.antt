@@ -2,14 +2,15 @@
 use Rattle.std.specs.Prelude.{◌≡◌, ◌↔◌, List, ℕ, ◌+◌, ◌*◌, ◌≤◌, ℤ, length, take}
 use Rattle.std.proofs.Common.{sym, subst, ◌∙◌, le_refl, take-take}
 use Rattle.lines.specs.Limits.{line_size}
-use Rattle.file_records.specs.Table.{variables_kind, identified_kind, record_size_lem}
+use Rattle.file_records.specs.declared.Kind.TheVariants.{Variables, Identified}
+use Rattle.file_records.specs.Table.{record_size_lem}
 use Rattle.file_list.specs.Back.{is_read}
 use Rattle.file_list.specs.Front.{same_read, same_list}
 use Rattle.file_report.specs.Report.{most_variables, most_lines, Decided, Reported, refused, decided}
 
 -- the bytes of the most lines and of one line more, each the longest: then the first refusal, or the end and a byte after it, has been seen
 abbrev pub input_size : ℕ
-input_size = record_size_lem variables_kind + record_size_lem identified_kind * (most_lines + 1)
+input_size = record_size_lem Variables + record_size_lem Identified * (most_lines + 1)
 
 -- inputs with the same front of that many bytes, or more, are reported alike
 pub same_front : (k : ℕ) → input_size ≤ k → (b d : List ℕ) → take k b ≡ take k d → {T : List ℕ} → Reported b T → Reported d T

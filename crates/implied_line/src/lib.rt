@@ -25,6 +25,7 @@ pub enum LineAnswer {
 
 // The first refusal that applies: the list's, the line's as if it stood behind the list, then 7 and 8. The buffers are
 // given by their lengths.
+#[tactic(auto, using(lines::specs::Valid::valid_list), unfolding(crate::specs::Answer::question_validity_lem))]
 fn question_validity(
     n: usize,
     list: &[i32],

@@ -23,6 +23,7 @@ pub struct Pair {
 }
 
 // The first refusal that applies: the list's, then 5 for x and for y, then 8. The work area is given by its length.
+#[tactic(auto, using(lines::specs::Valid::valid_list), unfolding(crate::specs::Pair::pair_validity_lem))]
 fn pair_validity(n: usize, list: &[i32], x: usize, y: usize, work: usize) -> Result<(), Refusal>
     ensures { result ≡ pair_validity_lem n list.now x y work }
 {

@@ -1,17 +1,13 @@
 -- The model and the groups as a session keeps them, n values and 2n numbers: what they are after a line is learnt, when they stay, and what is handed
 -- out of them. All is defined whatever numbers the table and the kept outputs hold.
-use Rattle.steps.specs.declared.Step.{Step}
-use Rattle.std.specs.Prelude.{◌≡◌, Bool, true, not, cond, ◌&&◌, ◌||◌, List, ◌++◌, map, ℕ, ◌+◌, ◌*◌, ◌≤◌, ℤ, pos, nat_abs, length, take, drop}
-use Rattle.std.specs.Int.Signed.{lt_z}
+use Rattle.std.specs.Prelude.{◌≡◌, Bool, not, cond, ◌&&◌, ◌||◌, List, ◌++◌, ℕ, ◌+◌, ◌*◌, ◌≤◌, ℤ, pos, nat_abs, length, take, drop}
 use Rattle.integers.specs.Integer.{is_between}
 use Rattle.integers.specs.Sequence.{tabulate}
 use Rattle.lines.specs.declared.Line.{Line}
 use Rattle.lines.specs.Limits.{max_variables}
 use Rattle.lines.specs.Line.{number, meets, assignment_of}
 use Rattle.steps.specs.Step.{step_numbered_lem}
-use Rattle.theory_walks.specs.Distance.{Distance, none, some}
-use Rattle.theory_bounds.specs.Tight.{Table}
-use Rattle.theory_bounds.specs.Answers.{model_of, bound_at, group_at_lem, groups_of}
+use Rattle.theory_bounds.specs.Answers.{bound_at, group_at_lem}
 use Rattle.theory_kept.specs.Slack.{wide_step}
 use Rattle.decide_buffers.specs.Room.{model_room_lem, bounds_room_lem, groups_room_lem}
 use Rattle.decide_stored_table.specs.Table.{by_rows}

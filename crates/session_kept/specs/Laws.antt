@@ -1,25 +1,21 @@
--- The ways through the code: what each leaves of the kept outputs, a wide step as it is stored, and one value, bound or number of the groups.
-use Rattle.std.specs.Prelude.{◌≡◌, refl, Bool, true, false, not, cond, ◌||◌, List, ◌∷◌, ◌++◌, ℕ, zero, suc, ◌+◌, ◌*◌, ◌-◌, ◌/◌, ◌%◌, ◌^◌, ◌<◌, ◌≤◌, ℤ, pos, nat_abs, ◌-ℤ◌, length, get_or, take, drop, None, Option, Some}
-use Rattle.std.proofs.Common.{sym, ap, ap₂, ◌∙◌, append-nil, arith, eq-eqb, ne_eqb, le-leb, take-append-drop, length-append, length-drop, drop_of_length-le, take_at, drop_at, take_all, length-take-le, SFits}
+-- The ways through the code: what each leaves of the kept outputs, and one value, bound or number of the groups.
+use Rattle.std.specs.Prelude.{◌≡◌, refl, Bool, true, false, not, cond, ◌||◌, List, ◌∷◌, ◌++◌, ℕ, zero, suc, ◌+◌, ◌*◌, ◌-◌, ◌/◌, ◌%◌, ◌<◌, ◌≤◌, ℤ, pos, ◌-ℤ◌, length, get_or, take, drop}
+use Rattle.std.proofs.Common.{sym, ap, ap₂, ◌∙◌, append-nil, arith, eq-eqb, le-leb, take-append-drop, length-drop, drop_of_length-le, take_at, drop_at, take_all, length-take-le, SFits}
 use Rattle.std.proofs.Math.Decide.{dec_lt}
 use Rattle.std.proofs.Math.ListN.{get_or-eq_default}
-use Rattle.std.specs.Int.Signed.{le_z, lt_z}
+use Rattle.std.specs.Int.Signed.{le_z}
 use Rattle.std.specs.Int.{w64}
-use Rattle.integers.specs.Integer.{◌⩽◌, is_between, Within}
-use Rattle.integers.proofs.Linear.{ints}
-use Rattle.integers.specs.Laws.{and_true, both_true}
+use Rattle.integers.specs.Integer.{is_between, Within}
+use Rattle.integers.specs.Laws.{both_true}
 use Rattle.integers.proofs.Halving.{is_within}
 use Rattle.integers.specs.Sequence.{tabulate, tabulate_get_d, tabulate_cong, length_tabulate, get_d_tabulate}
 use Rattle.integers.specs.Lowest.{first_failing_lem}
 use Rattle.lines.specs.Limits.{max_variables, max_value, absent_least}
 use Rattle.lines.specs.Line.{number, assignment_of}
-use Rattle.steps.specs.declared.Step.{Step}
 use Rattle.steps.specs.Point.{point}
-use Rattle.theory_walks.specs.Distance.{Distance, none, some}
 use Rattle.theory_walks.specs.Size.{within_more}
 use Rattle.theory_bounds.specs.Tight.{Table, halves}
 use Rattle.theory_bounds.specs.Answers.{bound_at, least_of, greatest_of, group_at_lem}
-use Rattle.theory_inserting.specs.Insert.{closing}
 use Rattle.decide_buffers.specs.Room.{groups_room_lem}
 use Rattle.decide_rows.specs.Stored.{stored}
 use Rattle.decide_rows.specs.Read.{no_walk_lem}
@@ -30,7 +26,6 @@ use Rattle.session_step.specs.Read.{small_table}
 use Rattle.session_questions.specs.Asked.{halves_short}
 use Rattle.session_distances.specs.Distances.{distance_at, all_distances, beyond_some}
 use Rattle.session_state.specs.State.{kept_room_lem, widened}
-use Rattle.theory_kept.specs.Slack.{equal_slack, is_wide, wide_step}
 use Rattle.session_kept.specs.Kept.{kept_after, value_at, small_group_lem}
 
 -- ---- numbers that are copied to the front
@@ -47,19 +42,13 @@ widened_tabulate (suc n) f = ap (λ (l : List ℤ). pos (f zero) ∷ l) (widened
 pub widened_front : (n : ℕ) (g : List ℕ) → n ≤ length g → tabulate n (λ i. pos (get_or g i 0)) ≡ widened (take n g)
 widened_front n g h = sym (widened_tabulate n (λ i. get_or g i 0)) ∙ ap widened (tabulate_get_d n g 0 h)
 
--- ---- the model that stays, and the model that was read off the table to a list w
+-- ---- the model that was read off the table to a list w
 module _ (n : ℕ) (stays : Bool) (q v : List ℤ) where
-  pub kept_model : stays ≡ true → q ≡ cond stays (take n q) v ++ drop n q
-  kept_model e = rw e (sym (take-append-drop n q))
-
   pub model_anew : stays ≡ false → length v ≡ n → (d w q' : List ℤ) → w ≡ v ++ d → q' ≡ take n w ++ drop n q → q' ≡ cond stays (take n q) v ++ drop n q
   model_anew e l d w q' is put = put ∙ ap (λ (x : List ℤ). x ++ drop n q) (ap (take n) is ∙ take_at v d n l ∙ sym (ap (λ (b : Bool). cond b (take n q) v) e))
 
--- ---- the groups that stay, and the groups f that were read off the table to a list g
+-- ---- the groups f that were read off the table to a list g
 module _ (count : ℕ) (stays : Bool) (q : List ℤ) (f : List ℕ) where
-  pub kept_groups : stays ≡ true → q ≡ cond stays q (widened f)
-  kept_groups e = rw e refl
-
   pub groups_anew : stays ≡ false → length q ≡ count → length f ≡ count → (d g : List ℕ) (q' : List ℤ) → g ≡ f ++ d → q' ≡ widened (take count g) ++ drop count q
       → q' ≡ cond stays q (widened f)
   groups_anew e size l d g q' is put =
@@ -69,7 +58,7 @@ module _ (count : ℕ) (stays : Bool) (q : List ℤ) (f : List ℕ) where
       ∙ append-nil (widened f)
       ∙ sym (ap (λ (b : Bool). cond b q (widened f)) e)
 
--- ---- both: the three ways
+-- ---- both
 -- a choice by a test or a known answer
 or_true : (b : Bool) {A : Type 0} (x y : A) → cond (b || true) x y ≡ x
 or_true true x y = refl
@@ -86,10 +75,6 @@ module _ (n : ℕ) (ms gs : Bool) (t q : List ℤ) where
 
   abbrev groups : List ℤ
   groups = widened (tabulate (2 * n) (group_at_lem (by_rows (2 * n) t)))
-
-  -- both stay
-  pub kept_both : ms ≡ true → gs ≡ true → q ≡ kept_after n ms gs t q
-  kept_both e f = rw (e, f) (sym (take-append-drop n q))
 
   -- a number of the table is no distance
   pub kept_none : first_failing_lem (length t) (distance_at t) < length t → q ≡ kept_after n ms gs t q
@@ -109,9 +94,6 @@ module _ (n : ℕ) (ms gs : Bool) (t q : List ℤ) where
 
     behind_is : drop n m ≡ drop n q
     behind_is = ap (drop n) put ∙ drop_at (cond ms (take n q) values) (drop n q) n front_length
-
-    pub put_length : length m ≡ kept_room_lem n
-    put_length = ap length put ∙ length-append (cond ms (take n q) values) (drop n q) ∙ omega (arith, front_length, length-drop n q, size)
 
     pub part_is : take (length m - n) (drop n m) ≡ drop n q
     part_is = take_all (length m - n) (drop n m) (omega (arith, length-drop n m)) ∙ behind_is
@@ -144,18 +126,6 @@ module _ (n : ℕ) (q : List ℤ) where
           let end : length (tabulate n (value_at q)) ≤ k = omega (arith, length_tabulate n (value_at q)) in
           rw (get_or-eq_default (tabulate n (value_at q)) (pos 0) end) (is_within max_value (pos 0) refl)
 
--- ---- a wide step: no walk is stored as a number above the bound, so that the stored sum alone is tested
-wide_stored : (d : Distance) → lt_z (equal_slack) (stored d) ≡ is_wide d
-wide_stored none = refl
-wide_stored (some z) = refl
-
-module _ (D : Table) (x : Option Step) where
-  pub wide_found : (s : Step) → x ≡ Some s → (r : ℤ) → r ≡ stored (closing D s) → lt_z (equal_slack) r ≡ wide_step D x
-  wide_found s e r is = ap (lt_z (equal_slack)) is ∙ wide_stored (closing D s) ∙ sym (ap (wide_step D) e)
-
-  pub wide_nothing : x ≡ None → true ≡ wide_step D x
-  wide_nothing e = rw e refl
-
 -- ---- one bound, by the half of a point
 module _ (N : ℕ) (t : List ℤ) (i : ℕ) where
   abbrev D : Table
@@ -164,12 +134,6 @@ module _ (N : ℕ) (t : List ℤ) (i : ℕ) where
   -- the bound that the test picks: the least value or the greatest
   abbrev bound_by : Bool → ℤ
   bound_by b = cond b (least_of (halves D (point (i / 2) 1))) (greatest_of (halves D (point (i / 2) 0)))
-
-  pub bound_greatest_at : i % 2 ≡ 1 → (r : ℤ) → r ≡ stored (halves (small_table N t) (i - 1)) → r ≡ bound_at (small_table N t) i
-  bound_greatest_at e r is =
-      let odd : i % 2 ≡ 0 → ⊥ = λ f. omega arith in
-      let p : i - 1 ≡ point (i / 2) 0 = omega arith in
-      is ∙ ap (λ (k : ℕ). greatest_of (halves D k)) p ∙ sym (ap bound_by (ne_eqb (i % 2) 0 odd))
 
   module _ (e : i % 2 ≡ 1 → ⊥) where
     least_at : least_of (halves (small_table N t) (i + 1)) ≡ bound_at (small_table N t) i
@@ -189,28 +153,9 @@ module _ (N : ℕ) (t : List ℤ) (i : ℕ) where
       bound_fits f = minus_fits z (rw is (within (halves D (i + 1)) (halves_short N t (i + 1)) (λ g. f (is ∙ g))))
 
 -- ---- one number of the groups
-module _ (z : ℤ) where
-  pub group_low : is_between (pos 0) (pos max_variables) z ≡ true → pos 0 ⩽ z
-  group_low e = low z (and_true _ _ e).0
-    where
-      low : (z : ℤ) → le_z (pos 0) z ≡ true → pos 0 ⩽ z
-      low z = simp ints (omega arith)
-
-  pub group_fits : is_between (pos 0) (pos max_variables) z ≡ true → nat_abs z < 2 ^ 32
-  group_fits e = let p = and_true _ _ e in fits z p.0 p.1
-    where
-      fits : (z : ℤ) → le_z (pos 0) z ≡ true → le_z z (pos max_variables) ≡ true → nat_abs z < 2 ^ 32
-      fits z = simp ints (omega arith)
-
-  pub group_yes : is_between (pos 0) (pos max_variables) z ≡ true → nat_abs z ≡ small_group_lem z
-  group_yes e = rw e refl
-
-  pub group_no : is_between (pos 0) (pos max_variables) z ≡ false → 0 ≡ small_group_lem z
-  group_no e = rw e refl
-
 -- a number that is at most as great as there are variables
 pub group_pos : (k : ℕ) → k ≤ max_variables → small_group_lem (pos k) ≡ k
-group_pos k h = sym (group_yes (pos k) (inside k h))
+group_pos k h = rw (inside k h) refl
   where
     inside : (k : ℕ) → k ≤ max_variables → is_between (pos 0) (pos max_variables) (pos k) ≡ true
     inside k h = both_true (le_z (pos 0) (pos k)) (le_z (pos k) (pos max_variables)) (le-leb 0 k (omega arith)) (le-leb k max_variables h)

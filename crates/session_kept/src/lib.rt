@@ -87,6 +87,7 @@ pub fn renew(table: &[i64], n: usize, model_stays: bool, groups_stay: bool, kept
 }
 
 // The kept values, each 0 where it is beyond all models.
+#[tactic(auto, using(integers::specs::Fill::filled_more))]
 fn read_values(kept: &[i64], n: usize, values: &mut [i64])
     requires { (n ≤ length kept.now) × (n ≤ length values.old) }
     ensures { values.new ≡ tabulate n (value_at kept.now) ++ drop n values.old }
@@ -111,11 +112,10 @@ fn step_wide(list: &[i32], number: usize, table: &[i64], n: usize) -> bool
     requires { SizedTable n table.now × LinesOk n list.now }
     ensures { result ≡ wide_step (small_table (2 * n) table.now) (step_numbered_lem list.now number) }
 {
-    let named = step_numbered(list, number);
-    if let Some(step) = named {
-        return EQUAL_SLACK < sum_along(table, n, step.to, step);
+    match step_numbered(list, number) {
+        Some(step) => EQUAL_SLACK < sum_along(table, n, step.to, step),
+        None => true,
     }
-    true
 }
 
 // Whether both steps of line k are wide: then the groups stay.
@@ -141,6 +141,7 @@ fn small_group(z: i64) -> u32
 }
 
 // The kept model, to the front of a list.
+#[tactic(auto, using(integers::specs::Fill::filled_more))]
 fn give_model(kept: &[i64], n: usize, model: &mut [i32])
     requires { (n ≤ length kept.now) × (n ≤ length model.old) }
     ensures { model.new ≡ tabulate n (value_at kept.now) ++ drop n model.old }
@@ -167,6 +168,7 @@ fn bound_of(table: &[i64], n: usize, i: usize) -> i64
 }
 
 // The bounds of all n variables, read off the table, to the front of a list.
+#[tactic(auto, using(integers::specs::Fill::filled_more))]
 fn give_bounds(table: &[i64], n: usize, bounds: &mut [i64])
     requires { SizedTable n table.now × (2 * n ≤ length bounds.old) }
     ensures { bounds.new ≡ tabulate (2 * n) (bound_at (small_table (2 * n) table.now)) ++ drop (2 * n) bounds.old }
@@ -178,6 +180,7 @@ fn give_bounds(table: &[i64], n: usize, bounds: &mut [i64])
 }
 
 // The kept groups, to the front of a list.
+#[tactic(auto, using(integers::specs::Fill::filled_more))]
 fn give_groups(kept: &[i64], n: usize, groups: &mut [u32])
     requires { (n ≤ max_variables) × (length kept.now ≡ kept_room_lem n) × (groups_room_lem n ≤ length groups.old) }
     ensures { groups.new ≡ tabulate (2 * n) (group_number n kept.now) ++ drop (2 * n) groups.old }

@@ -4,25 +4,22 @@
 -- With one line more the model is the old one where that meets the line, since it is the nearest to zero among more solutions; and the groups are the old
 -- ones where no closed walk through the line's steps is near 0, since only such a walk makes two variables equal that were not (theory_kept).
 use Rattle.steps.specs.declared.Step.{Step}
-use Rattle.std.specs.Prelude.{◌≡◌, refl, Bool, true, not, ◌&&◌, ℕ, ◌+◌, ◌*◌, ◌%◌, ℤ, length, drop, None, Option, Some}
-use Rattle.std.proofs.Common.{sym, subst, ◌∙◌, arith}
+use Rattle.std.specs.Prelude.{◌≡◌, refl, true, not, ◌&&◌, ℕ, ◌+◌, ◌*◌, ◌%◌, ℤ, length, drop, None, Option, Some}
+use Rattle.std.proofs.Common.{sym, subst, ◌∙◌}
 use Rattle.std.proofs.Math.Path.{ap, ap₂}
 use Rattle.std.proofs.Math.Bool.{false}
 use mathlib.Core.List.{List, ◌++◌}
 use Rattle.integers.specs.Laws.{and_true}
 use Rattle.lines.specs.declared.Line.{Line}
 use Rattle.lines.specs.Limits.{line_size}
-use Rattle.lines.specs.Line.{line_count, line_at, lines_of, line_numbers_lem, assignment_of, meets}
+use Rattle.lines.specs.Line.{line_count, line_at, lines_of, line_numbers_lem, assignment_of}
 use Rattle.lines.specs.LineNumbers.{line_last}
 use Rattle.lines.specs.Solutions.{meets_true}
 use Rattle.lines.specs.Valid.{Workable, Modellable}
 use Rattle.steps.specs.Step.{steps_of, step_numbered_lem}
-use Rattle.theory_walks.specs.Distance.{Distance}
 use Rattle.theory_walks.specs.Graph.{ends_points, weights_small}
 use Rattle.theory_walks.specs.Negative.{no_negative, no_negative_yes}
-use Rattle.theory_bounds.specs.Agree.{Agree}
 use Rattle.theory_bounds.specs.Answers.{model_of, bounds_of, groups_of}
-use Rattle.theory_bounds.specs.Tight.{Table}
 use Rattle.theory_bounds.specs.Verdict.{has_false, consistent_halves, distances, verdict_of}
 use Rattle.theory_inserting.specs.Two.{EndsBelow, closing_same}
 use Rattle.theory_answers.specs.Decided.{lines_ok}
@@ -36,10 +33,10 @@ use Rattle.session_step.specs.Read.{small_table, small_agree}
 use Rattle.session_step.specs.Meaning.{TableFor, agree, short_table}
 use Rattle.session_line.specs.Numbered.{ends}
 use Rattle.session_learn.specs.Learnt.{learns, learnt, learn_verdict, learn_table}
-use Rattle.session_table.specs.Anew.{anew_table, anew_yes}
+use Rattle.session_table.specs.Anew.{anew_yes}
 use Rattle.session_kept.specs.Kept.{kept_after, keeps_model_lem, keeps_groups_lem, Given}
 use Rattle.session_kept.specs.Meaning.{kept_anew, kept_more, keeps_model, given_model, given_bounds, given_groups, model_length}
-use Rattle.session_known.specs.Known.{known_with, known_after, known_anew_lem, after_line}
+use Rattle.session_known.specs.Known.{known_after, known_anew_lem, after_line}
 
 -- ---- a list with a solution
 module _ (n : ℕ) (L : List ℤ) (valid : Workable n L) (yes_verdict : verdict_of n (lines_of L) ≡ true) where

@@ -86,14 +86,7 @@ module _ (l : Line) where
       rw (a, b, lt-ltb 0 (line_count (line_numbers_lem l)) c, only)
 
 -- ---- the code's ways
-module _ (T : Table) (x : Option Step) where
-  pub named_nothing : x ≡ None → true ≡ named_implied T x
-  named_nothing e = rw e refl
-
 module _ (T : Table) (l : Line) where
-  pub by_false : is_false_lem l ≡ true → false ≡ line_implied T l
-  by_false e = rw e refl
-
   pub by_first : is_false_lem l ≡ false → named_implied T (step_of l 0) ≡ false → false ≡ line_implied T l
   by_first e f = rw (e, f) refl
 

@@ -69,11 +69,10 @@ fn step_implied(table: &[i64], n: usize, list: &[i32], number: usize) -> bool
     requires { SizedTable n table.now × LinesOk n list.now }
     ensures { result ≡ named_implied (small_table (2 * n) table.now) (step_numbered_lem list.now number) }
 {
-    let named = step_numbered(list, number);
-    if let Some(step) = named {
-        return tight_at(table, n, step.from, step.to) <= step.weight;
+    match step_numbered(list, number) {
+        Some(step) => tight_at(table, n, step.from, step.to) <= step.weight,
+        None => true,
     }
-    true
 }
 
 // Whether the line is implied: it is no false line, and both its steps are implied.

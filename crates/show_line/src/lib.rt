@@ -47,6 +47,7 @@ fn rooms_validity(
 
 // The first refusal that applies: the list's, the line's as if it stood behind the list, then 7 and 8. The buffers are
 // given by their lengths.
+#[tactic(auto, using(lines::specs::Valid::valid_list), unfolding(crate::specs::Answer::show_validity_lem))]
 fn show_validity(
     n: usize,
     list: &[i32],

@@ -40,10 +40,6 @@ module _ (s : Start) where
   q_below : q < 2 * n
   q_below = omega (arith, s.requires.1, s.requires.2)
 
-pub entry_at-requires : goal.entry_at-requires
-entry_at-requires c =
-    (c.requires.0.table, q_below (goal.at.entry_at-requires c).Start, c.requires.1)
-
 -- the halves of both points and of their opposites
 module _ (s : Start) where
   ready : (r : ℕ) → r < 2 * n s → HalfReady (bounds s) r × HalfReady (bounds s) (opposite r)

@@ -5,7 +5,7 @@ use mir.Syntax.{w64}
 use mir.Val.{to_z, of_z}
 use mir.Facts.{to_z-of_z}
 use Rattle.decide_rows.specs.Read.{weight_fits}
-use Rattle.decide_rows.specs.Relax.{across_start, across_length, across_short, across_more, across_end}
+use Rattle.decide_rows.specs.Relax.{across_start, across_length, across_short, across_more}
 use Rattle.decide_rows.proofs.relax_columns.Goals.{Start}
 use Rattle.decide_rows.proofs.relax_columns.Goals as goal
 
@@ -13,23 +13,9 @@ use Rattle.decide_rows.proofs.relax_columns.Goals as goal
 weight_is : (s : Start) → to_z w64 (of_z w64 s.args.step.weight) ≡ s.args.step.weight
 weight_is s = to_z-of_z (weight_fits s.args.step.weight s.requires.small)
 
-pub overflow_mul-from : goal.overflow_mul-from
-overflow_mul-from c = record { fits = omega (arith, c.requires.from_fits, c.ranges.size) }
-
-pub overflow_mul-to : goal.overflow_mul-to
-overflow_mul-to c = record { fits = omega (arith, c.requires.to_fits, c.ranges.size) }
-
 pub loop-j-init : goal.loop-j-init
 loop-j-init c =
     across_start c.args.size c.args.width c.args.step c.args.rows.now c.requires
-
-pub overflow_add-from : goal.overflow_add-from
-overflow_add-from c =
-    record { fits = omega (arith, c.requires.from_fits, c.loop-j-test.true, c.ranges.size) }
-
-pub overflow_add-to : goal.overflow_add-to
-overflow_add-to c =
-    record { fits = omega (arith, c.requires.to_fits, c.loop-j-test.true, c.ranges.size) }
 
 pub relax_at-requires : goal.relax_at-requires
 relax_at-requires c =
@@ -42,7 +28,3 @@ pub loop-j-preserved : goal.loop-j-preserved
 loop-j-preserved c =
     let r = c.relax_at in
     across_more c.args.size c.args.width c.args.step c.args.rows.now c.requires c.loop-j.rows c.loop-j.j c.loop-j.invariant c.loop-j-test.true r.new.rows (rw (weight_is (goal.at.loop-j-preserved c).Start) at r.ensures)
-
-pub returns : goal.returns
-returns c =
-    across_end c.args.size c.args.width c.args.step c.args.rows.now c.requires c.loop-j.rows c.loop-j.j c.loop-j.invariant (omega arith)

@@ -1,15 +1,10 @@
 -- `decide_rows::relax_one` meets its contract: a step's ends are points and its weight is small, so that `relax_columns` may be called.
 use Rattle.std.specs.Prelude.{Some}
 use mathlib.Core.Path.{◌≡◌, sym, ◌∙◌}
-use Rattle.lines.specs.Limits.{max_variables}
-use Rattle.lines.specs.Valid.{lines_more}
 use Rattle.steps.specs.Step.{step_numbered_lem}
 use Rattle.decide_rows.specs.Relax.{found_ready, step_way, nothing_way}
 use Rattle.decide_rows.proofs.relax_one.Goals.{In-Some}
 use Rattle.decide_rows.proofs.relax_one.Goals as goal
-
-pub step_numbered-requires : goal.step_numbered-requires
-step_numbered-requires c = lines_more c.args.n max_variables c.args.list.now c.requires.few c.requires.valid _
 
 -- the step that was found
 module _ (c : In-Some) where

@@ -1,6 +1,5 @@
 -- `decide_rows::relax_row` meets its contract.
 use mathlib.Core.Path.{◌≡◌, ◌∙◌}
-use mathlib.Core.Logic.{inl}
 use mathlib.Core.List.{List}
 use Prim.Native.Nat.{ℕ, ◌*◌}
 use native.Mathlib.Omega.{arith}
@@ -9,9 +8,6 @@ use Rattle.lines.specs.Line.{line_count}
 use Rattle.decide_rows.specs.Relax.{Ready, copy_ready, copy_end, round_start, round_ready, round_more, round_end}
 use Rattle.decide_rows.proofs.relax_row.Goals.{After-copy_row}
 use Rattle.decide_rows.proofs.relax_row.Goals as goal
-
-pub copy_row-requires : goal.copy_row-requires
-copy_row-requires c = record { apart = inl (omega arith); from_room = omega (arith, c.requires.long); to_room = omega (arith, c.requires.long) }
 
 -- after the copy
 module _ (c : After-copy_row) where

@@ -40,16 +40,10 @@ module _ (a : After-start_row) where
   short : (k : ℕ) → k ≤ size → AllShort max_distance (row_at E size u k)
   short k h = rows_short a.args.n a.args.list.now a.requires.few a.requires.valid u k h
 
-pub start_row-requires : goal.start_row-requires
-start_row-requires c = (c.requires.within, omega (arith, c.requires.room))
-
 pub loop-k-init : goal.loop-k-init
 loop-k-init c =
     let s = (goal.at.loop-k-init c).After-start_row in
     turn_start (E s) (size s) (u s) (w₁ s) (w₀ s) c.start_row.ensures
-
-pub overflow_mul-from : goal.overflow_mul-from
-overflow_mul-from c = record { fits = omega (arith, c.requires.room, c.well_formed.1.1.1.0.0, rows_fit c.loop-k.k (2 * c.args.n) c.loop-k-test.true) }
 
 pub next_row-same-requires : goal.next_row-same-requires
 next_row-same-requires c =
@@ -93,10 +87,6 @@ module _ (r : After-next_row-same) where
   negative_stops h =
       let e : k * size s + size s + u s ≡ (k + 1) * size s + u s = omega arith in
       turn_negative (E s) (size s) (u s) (w₁ s) (w₀ s) r.start_row.ensures w (k + 1) more (short s (k + 1) (omega (arith, r.loop-k-test.true))) r.requires.within (rw e at h)
-
-pub overflow_add-own_entry : goal.overflow_add-own_entry
-overflow_add-own_entry c =
-    record { fits = omega (arith, entry_in (goal.at.overflow_add-own_entry c).After-next_row-same, c.next_row-same.auto.work, c.loop-k.auto.work, c.start_row.auto.work, c.well_formed.1.1.1.0.0) }
 
 pub slice_copy_out-own_entry : goal.slice_copy_out-own_entry
 slice_copy_out-own_entry c = entry_in (goal.at.slice_copy_out-own_entry c).After-next_row-same

@@ -9,9 +9,6 @@ use Rattle.lines.specs.Line.{number}
 use Rattle.decide_rows.specs.Read.{stored_sign}
 use Rattle.decide_table_by_rounds.proofs.self_ok.Goals as goal
 
-pub entry_at-requires : goal.entry_at-requires
-entry_at-requires c = (c.requires.0, c.requires.1, c.requires.1)
-
 pub returns : goal.returns
 returns c =
     let a = c.args in

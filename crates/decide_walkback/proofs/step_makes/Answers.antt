@@ -39,9 +39,6 @@ module _ (c : Else-there-eq-NO_WALK) where
   sum_is : to_z w64 (of_z w64 there) +ℤ to_z w64 (of_z w64 weight) ≡ there +ℤ weight
   sum_is = rw (to_z-of_z (read (goal.at.Else-there-eq-NO_WALK c).After-there-1), to_z-of_z (weight_fits weight c.requires.2))
 
-pub overflow_add-result : goal.overflow_add-result
-overflow_add-result c = rw (sum_is (goal.at.overflow_add-result c).Else-there-eq-NO_WALK) (fits (goal.at.overflow_add-result c).Else-there-eq-NO_WALK)
-
 pub returns : goal.returns
 returns c =
     rw (sum_is (goal.at.returns c).Else-there-eq-NO_WALK) (eqb_bits (fits (goal.at.returns c).Else-there-eq-NO_WALK) c.ranges.z ∙ sums c.args.old.now c.args.v c.args.z c.args.t c.if-t-v.false (known (goal.at.returns c).Else-there-eq-NO_WALK))

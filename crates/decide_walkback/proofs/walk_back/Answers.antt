@@ -1,5 +1,7 @@
 -- `decide_walkback::walk_back` meets its contract.
 use native.Mathlib.Omega.{arith}
+use Rattle.lines.specs.Limits.{max_variables}
+use Rattle.lines.specs.Valid.{lines_more}
 use Rattle.decide_walkback.specs.WalkBack.{reading_start, reading_move, reading_stays, reading_goes, reading_end}
 use Rattle.decide_walkback.proofs.walk_back.Goals as goal
 
@@ -20,3 +22,6 @@ loop-k-preserved-in-Some c =
 pub loop-k-preserved : goal.loop-k-preserved
 loop-k-preserved c =
     reading_stays _ _ _ _ _ _ _ c.requires _ _ _ _ c.loop-k.invariant c.loop-k-test.true _ c.in_default.ensures
+
+pub start_of-point-requires : goal.start_of-point-requires
+start_of-point-requires c = lines_more _ max_variables _ c.requires.few c.requires.lines

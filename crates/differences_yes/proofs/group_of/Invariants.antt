@@ -1,5 +1,4 @@
 -- What the loops of `differences_yes::group_of` keep.
-use Prim.Native.Nat.{◌-◌, ◌≤◌}
 use Rattle.integers.specs.Lowest.{Searched}
 use Rattle.theory_differences.specs.Doubled.{plain_same}
 use Rattle.decide_stored_table.specs.Table.{table_of}
@@ -7,4 +6,4 @@ use Rattle.differences_yes.proofs.group_of.Given as goal
 
 -- No variable before r is found.
 abbrev pub invariant-loop-r : goal.invariant-loop-r
-invariant-loop-r l = (l.r ≤ l.x) × Searched (plain_same (table_of l.n l.table) l.x) l.x l.r
+invariant-loop-r l = Searched (plain_same (table_of l.n l.table) l.x) l.x l.r

@@ -1,16 +1,15 @@
 -- `file_list::file_size` meets its contract.
-use mathlib.Core.Path.{◌≡◌, sym, ap, ◌∙◌}
+use mathlib.Core.Path.{◌≡◌, refl, ap, ◌∙◌}
 use native.Mathlib.Omega.{arith}
 use Rattle.lines.specs.Line.{line_at}
 use Rattle.file_records.specs.Table.{record_size_lem}
-use Rattle.file_records.specs.Places.{variables_record, end_record}
 use Rattle.file_list.specs.File.{kind_of, lines_end}
 use Rattle.file_list.specs.Putting.{ends_before, ended_none, ended_more, ended_all, ended_within}
 use Rattle.file_list.proofs.file_size.Goals.{After-loop-k, After-record_size-size}
 use Rattle.file_list.proofs.file_size.Goals as goal
 
 pub loop-k-init : goal.loop-k-init
-loop-k-init c = ended_none c.args.list.now _ (sym variables_record)
+loop-k-init c = ended_none c.args.list.now _ refl
 
 -- one line
 module _ (c : After-record_size-size) where
@@ -34,4 +33,4 @@ pub overflow_add-result : goal.overflow_add-result
 overflow_add-result c = omega (arith, end_is c, ends_before c.args.list.now, c.well_formed)
 
 pub returns : goal.returns
-returns c = omega (arith, end_is c, end_record)
+returns c = omega (arith, end_is c)

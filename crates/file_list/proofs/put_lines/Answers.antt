@@ -1,14 +1,12 @@
 -- `file_list::put_lines` meets its contract.
-use mathlib.Core.Path.{sym}
+use mathlib.Core.Path.{refl}
 use native.Mathlib.Omega.{arith}
-use Rattle.file_records.specs.Places.{variables_record}
 use Rattle.file_list.specs.Putting.{ended_none, ended_more, ended_all, ended_within, lines_none, lines_more, lines_all}
 use Rattle.file_list.proofs.put_lines.Goals as goal
 
 pub loop-k-init : goal.loop-k-init
 loop-k-init c =
-    let e = sym variables_record in
-    (ended_none c.args.list.now _ e, lines_none c.args.list.now c.args.out.now _ e)
+    (ended_none c.args.list.now _ refl, lines_none c.args.list.now c.args.out.now _ refl)
 
 pub put_line-at-requires : goal.put_line-at-requires
 put_line-at-requires c =

@@ -10,13 +10,9 @@ use Rattle.theory_bounds.specs.Tight.{halves}
 use Rattle.decide_rows.specs.Stored.{stored}
 use Rattle.decide_rows.specs.Read.{no_walk_lem}
 use Rattle.session_step.specs.Read.{small_table}
-use Rattle.session_kept.specs.Laws.{bound_greatest_at, bound_none_at, bound_some_at, bound_fits}
+use Rattle.session_kept.specs.Laws.{bound_none_at, bound_some_at, bound_fits}
 use Rattle.session_kept.proofs.bound_of.Goals.{After-half_of-half, Else-half-eq-NO_WALK}
 use Rattle.session_kept.proofs.bound_of.Goals as goal
-
-pub returns-then-i-eq1 : goal.returns-then-i-eq1
-returns-then-i-eq1 c =
-    bound_greatest_at (2 * c.args.n) c.args.table.now c.args.i c.if-i-eq1.true _ (kept w64 c.half_of.result c.half_of.type_inv ∙ c.half_of.ensures)
 
 -- the half of the minus point
 module _ (c : After-half_of-half) where

@@ -10,7 +10,7 @@ use Rattle.theory_bounds.specs.Answers.{group_at_lem}
 use Rattle.decide_stored_table.specs.Table.{by_rows}
 use Rattle.session_state.specs.State.{widened}
 use Rattle.decide_bounds_groups.specs.Grouping.{groups_ready}
-use Rattle.session_kept.specs.Laws.{copied_front, widened_front, kept_groups, groups_anew}
+use Rattle.session_kept.specs.Laws.{copied_front, widened_front, groups_anew}
 use Rattle.session_kept.proofs.renew_groups.Goals.{Start}
 use Rattle.session_kept.proofs.renew_groups.Goals as goal
 
@@ -20,9 +20,6 @@ number s = group_at_lem (by_rows (2 * s.args.n) s.args.table.now)
 
 abbrev found : Start → List ℕ
 found s = tabulate (2 * s.args.n) (number s)
-
-pub returns-then-stays : goal.returns-then-stays
-returns-then-stays c = kept_groups (2 * c.args.n) c.args.stays c.args.kept.now (found (goal.at.returns-then-stays c).Start) c.if-stays.true
 
 pub write_groups-requires : goal.write_groups-requires
 write_groups-requires c =

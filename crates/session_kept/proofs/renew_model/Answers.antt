@@ -9,16 +9,13 @@ use Rattle.integers.specs.Sequence.{tabulate_get_d}
 use Rattle.lines.specs.Line.{number}
 use Rattle.decide_stored_table.specs.Table.{by_rows}
 use Rattle.decide_model.specs.Values.{values_of, values_length}
-use Rattle.session_kept.specs.Laws.{copied_front, kept_model, model_anew}
+use Rattle.session_kept.specs.Laws.{copied_front, model_anew}
 use Rattle.session_kept.proofs.renew_model.Goals.{Start}
 use Rattle.session_kept.proofs.renew_model.Goals as goal
 
 -- the values of the table
 abbrev values : Start → List ℤ
 values s = values_of (by_rows (2 * s.args.n) s.args.table.now) s.args.n
-
-pub returns-then-stays : goal.returns-then-stays
-returns-then-stays c = kept_model c.args.n c.args.stays c.args.kept.now (values (goal.at.returns-then-stays c).Start) c.if-stays.true
 
 pub returns : goal.returns
 returns c =

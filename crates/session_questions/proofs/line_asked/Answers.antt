@@ -11,14 +11,10 @@ use Rattle.lines.specs.Valid.{LinesOk}
 use Rattle.steps.specs.Step.{step_of, step_numbered_lem}
 use Rattle.theory_bounds.specs.Tight.{Table}
 use Rattle.session_step.specs.Read.{small_table}
-use Rattle.session_questions.specs.Asked.{named_implied, line_alone, step_alone, by_false, by_first, by_second}
+use Rattle.session_questions.specs.Asked.{named_implied, line_alone, step_alone, by_first, by_second}
 use mathlib.Core.Bool.{not}
 use Rattle.session_questions.proofs.line_asked.Goals.{After-line_numbers-numbers}
 use Rattle.session_questions.proofs.line_asked.Goals as goal
-
-pub returns-then-is_false : goal.returns-then-is_false
-returns-then-is_false c =
-    by_false (small_table (2 * c.args.n) c.args.table.now) c.args.line (sym c.is_false.ensures ∙ c.if-is_false.true)
 
 -- the line is not false, and its numbers are written
 module _ (c : After-line_numbers-numbers) where

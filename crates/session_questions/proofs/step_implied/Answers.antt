@@ -17,12 +17,12 @@ use Rattle.decide_rows.specs.Read.{weight_fits}
 use Rattle.decide_rows.specs.Numbers.{StepOk, numbered_ok}
 use Rattle.session_step.specs.Read.{small_table}
 use Rattle.session_step.specs.Done.{at_most_stored}
-use Rattle.session_questions.specs.Asked.{named_implied, named_nothing}
+use Rattle.session_questions.specs.Asked.{named_implied}
 use Rattle.session_questions.proofs.step_implied.Goals.{In-Some}
 use Rattle.session_questions.proofs.step_implied.Goals as goal
 
-pub step_numbered-named-requires : goal.step_numbered-named-requires
-step_numbered-named-requires c = lines_more c.args.n max_variables c.args.list.now c.requires.0.variables c.requires.1 _
+pub step_numbered-requires : goal.step_numbered-requires
+step_numbered-requires c = lines_more c.args.n max_variables c.args.list.now c.requires.0.variables c.requires.1 _
 
 -- the step that was found
 module _ (c : In-Some) where
@@ -30,7 +30,7 @@ module _ (c : In-Some) where
   found = c.in-Some.step
 
   is : step_numbered_lem c.args.list.now c.args.number ≡ Some found
-  is = sym c.step_numbered-named.ensures ∙ c.in-Some.is
+  is = sym c.step_numbered.ensures ∙ c.in-Some.is
 
   ok : StepOk c.args.n found
   ok = numbered_ok c.args.n c.args.list.now c.requires.1 c.args.number found is
@@ -43,13 +43,10 @@ tight_at-requires c = (c.requires.0, (ok c).from_lt, (ok c).to_lt)
 
 pub returns-in-Some : goal.returns-in-Some
 returns-in-Some c =
-    let w = (found (goal.at.returns-in-Some c).In-Some).weight in
-    let d = tight (D (goal.at.returns-in-Some c).In-Some) (found (goal.at.returns-in-Some c).In-Some).from (found (goal.at.returns-in-Some c).In-Some).to in
+    let some = (goal.at.returns-in-Some c).In-Some in
+    let w = (found some).weight in
+    let d = tight (D some) (found some).from (found some).to in
     let there : to_z w64 (of_z w64 c.tight_at.result) ≡ stored d = kept w64 c.tight_at.result c.tight_at.type_inv ∙ c.tight_at.ensures in
-    let weight : to_z w64 (of_z w64 w) ≡ w = to_z-of_z (weight_fits w (ok (goal.at.returns-in-Some c).In-Some).small) in
-    let answer : le_z (to_z w64 (of_z w64 c.tight_at.result)) (to_z w64 (of_z w64 w)) ≡ named_implied (D (goal.at.returns-in-Some c).In-Some) (Some (found (goal.at.returns-in-Some c).In-Some)) = ap₂ le_z there weight ∙ at_most_stored d w (ok (goal.at.returns-in-Some c).In-Some).small in
-    answer ∙ ap (named_implied (D (goal.at.returns-in-Some c).In-Some)) (sym (is (goal.at.returns-in-Some c).In-Some))
-
-pub returns : goal.returns
-returns c =
-    named_nothing (small_table (2 * c.args.n) c.args.table.now) (step_numbered_lem c.args.list.now c.args.number) (sym c.step_numbered-named.ensures ∙ c.in_default.is)
+    let weight : to_z w64 (of_z w64 w) ≡ w = to_z-of_z (weight_fits w (ok some).small) in
+    let answer : le_z (to_z w64 (of_z w64 c.tight_at.result)) (to_z w64 (of_z w64 w)) ≡ named_implied (D some) (Some (found some)) = ap₂ le_z there weight ∙ at_most_stored d w (ok some).small in
+    answer ∙ ap (named_implied (D some)) (sym (is some))
