@@ -4,6 +4,7 @@ use Rattle.std.proofs.Math.Path.{refl, ap}
 use Rattle.std.proofs.Common.{sym, subst, ◌∙◌, arith, drop-drop}
 use Rattle.std.proofs.Math.Bool.{true, false, cond}
 use Rattle.lines.specs.declared.Refusal.{Refusal}
+use Rattle.integers.specs.Laws.{never}
 use Rattle.integers.specs.Sequence.{tabulate}
 use Rattle.lines.specs.Line.{lines_of}
 use Rattle.lines.specs.Limits.{max_variables}
@@ -273,11 +274,19 @@ module _ (n : ℕ) (L : List ℤ) (b : Lent) where
         pub valid_after : validity_for n L b₁ ≡ Ok tt
         valid_after = ap (decide_validity_lem n L) same_lengths ∙ e
 
-        pub decided_after : (x : Answer) (a : Lent) → Decided n L (Ok x) b₁ a → Decided n L (Ok x) b a
-        decided_after x a d = record { is = d.is ∙ ap (decide_answer n L) same_lengths; leaves = go x d.leaves }
+        not_refused : (r : Refusal) → Err r ≡ answer_for n L b₁ → ⊥
+        unfolding decide_answer
+        not_refused r q = go (verdict_of n (lines_of L)) (q ∙ ap (λ (v : Result Unit Refusal). judged v n L) valid_after)
           where
-            go : (x : Answer) → Leaves n L (Ok x) b₁ a → Leaves n L (Ok x) b a
-            go Yes y =
+            go : (t : Bool) → Err r ≡ cond t (Ok Yes) (Ok No) → ⊥
+            go true q = never (cc)
+            go false q = never (cc)
+
+        pub decided_after : (x : Result Answer Refusal) (a : Lent) → Decided n L x b₁ a → Decided n L x b a
+        decided_after x a d = record { is = d.is ∙ ap (decide_answer n L) same_lengths; leaves = go x d.is d.leaves }
+          where
+            go : (x : Result Answer Refusal) → x ≡ answer_for n L b₁ → Leaves n L x b₁ a → Leaves n L x b a
+            go (Ok Yes) q y =
                 record {
                   model = y.model ∙ ap (λ (z : List ℤ). model_of n (lines_of L) ++ drop (model_room_lem n) z) (k.on_no f).0;
                   bounds = y.bounds ∙ ap (λ (z : List ℤ). bounds_of n (lines_of L) ++ drop (bounds_room_lem n) z) (k.on_no f).1;
@@ -286,7 +295,7 @@ module _ (n : ℕ) (L : List ℤ) (b : Lent) where
                   identifiers = y.identifiers;
                   work = hub_cleared a.work y.work;
                 }
-            go No y =
+            go (Ok No) q y =
                 record {
                   numbers = y.numbers;
                   due = y.due;
@@ -297,6 +306,7 @@ module _ (n : ℕ) (L : List ℤ) (b : Lent) where
                   groups = y.groups ∙ (k.on_no f).2;
                   work = hub_cleared a.work y.work;
                 }
+            go (Err r) q y = absurd (not_refused r q)
 
     pub hub_asked : HubAsked n L b.model b.bounds b.groups b.work
     hub_asked =

@@ -4,7 +4,6 @@ use Rattle.std.specs.Prelude.{◌≡◌, Bool, true, false, List, ltb, Err, Ok, 
 use Rattle.std.proofs.Math.Path.{refl, ap}
 use Rattle.std.proofs.Common.{sym, subst, ◌∙◌, zero-add, below_more, ltb-false, le-ltb}
 use Rattle.std.proofs.Math.Bool.{cond}
-use borrow.Author.Tests.{not-false}
 use Prim.Native.Nat.{ℕ, zero, suc, ◌+◌, ◌*◌, ◌<◌, ◌≤◌}
 use native.Mathlib.Omega.{arith}
 use Rattle.std.proofs.Math.ListN.{length}
@@ -20,7 +19,7 @@ use Rattle.file_records.specs.declared.Kind.TheVariants as kinds
 use Rattle.file_records.specs.Table.{header_size, record_place}
 use Rattle.file_records.specs.Places.{LineKind, bare, identified, place_first}
 use Rattle.file_records.specs.Scan.{no_identifier_lem, start, behind, line_taken, next_record_lem, onward, scan_from, whole_file_lem, scan}
-use Rattle.file_records.specs.Record.{Whole, LineAt, Outcome, of_taken, refused}
+use Rattle.file_records.specs.Record.{Whole, LineAt, Outcome, of_variables, of_line, of_end, refused}
 use Rattle.file_records.specs.Laid.{Begun, Laid, behind_line, place_least, Reached, Ended, Left, start_reached, Scanned, Found}
 use Rattle.file_records.specs.Laws.{Running}
 use Rattle.file_records.proofs.Outcomes.{outcome, next_taken}
@@ -53,10 +52,9 @@ module _ (b : List ℕ) (room : ℕ) where
       record { within = omega (arith, w.whole); size = omega arith; begun = g; end = subst (λ (i : ℕ). Whole b i kinds.End) z w; fits = fits }
 
   left : (c : Cursor) (m : Result Next FileRefusal) → Outcome b room c m → Reached b room c → Left b room c m
-  left c _ (of_taken kinds.Variables w e i r) h = let p = rw e at h.placed in (after_variables c w p.0 p.1 h.fits, omega arith)
-  left c _ (of_taken kinds.Line w e i r) h = after_line c (record { kind = kinds.Line; is_line_law = bare; whole = w; identified = i }) (not-false _ e) (ltb-false _ _ r) h
-  left c _ (of_taken kinds.Identified w e i r) h = after_line c (record { kind = kinds.Identified; is_line_law = identified; whole = w; identified = i }) (not-false _ e) (ltb-false _ _ r) h
-  left c _ (of_taken kinds.End w e i r) h = let p = rw (not-false _ e) at h.placed in after_end c w p.0 p.1 h.fits
+  left c _ (of_variables w e) h = let p = rw e at h.placed in (after_variables c w p.0 p.1 h.fits, omega arith)
+  left c _ (of_line l e r) h = after_line c l e r h
+  left c _ (of_end w e) h = let p = rw e at h.placed in after_end c w p.0 p.1 h.fits
   left c _ (refused r) h = tt
 
   pub next_left : (c : Cursor) → Reached b room c → Left b room c (next_record_lem b room c)

@@ -48,7 +48,7 @@ module _ (b : List ℕ) where
   place_least (suc k) h =
       let l = h k (omega arith) in
       let next = rw (add-one k) at (behind_line k l) in
-      omega (arith, next, (line_is l.is_line_law).1, place_least k (λ j m. h j (omega arith)))
+      omega (arith, next, (line_is l.is_line_law).2, place_least k (λ j m. h j (omega arith)))
 
 -- ---- read to the end
 -- nothing was read; or n, and the lines one behind the other

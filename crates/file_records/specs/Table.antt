@@ -45,18 +45,29 @@ record_size_lem kind = header_size + body_size_lem kind
 abbrev pub le16 : List ℕ → ℕ → ℕ
 le16 b at = get_or b at 0 + get_or b (at + 1) 0 * 256
 
--- the kind of the record that begins at `at`
-abbrev pub kind_at_lem : List ℕ → ℕ → Option Kind
-kind_at_lem b at = kind_numbered (le16 b (at + 2))
+-- the number of the kind of the record that begins at `at`, and the kind
+abbrev pub kind_number_at_lem : List ℕ → ℕ → ℕ
+kind_number_at_lem b at = le16 b (at + 2)
 
--- the length of its body, by the table: 0 where its number is no kind's
+abbrev pub kind_at_lem : List ℕ → ℕ → Option Kind
+kind_at_lem b at = kind_numbered (kind_number_at_lem b at)
+
+-- the length of its body, by the table, where its number is a kind's
+abbrev pub size_if : Option Kind → Option ℕ
+size_if None = None
+size_if (Some kind) = Some (body_size_lem kind)
+
+-- and 0 where it is no kind's
 abbrev pub size_of : Option Kind → ℕ
 size_of None = 0
 size_of (Some kind) = body_size_lem kind
 
--- the bytes of that record
+-- the bytes of a record whose kind has this number, and of the record at `at`
+abbrev pub numbered_size_lem : ℕ → ℕ
+numbered_size_lem number = header_size + size_of (kind_numbered number)
+
 abbrev pub record_size_at_lem : List ℕ → ℕ → ℕ
-record_size_at_lem b at = header_size + size_of (kind_at_lem b at)
+record_size_at_lem b at = numbered_size_lem (kind_number_at_lem b at)
 
 -- where the record of line k begins: behind that of n and those of the lines before it, each as long as its kind's
 unfoldable pub record_place : List ℕ → ℕ → ℕ

@@ -4,7 +4,7 @@
 
 ghost use Rattle.std.specs.Prelude.{◌≡◌, ◌+◌, ◌*◌, ◌^◌, ◌<◌, ◌≤◌, length, Ok, Some};
 ghost use Rattle.lines.specs.Limits.{line_size};
-ghost use Rattle.file_records.specs.Table.{header_size, number_of_kind, kind_numbered, record_size_lem, le16, kind_at_lem, record_size_at_lem};
+ghost use Rattle.file_records.specs.Table.{header_size, number_of_kind, kind_numbered, size_if, record_size_lem, le16, kind_number_at_lem, kind_at_lem, numbered_size_lem, record_size_at_lem};
 ghost use Rattle.file_records.specs.Refusal.{file_number, file_place};
 ghost use Rattle.file_records.specs.Table as table;
 ghost use Rattle.file_records.specs.declared.FileRefusal.TheVariants.{List};
@@ -45,7 +45,10 @@ impl Kind {
     fn numbered(number: usize) -> Option<Kind>
         ensures { result ≡ kind_numbered number }
     {
-        Kind::ALL.into_iter().find(|kind| kind.number() == number)
+        Kind::ALL
+            .iter()
+            .copied()
+            .find(|kind| kind.number() == number)
     }
 
     // The length of the body, by the table in specs/.
@@ -129,12 +132,27 @@ fn u16_at(bytes: &[u8], at: usize) -> usize
     usize::from(bytes[at]) + usize::from(bytes[at + 1]) * 256
 }
 
+// The number of the kind of the record that begins at `at`, also one that no kind has.
+pub fn kind_number_at(bytes: &[u8], at: usize) -> usize
+    requires { at + header_size ≤ length bytes.now }
+    ensures { result ≡ kind_number_at_lem bytes.now at }
+{
+    u16_at(bytes, at + HEADER_SIZE / 2)
+}
+
 // The kind of the record that begins at `at`.
 pub fn kind_at(bytes: &[u8], at: usize) -> Option<Kind>
     requires { at + header_size ≤ length bytes.now }
     ensures { result ≡ kind_at_lem bytes.now at }
 {
-    Kind::numbered(u16_at(bytes, at + HEADER_SIZE / 2))
+    Kind::numbered(kind_number_at(bytes, at))
+}
+
+// The length of the body of the kind with this number, if a kind has it.
+pub fn body_size(number: usize) -> Option<usize>
+    ensures { result ≡ size_if (kind_numbered number) }
+{
+    Kind::numbered(number).map(Kind::body_size)
 }
 
 // The bytes of a record of this kind.
@@ -144,12 +162,19 @@ pub fn record_size(kind: Kind) -> usize
     HEADER_SIZE + kind.body_size()
 }
 
+// The same by a kind's number: those of a header where no kind has it.
+pub fn numbered_record_size(number: usize) -> usize
+    ensures { result ≡ numbered_size_lem number }
+{
+    Kind::numbered(number).map_or(HEADER_SIZE, record_size)
+}
+
 // The bytes of the record at `at`, by its kind.
 pub fn record_size_at(bytes: &[u8], at: usize) -> usize
     requires { at + header_size ≤ length bytes.now }
     ensures { result ≡ record_size_at_lem bytes.now at }
 {
-    kind_at(bytes, at).map_or(HEADER_SIZE, record_size)
+    numbered_record_size(kind_number_at(bytes, at))
 }
 
 // Whether a record of n comes later than first, or another record comes first.
